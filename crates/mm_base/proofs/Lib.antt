@@ -1,0 +1,4 @@
+mod Places
+pub mod TreeFacts
+pub mod TreeFolds
+pub mod TreeInduction

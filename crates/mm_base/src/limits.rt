@@ -1,0 +1,16 @@
+//! The sizes past which an input or an output is refused.
+
+/// The bytes of a database.
+pub const MOST_DATABASE_BYTES: u64 = 1 << 28;
+
+/// The bytes of a worksheet, as it is read and as it is written.
+pub const MOST_SHEET_BYTES: u64 = 1 << 24;
+
+/// The tokens of a formula, its typecode among them.
+pub const MOST_FORMULA_TOKENS: u64 = 4_096;
+
+/// The work size of a worksheet: the nodes of the trees that unifying it needs.
+pub const MOST_WORK_SIZE: u64 = 1 << 24;
+
+/// The labels of a normal proof.
+pub const MOST_PROOF_LABELS: u64 = 1 << 20;
