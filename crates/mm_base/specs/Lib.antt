@@ -1,5 +1,7 @@
+pub mod Calls
 pub mod Files
 pub mod formers
+pub mod Host
 pub mod MemSink
 pub mod MemStore
 pub mod Outside

@@ -3,6 +3,7 @@
 #![tactic(auto)]
 
 mod buffer;
+mod calls;
 mod errors;
 mod host;
 mod kinds;
