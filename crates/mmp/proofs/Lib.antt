@@ -1,0 +1,3 @@
+mod Outcome
+mod Parts
+mod Texts

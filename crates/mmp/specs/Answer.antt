@@ -1,0 +1,26 @@
+-- The answers that say one line.
+use Rattle.std.specs.Prelude.{ℕ, List, [], ◌∷◌, ◌++◌, codes}
+use Rattle.mm_base.specs.declared.status.Status.{Status}
+use Rattle.mm_base.specs.declared.status.Status.TheVariants.{Words, Read, Database, Sheet}
+use Rattle.mmp.specs.declared.answer.Answer.{Answer}
+
+-- a text, ended by a line feed
+abbrev pub line : List ℕ → List ℕ
+line text = text ++ 10 ∷ []
+
+-- nothing on the output, and one line in the log
+abbrev pub refusal : Status → List ℕ → Answer
+refusal status text = record { status = status; out = []; log = line text }
+
+abbrev pub usage : Answer
+usage = refusal Words (codes "usage: mmp unify [--proof=normal|compressed] DB SHEET")
+
+abbrev pub read_fault : List ℕ → Answer
+read_fault name = refusal Read (codes "read fault " ++ name)
+
+-- a file of too many bytes
+abbrev pub too_long_database : Answer
+too_long_database = refusal Database (codes "database error 30 TooBig at byte 268435456")
+
+abbrev pub too_long_sheet : Answer
+too_long_sheet = refusal Sheet (codes "sheet error 50 TooBig at line 1")

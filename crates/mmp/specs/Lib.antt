@@ -1,0 +1,8 @@
+pub mod Answer
+pub mod Command
+pub mod CommandExamples
+pub mod Due
+pub mod Found
+pub mod Opened
+pub mod Shown
+pub mod Unify

@@ -1,0 +1,130 @@
+ghost use Rattle.std.specs.Prelude.{◌≡◌, ◌⊎◌, map, string_bytes, IfOk, IfSome, IsNone, IsSomeAnd};
+ghost use Rattle.mmp.specs.Answer.{read_fault, usage};
+ghost use Rattle.mmp.specs.Due.{MayAnswer, MayAnswerWords, IsSettled, Gives, IsGiven, NoReadFault, SaysReadFault, IsCutShort};
+ghost use Rattle.mmp.specs.Command.{command_of};
+ghost use Rattle.mm_base.specs.Outside.{Rose};
+ghost use Rattle.std.specs.Io.KnownBytes.{Keeps};
+ghost use Rattle.mmp.specs.Shown.{shown};
+
+use crate::answer::{Answer, refuse};
+use crate::command::{Command, read_words};
+use crate::deliver::deliver;
+use crate::files::{Found, read_file};
+use crate::unify::{Opened, answer_sheet, open, usual_kinds};
+use mm_base::{MOST_DATABASE_BYTES, MOST_SHEET_BYTES, Memory, Sink, Status, Store};
+use sheet_unify::Options;
+use std::alloc::Global;
+
+// The answer that names a file which failed to be read.
+fn refuse_read(alloc: Global, name: &str) -> Result<Answer, Memory>
+    ensures { IfOk result (λ answer. answer ≡ read_fault name.now) }
+{
+    let Ok(text) = format!(in alloc; "read fault {name}") else {
+        return Err(Memory);
+    };
+    refuse(alloc, Status::Read, text.as_str())
+}
+
+/// Reads the files that a command names, and answers it.
+pub fn answer_command<S: Store>(
+    alloc: Global,
+    store: &mut S,
+    command: Command<'_>,
+) -> Result<Answer, Memory>
+    ensures answer { IfOk result (MayAnswer (shown command.entry) (S.told store.old) (S.read_faults store.old) (S.read_faults store.new)) }
+    ensures same_files { S.told store.new ≡ S.told store.old }
+{
+    let database = match read_file(alloc, store, command.database, MOST_DATABASE_BYTES)? {
+        Found::Text(text) => text,
+        Found::TooBig => {
+            return refuse(
+                alloc,
+                Status::Database,
+                "database error 30 TooBig at byte 268435456",
+            );
+        }
+        Found::Fault => return refuse_read(alloc, command.database),
+    };
+    let kinds = usual_kinds(alloc)?;
+    let database = match open(alloc, database.as_slice(), &kinds)? {
+        Opened::Database(database) => database,
+        Opened::Refused(answer) => return Ok(answer),
+    };
+    let sheet = match read_file(alloc, store, command.sheet, MOST_SHEET_BYTES)? {
+        Found::Text(text) => text,
+        Found::TooBig => {
+            return refuse(alloc, Status::Sheet, "sheet error 50 TooBig at line 1");
+        }
+        Found::Fault => return refuse_read(alloc, command.sheet),
+    };
+    let style = command.style;
+    answer_sheet(
+        alloc,
+        &database,
+        sheet.as_slice(),
+        &Options { style, kinds },
+    )
+}
+
+/// The answer to the words. It writes nothing.
+pub fn answer_words<S: Store>(
+    alloc: Global,
+    store: &mut S,
+    words: &[String],
+) -> Result<Answer, Memory>
+    ensures answer { IfOk result (MayAnswerWords (map string_bytes words.now) (S.told store.old) (S.read_faults store.old) (S.read_faults store.new)) }
+    ensures not_called { IsNone (command_of (map string_bytes words.now)) → store.new ≡ store.old }
+    ensures same_files { S.told store.new ≡ S.told store.old }
+{
+    match read_words(words) {
+        Some(command) => answer_command(alloc, store, command),
+        None => refuse(
+            alloc,
+            Status::Words,
+            "usage: mmp unify [--proof=normal|compressed] DB SHEET",
+        ),
+    }
+}
+
+/// All that the program does.
+pub fn run<S: Store, O: Sink, L: Sink>(
+    alloc: Global,
+    words: &[String],
+    store: &mut S,
+    out: &mut O,
+    log: &mut L,
+) -> Status
+    // Over told files each status but Read, Write and Memory is that of the due answer, and the sinks gained its texts.
+    ensures due { IsSettled result → IfSome (S.told store.old) (λ files.
+        IsGiven (map string_bytes words.now) files result (O.told out.old) (O.told out.new) (L.told log.old) (L.told log.new)) }
+
+    // Where no fault rose, an answer that is due is given, or memory is wanting.
+    ensures complete { IfSome (command_of (map string_bytes words.now)) (λ command. IfSome (S.told store.old) (λ files.
+        NoReadFault command (S.read_faults store.old) (S.read_faults store.new)
+        → ¬ Rose (O.faults out.old) (O.faults out.new)
+        → ¬ Rose (L.faults log.old) (L.faults log.new)
+        → (result ≡ Status.Memory)
+        ⊎ IsGiven (map string_bytes words.now) files result (O.told out.old) (O.told out.new) (L.told log.old) (L.told log.new))) }
+
+    // The words, over every store.
+    ensures words_only { result ≡ Status.Words → IsNone (command_of (map string_bytes words.now)) }
+    ensures words_always { IsNone (command_of (map string_bytes words.now)) → (result ≡ Status.Words) ⊎ ((result ≡ Status.Memory)
+        ⊎ (Rose (O.faults out.old) (O.faults out.new) ⊎ Rose (L.faults log.old) (L.faults log.new))) }
+    ensures words_texts { result ≡ Status.Words → Gives usage result (O.told out.old) (O.told out.new) (L.told log.old) (L.told log.new) }
+    ensures not_called { IsNone (command_of (map string_bytes words.now)) → store.new ≡ store.old }
+
+    // The failures, over every store.
+    ensures read { result ≡ Status.Read → IsSomeAnd (command_of (map string_bytes words.now)) (λ command.
+        SaysReadFault command (S.read_faults store.old) (S.read_faults store.new) (O.told out.old) (O.told out.new) (L.told log.old) (L.told log.new)) }
+    ensures write { result ≡ Status.Write → Rose (O.faults out.old) (O.faults out.new) ⊎ Rose (L.faults log.old) (L.faults log.new) }
+    ensures write_part { result ≡ Status.Write → IsCutShort (map string_bytes words.now) (S.told store.old) (S.read_faults store.old)
+        (S.read_faults store.new) (O.told out.old) (O.told out.new) (L.told log.old) (L.told log.new) }
+    ensures memory { result ≡ Status.Memory → Keeps (O.told out.old) (O.told out.new) × Keeps (L.told log.old) (L.told log.new) }
+
+    ensures same_files { S.told store.new ≡ S.told store.old }
+{
+    match answer_words(alloc, store, words) {
+        Ok(answer) => deliver(&answer, out, log),
+        Err(Memory) => Status::Memory,
+    }
+}

@@ -1,0 +1,361 @@
+use crate::run::run;
+use mm_base::{List, MemSink, MemStore, Memory, Status};
+use std::alloc::{AllocError, Global};
+use std::process::Abort;
+use std::test::Fail;
+
+// Modus ponens over implications.
+const P: &str = "\
+$c ( ) -> -. wff |- $.\n\
+$v ph ps ch $.\n\
+wph $f wff ph $.\n\
+wps $f wff ps $.\n\
+wch $f wff ch $.\n\
+wn $a wff -. ph $.\n\
+wi $a wff ( ph -> ps ) $.\n\
+${\n\
+  min $e |- ph $.\n\
+  maj $e |- ( ph -> ps ) $.\n\
+  ax-mp $a |- ps $.\n\
+$}\n\
+ax-1 $a |- ( ph -> ( ps -> ph ) ) $.\n\
+ax-2 $a |- ( ( ph -> ( ps -> ch ) ) -> ( ( ph -> ps ) -> ( ph -> ch ) ) ) $.\n\
+";
+
+// The first example of the Metamath book: it has a `$p`.
+const DEMO0: &str = "\
+$c 0 + = -> ( ) term wff |- $.\n\
+$v t r s P Q $.\n\
+tt $f term t $.\n\
+tr $f term r $.\n\
+ts $f term s $.\n\
+wp $f wff P $.\n\
+wq $f wff Q $.\n\
+tze $a term 0 $.\n\
+tpl $a term ( t + r ) $.\n\
+weq $a wff t = r $.\n\
+wim $a wff ( P -> Q ) $.\n\
+a1 $a |- ( t = r -> ( t = s -> r = s ) ) $.\n\
+a2 $a |- ( t + 0 ) = t $.\n\
+${\n\
+  min $e |- P $.\n\
+  maj $e |- ( P -> Q ) $.\n\
+  mp $a |- Q $.\n\
+$}\n\
+th1 $p |- t = t $=\n\
+  tt tze tpl tt weq tt tt weq tt a2 tt tze tpl\n\
+  tt weq tt tze tpl tt weq tt tt weq wim tt a2\n\
+  tt tze tpl tt tt a1 mp mp $.\n\
+";
+
+// The text of its production has the variables in another order than its frame. One assertion has no tree.
+const TURNED: &str = "$c # wff |- $. $v x y $. wx $f wff x $. wy $f wff y $.
+pair $a wff # y x $. ${ e $e |- # x y $. turn $a |- # y x $. $} odd $a |- x y $.
+";
+
+const HEADER: &str = "$( <MM> <PROOF_ASST> THEOREM=r LOC_AFTER=?\n";
+
+// The steps of a worksheet, and what is wanted of it.
+#[derive(Clone, Copy)]
+struct Row {
+    database: &'static str,
+    steps: &'static str,
+    // the line of the proof, or nothing
+    proof: &'static str,
+    report: &'static str,
+}
+
+const WRITTEN: [Row; 8] = [
+    Row {
+        database: P,
+        steps: "h1::r.1 |- ph\nh2::r.2 |- ( ph -> ps )\nqed:1,2:ax-mp |- ps\n",
+        proof: "$= wph wps r.1 r.2 ax-mp $.\n",
+        report: "1 hyp\n2 hyp\nqed fits ax-mp\nfinished\n",
+    },
+    Row {
+        database: P,
+        steps: "h1::r.1 |- ph\nh2::r.2 |- ( ph -> ps )\nqed:1,2:ax-mp |- ch\n",
+        proof: "",
+        report: "1 hyp\n2 hyp\nqed no fit ax-mp\nnot finished\n",
+    },
+    Row {
+        database: P,
+        steps: "h1::r.1 |- ps\nqed:1,1,1:ax-mp |- ps\n",
+        proof: "",
+        report: "1 hyp\nqed too many hypotheses ax-mp\nnot finished\n",
+    },
+    Row {
+        database: P,
+        steps: "1::min |- ph\nqed::nosuch |- ps\n",
+        proof: "",
+        report: "1 unknown min\nqed unknown nosuch\nnot finished\n",
+    },
+    Row {
+        database: P,
+        steps: "qed::wi |- ps\n",
+        proof: "",
+        report: "qed not usable wi\nnot finished\n",
+    },
+    Row {
+        database: P,
+        steps: "1::ax-1 |- ( ph -> ( ph -> ph ) )
+2::ax-1 |- ( ph -> ( ( ph -> ph ) -> ph ) )
+3::ax-2 |- ( ( ph -> ( ( ph -> ph ) -> ph ) ) -> ( ( ph -> ( ph -> ph ) ) -> ( ph -> ph ) ) )
+4:2,3:ax-mp |- ( ( ph -> ( ph -> ph ) ) -> ( ph -> ph ) )
+qed:1,4:ax-mp |- ( ph -> ph )
+",
+        proof: "$= wph wph wph wi wi wph wph wi wph wph ax-1 wph wph wph wi wph wi wi wph wph wph wi wi wph wph wi \
+wi wph wph wph wi ax-1 wph wph wph wi wph ax-2 ax-mp ax-mp $.\n",
+        report: "1 fits ax-1\n2 fits ax-1\n3 fits ax-2\n4 fits ax-mp\nqed fits ax-mp\nfinished\n",
+    },
+    Row {
+        database: P,
+        steps: "h1::r.1 |- -. ph\n2::ax-1 |- ( ph -> ( ps -> ps ) )\nqed::ax-1 |- ( ch -> ( -. ps -> ch ) )\n",
+        proof: "$= wch wps wn ax-1 $.\n",
+        report: "1 hyp\n2 no fit ax-1\nqed fits ax-1\nfinished\n",
+    },
+    Row {
+        database: TURNED,
+        steps: "h1::r.1 |- # # x y y\n2::odd |- x\nqed:1:turn |- # y # x y\n",
+        proof: "$= wy wx pair wy r.1 turn $.\n",
+        report: "1 hyp\n2 not usable odd\nqed fits turn\nfinished\n",
+    },
+];
+
+// Worksheets over P that have a fault, or something that is not built.
+const REFUSED: [&str; 30] = [
+    "",
+    "$( <MM> <PROOF_ASST> THEOREM=r\nqed::ax-1 |- ( ph -> ( ps -> ph ) )\n",
+    "$( <MM> <PROOF_ASST> THEOREM=ax-1\nqed::nosuch |- ph\n$)\n",
+    "$( <MM> <PROOF_ASST> THEOREM=r/s\nqed::nosuch |- ph\n$)\n",
+    "$( <MM> <PROOF_ASST> THEOREM=\nqed::nosuch |- ph\n$)\n",
+    "$( <MM> <PROOF_ASST> THEOREM=r LOC_AFTER=ax-1\nqed::nosuch |- ph\n$)\n",
+    " $( <MM> <PROOF_ASST> THEOREM=r\nqed::nosuch |- ph\n$)\n",
+    "$( <MM> <PROOF_ASST> THEOREM=r\n* text\nqed::nosuch |- ph\n$)\n",
+    "$( <MM> <PROOF_ASST> THEOREM=r\nqed::nosuch |- ph\n$) $)\n",
+    "$( <MM> <PROOF_ASST> THEOREM=r\nqed::nosuch |- ph\n$)\n$)\n",
+    "$( <MM> <PROOF_ASST> THEOREM=r\nqed::nosuch |- ph\n$= wph\n$)\n",
+    "$( <MM> <PROOF_ASST> THEOREM=r\nqed::nosuch |- ph\n$d ph ps\n$)\n",
+    "$( <MM> <PROOF_ASST> THEOREM=r\nqed::nosuch |-\n  ph\n$)\n",
+    "$( <MM> <PROOF_ASST> THEOREM=r\n1::nosuch |- ph\n$)\n",
+    "$( <MM> <PROOF_ASST> THEOREM=r\nqed::nosuch |- ph\n1::nosuch |- ph\n$)\n",
+    "$( <MM> <PROOF_ASST> THEOREM=r\n1::nosuch |- ph\n1::nosuch |- ph\nqed::nosuch |- ph\n$)\n",
+    "$( <MM> <PROOF_ASST> THEOREM=r\nhqed::r.1 |- ph\n$)\n",
+    "$( <MM> <PROOF_ASST> THEOREM=r\nh1::r |- ph\nqed::nosuch |- ph\n$)\n",
+    "$( <MM> <PROOF_ASST> THEOREM=r\nh1::wph |- ph\nqed::nosuch |- ph\n$)\n",
+    "$( <MM> <PROOF_ASST> THEOREM=r\nh1::r.1 |- ph\nh2::r.1 |- ph\nqed::nosuch |- ph\n$)\n",
+    "$( <MM> <PROOF_ASST> THEOREM=r\n1::nosuch |- ph\nh2:1:r.1 |- ph\nqed::nosuch |- ph\n$)\n",
+    "$( <MM> <PROOF_ASST> THEOREM=r\nqed:1:nosuch |- ph\n$)\n",
+    "$( <MM> <PROOF_ASST> THEOREM=r\nqed:?:nosuch |- ph\n$)\n",
+    "$( <MM> <PROOF_ASST> THEOREM=r\nqed:: |- ph\n$)\n",
+    "$( <MM> <PROOF_ASST> THEOREM=r\nqed::ax-mp |- ph\n$)\n",
+    "$( <MM> <PROOF_ASST> THEOREM=r\nqed::nosuch\n$)\n",
+    "$( <MM> <PROOF_ASST> THEOREM=r\nqed::nosuch wff ph\n$)\n",
+    "$( <MM> <PROOF_ASST> THEOREM=r\nqed::nosuch |- &W1\n$)\n",
+    "$( <MM> <PROOF_ASST> THEOREM=r\nqed::nosuch |- ( ph -> ps\n$)\n",
+    "$( <MM> <PROOF_ASST> THEOREM=r\nqed::nosuch:x |- ph\n$)\n",
+];
+
+// Databases that have a fault, or something that is not built.
+const UNREAD: [&str; 21] = [
+    DEMO0,
+    "$c wff $. $( text $)",
+    "$c wff $. $v x $. ${ $d x x $. $}",
+    "$c |- $. t $p |- $= $.",
+    "$c wff $. $c wff $.",
+    "$c $.",
+    "$c a$b $.",
+    "$c wff",
+    "$c wff $. ${",
+    "$c wff $. $}",
+    "$c wff $. ${ $v x $. $}",
+    "$c wff $. $v x $. wx $f wff x x $.",
+    "$c wff $. $v x $. wx $f wff x $. wy $f wff x $.",
+    "$c wff a $. $v x $. e $a wff a x $.",
+    "$c wff a $. e $a wff b $.",
+    "$c wff a $. e $a wff a $. f $a wff a a $.",
+    "$c wff a b $. e $a wff a $. e $a wff b $.",
+    "$c wff a $. e/f $a wff a $.",
+    "$c wff a $. $a wff a $.",
+    "$c wff a $. $v x $. wx $f wff x $. e $a wff x $.",
+    "$c wff a $. $v x $. wx $f wff x $. e $a wff a x x $.",
+];
+
+const USAGE: &str = "usage: mmp unify [--proof=normal|compressed] DB SHEET\n";
+
+const NORMAL: [&str; 4] = ["unify", "--proof=normal", "P.mm", "r.mmp"];
+
+fn words_of(alloc: Global, words: &[&str]) -> Result<Vec<String>, AllocError> {
+    let mut all = Vec::new(alloc);
+    for word in words {
+        all.push(word.to_string(alloc)?)?;
+    }
+    Ok(all)
+}
+
+fn bytes_of(alloc: Global, text: &[u8]) -> Result<List<u8>, AllocError> {
+    Ok(List::from_vec(Vec::from_slice(alloc, text)?))
+}
+
+fn joined(alloc: Global, parts: &[&str]) -> Result<Vec<u8>, AllocError> {
+    let mut text = Vec::new(alloc);
+    for part in parts {
+        text.extend_from_slice(part.as_bytes())?;
+    }
+    Ok(text)
+}
+
+// The sheet of a row, without its proof and with it.
+fn sheets_of(alloc: Global, row: Row) -> Result<(Vec<u8>, Vec<u8>), AllocError> {
+    Ok((
+        joined(alloc, &[HEADER, row.steps, "$)\n"])?,
+        joined(alloc, &[HEADER, row.steps, row.proof, "$)\n"])?,
+    ))
+}
+
+fn sink(alloc: Global, room: u64, fails: &[u64]) -> Result<MemSink, Memory> {
+    MemSink::new(alloc, room, List::from_vec(Vec::from_slice(alloc, fails)?))
+}
+
+// The texts under the two names, and which calls of the outside fail.
+#[derive(Clone, Copy)]
+struct Outside<'a> {
+    database: &'a str,
+    sheet: &'a [u8],
+    store_fails: &'a [u64],
+    out_room: u64,
+    log_fails: &'a [u64],
+}
+
+fn honest<'a>(database: &'a str, sheet: &'a [u8]) -> Outside<'a> {
+    Outside {
+        database,
+        sheet,
+        store_fails: &[],
+        out_room: 1000,
+        log_fails: &[],
+    }
+}
+
+fn store(alloc: Global, outside: Outside<'_>) -> Result<MemStore, Memory> {
+    let mut files = Vec::new(alloc);
+    files.push((
+        bytes_of(alloc, b"P.mm")?,
+        bytes_of(alloc, outside.database.as_bytes())?,
+    ))?;
+    files.push((bytes_of(alloc, b"r.mmp")?, bytes_of(alloc, outside.sheet)?))?;
+    let fails = List::from_vec(Vec::from_slice(alloc, outside.store_fails)?);
+    MemStore::new(alloc, List::from_vec(files), 0, fails)
+}
+
+fn check(
+    rt: &impl Abort,
+    alloc: Global,
+    words: &[&str],
+    outside: Outside<'_>,
+    want: (Status, &[u8], &str),
+) -> Result<(), Fail> {
+    let words = words_of(alloc, words)?;
+    let mut store = store(alloc, outside)?;
+    let mut out = sink(alloc, outside.out_room, &[])?;
+    let mut log = sink(alloc, 1000, outside.log_fails)?;
+    let status = run(alloc, &words, &mut store, &mut out, &mut log);
+    assert_eq!(rt; log.bytes(), want.2.as_bytes());
+    assert_eq!(rt; out.bytes(), want.1);
+    assert_eq!(rt; status, want.0);
+    Ok(())
+}
+
+// Unifies the sheet of a row, and what was written once more.
+fn check_row(rt: &impl Abort, alloc: Global, row: Row) -> Result<(), Fail> {
+    let (sheet, want) = sheets_of(alloc, row)?;
+    let status = if row.proof.is_empty() {
+        Status::Unfinished
+    } else {
+        Status::Finished
+    };
+    for text in [sheet.as_slice(), want.as_slice()] {
+        let outside = honest(row.database, text);
+        check(rt, alloc, &NORMAL, outside, (status, &want, row.report))?;
+    }
+    Ok(())
+}
+
+#[test]
+fn sheets_are_unified_or_refused(rt: HostRuntime) -> Result<(), Fail> {
+    for row in WRITTEN {
+        check_row(&rt, rt.alloc(), row)?;
+    }
+    let (sheet, _) = sheets_of(rt.alloc(), WRITTEN[0])?;
+    let no_sheet = "sheet error 91 NotBuilt at line 1\n";
+    let want = (Status::Sheet, b"".as_slice(), no_sheet);
+    let compressed = ["unify", "P.mm", "r.mmp"];
+    check(&rt, rt.alloc(), &compressed, honest(P, &sheet), want)?;
+    for refused in REFUSED {
+        check(
+            &rt,
+            rt.alloc(),
+            &NORMAL,
+            honest(P, refused.as_bytes()),
+            want,
+        )?;
+    }
+    let no_database = "database error 90 NotBuilt at byte 0\n";
+    let want = (Status::Database, b"".as_slice(), no_database);
+    for database in UNREAD {
+        check(&rt, rt.alloc(), &NORMAL, honest(database, &sheet), want)?;
+    }
+    Ok(())
+}
+
+#[test]
+fn other_words_are_answered_by_the_usage_line(rt: HostRuntime) -> Result<(), Fail> {
+    let wrong: [&[&str]; 6] = [
+        &["unify", "P.mm"],
+        &["unify", "--proof=normal", "--proof=normal", "P.mm", "r.mmp"],
+        &["unify", "P.mm", "r.mmp", "--proof=normal"],
+        &["unify", "--proof=short", "P.mm", "r.mmp"],
+        &["unify", "--proof=normal", "", "r.mmp"],
+        &[],
+    ];
+    let want = (Status::Words, b"".as_slice(), USAGE);
+    for words in wrong {
+        let outside = Outside {
+            store_fails: &[1],
+            ..honest(P, b"")
+        };
+        check(&rt, rt.alloc(), words, outside, want)?;
+    }
+    Ok(())
+}
+
+#[test]
+fn each_fault_of_the_outside_has_its_status(rt: HostRuntime) -> Result<(), Fail> {
+    let (sheet, finished) = sheets_of(rt.alloc(), WRITTEN[0])?;
+    let honest = honest(P, &sheet);
+    let second_read = Outside {
+        store_fails: &[2],
+        ..honest
+    };
+    let log = Outside {
+        log_fails: &[1],
+        ..honest
+    };
+    let room = Outside {
+        out_room: 10,
+        ..honest
+    };
+    for (outside, want) in [
+        (
+            second_read,
+            (Status::Read, b"".as_slice(), "read fault r.mmp\n"),
+        ),
+        (log, (Status::Write, finished.as_slice(), "")),
+        (room, (Status::Write, b"$( <MM> <P".as_slice(), "")),
+    ] {
+        check(&rt, rt.alloc(), &NORMAL, outside, want)?;
+    }
+    let missing = ["unify", "--proof=normal", "Q.mm", "r.mmp"];
+    let want = (Status::Read, b"".as_slice(), "read fault Q.mm\n");
+    check(&rt, rt.alloc(), &missing, honest, want)
+}

@@ -1,0 +1,17 @@
+$c ( ) -> -. wff |- $.
+$v ph ps ch $.
+wph $f wff ph $.
+wps $f wff ps $.
+wch $f wff ch $.
+wn $a wff -. ph $.
+wi $a wff ( ph -> ps ) $.
+${
+  min $e |- ph $.
+  maj $e |- ( ph -> ps ) $.
+  ax-mp $a |- ps $.
+$}
+ax-1 $a |- ( ph -> ( ps -> ph ) ) $.
+ax-2 $a |- ( ( ph -> ( ps -> ch ) ) -> ( ( ph -> ps ) -> ( ph -> ch ) ) ) $.
+good $p |- ( ph -> ( ps -> ph ) ) $= ( ax-1 ) ABC $.
+bad $p |- ( ph -> ( ps -> ph ) ) $= ( ) ZA $.
+wrong $p |- ( ph -> ( ph -> ph ) ) $= wph wps ax-1 $.
