@@ -1,2 +1,15 @@
+pub mod Chains
 pub mod Faults
+pub mod Frames
+pub mod Names
+pub mod Rows
+pub mod Sizes
+pub mod Statements
+pub mod StatementsExamples
+pub mod Substitution
+pub mod Texts
+pub mod Tokens
+pub mod TokensExamples
+pub mod Typed
+pub mod WholeExamples
 pub mod Words
