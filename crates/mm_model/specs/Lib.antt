@@ -1,7 +1,10 @@
+pub mod Book
 pub mod Chains
 pub mod Faults
 pub mod Frames
+pub mod FramesExamples
 pub mod Names
+pub mod Productions
 pub mod Rows
 pub mod Sizes
 pub mod Statements

@@ -68,3 +68,51 @@ label_byte = refl
 
 pub distinct_repeats : database_fault (codes "$v x $. $d x x $.") ≡ Some (fault 13 25)
 distinct_repeats = refl
+
+pub const_inside_after : database_fault (codes "$c a $. ${ $c b $. $}") ≡ Some (fault 11 11)
+const_inside_after = refl
+
+pub ends_in_statement : database_fault (codes "$c ( ) -> -. wff |-") ≡ Some (fault 19 21)
+ends_in_statement = refl
+
+pub ends_in_statement_and_block : database_fault (codes "${ $v a") ≡ Some (fault 7 21)
+ends_in_statement_and_block = refl
+
+pub equals_alone : database_fault (codes "$c $= $.") ≡ Some (fault 3 26)
+equals_alone = refl
+
+pub keyword_for_symbol : database_fault (codes "l $a $a") ≡ Some (fault 5 18)
+keyword_for_symbol = refl
+
+pub axiom_in_constants : database_fault (codes "$c a $e") ≡ Some (fault 5 18)
+axiom_in_constants = refl
+
+pub axiom_in_proof : database_fault (codes "$c a $. p $p a $= q $a a $.") ≡ Some (fault 20 18)
+axiom_in_proof = refl
+
+pub close_in_statement : database_fault (codes "$c a $}") ≡ Some (fault 5 23)
+close_in_statement = refl
+
+pub taken_at_the_end : database_fault (codes "$c a $. l $a a $. l") ≡ Some (fault 18 17)
+taken_at_the_end = refl
+
+pub taken_before_extra : database_fault (codes "$c a $. l $a a $. l l") ≡ Some (fault 18 17)
+taken_before_extra = refl
+
+pub extra_before_bad : database_fault (codes "x! y") ≡ Some (fault 0 19)
+extra_before_bad = refl
+
+pub bad_at_the_end : database_fault (codes "x!") ≡ Some (fault 0 20)
+bad_at_the_end = refl
+
+pub listed_twice : database_fault (codes "$v x x $.") ≡ Some (fault 5 12)
+listed_twice = refl
+
+pub constant_was_local : database_fault (codes "${ $v x $. $} $c x $.") ≡ Some (fault 17 12)
+constant_was_local = refl
+
+pub variable_again : database_fault (codes "${ $v x $. $} $v x $.") ≡ None
+variable_again = refl
+
+pub empty_proof : database_fault (codes "$c a $. p $p a $= $.") ≡ None
+empty_proof = refl
