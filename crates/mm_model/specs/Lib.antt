@@ -1,10 +1,13 @@
 pub mod Book
+pub mod BookFacts
 pub mod Chains
 pub mod Faults
 pub mod Frames
 pub mod FramesExamples
 pub mod Names
+pub mod Paths
 pub mod Productions
+pub mod ProductionsExamples
 pub mod Rows
 pub mod Sizes
 pub mod Statements
