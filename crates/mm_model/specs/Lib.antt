@@ -5,7 +5,6 @@ pub mod Faults
 pub mod Frames
 pub mod FramesExamples
 pub mod Names
-pub mod Paths
 pub mod Productions
 pub mod ProductionsExamples
 pub mod Rows
