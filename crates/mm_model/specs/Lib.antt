@@ -1,2 +1,4 @@
 pub mod Faults
+pub mod Labels
+pub mod Names
 pub mod Words
