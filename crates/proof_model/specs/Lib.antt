@@ -1,3 +1,4 @@
+pub mod Arities
 pub mod Codes
 pub mod CodesExamples
 pub mod Example

@@ -1,0 +1,5 @@
+mod CodeEndsLaw
+mod CodeLaws
+mod NormalLaws
+mod RunLaws
+mod StepLaws
