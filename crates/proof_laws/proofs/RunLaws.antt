@@ -1,5 +1,5 @@
 -- A proof pushes one formula, whatever lies below on the stack.
-use Rattle.std.specs.Prelude.{◌≡◌, ℕ, zero, suc, ◌+◌, ◌<◌, nat_lt, Bool, true, false, ◌||◌, List, [], ◌∷◌, ◌++◌, length, take, drop, reverse, find, Option, Some, None, option_map, Result, Ok, Err, refl}
+use Rattle.std.specs.Prelude.{◌≡◌, ℕ, suc, ◌+◌, nat_lt, Bool, true, false, ◌||◌, List, [], ◌∷◌, ◌++◌, length, take, drop, reverse, find, Option, Some, None, option_map, Result, Ok, Err, refl}
 use Rattle.std.specs.Str.{bytes_eq}
 use Rattle.std.specs.List.{list_any}
 use Rattle.std.proofs.Common.{sym, ap, subst, ◌∙◌, arith, cond}
@@ -9,8 +9,7 @@ use Rattle.std.proofs.lemmas.Bool.Decides.{nat_tests}
 use Rattle.mm_model.specs.declared.frames.Hyp.{Hyp}
 use Rattle.mm_model.specs.declared.frames.Frame.{Frame}
 use Rattle.proof_model.specs.declared.theorem.Theorem.{Theorem}
-use Rattle.proof_model.specs.Proofs.{Proof, Proofs, by, none, next, listed, postorder, postorders}
-use Rattle.proof_model.specs.Arities.{arity_of, HasArities, HaveArities}
+use Rattle.proof_model.specs.Arities.{arity_of}
 use Rattle.proof_model.specs.Machine.{Formula, Frames, State, MachineFault, underflow, not_earlier, and_then, use_label, use_hyp, use_frame, apply_frame, applied}
 use Rattle.proof_laws.specs.Labels.{run_labels}
 

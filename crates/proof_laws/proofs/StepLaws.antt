@@ -1,16 +1,15 @@
 -- The steps of a proof's code follow the formulas that its subproofs give.
-use Rattle.std.specs.Prelude.{◌≡◌, ℕ, zero, suc, Bool, true, false, ◌&&◌, List, [], ◌∷◌, ◌++◌, slice_get, Option, Some, None, option_map, Result, Ok, Err, refl}
+use Rattle.std.specs.Prelude.{◌≡◌, ℕ, suc, Bool, true, false, ◌&&◌, List, [], ◌∷◌, ◌++◌, slice_get, Option, Some, None, option_map, Result, Ok, Err, refl}
 use Rattle.std.specs.Str.{bytes_eq}
 use Rattle.std.proofs.Common.{sym, ap, subst, ◌∙◌, cond}
 use Rattle.std.proofs.lemmas.Slice.Eq.{bytes_eq-Decides}
 use Rattle.mm_model.specs.Names.{first_number}
-use Rattle.proof_model.specs.declared.code.What.{What}
 use Rattle.proof_model.specs.declared.code.What.TheVariants as what
 use Rattle.proof_model.specs.declared.code.Step.{Step}
 use Rattle.proof_model.specs.declared.theorem.Theorem.{Theorem}
 use Rattle.proof_model.specs.Proofs.{Proof, Proofs, by, none, next, same_proof, same_proofs}
 use Rattle.proof_model.specs.Codes.{Coding, step, coded, coded_all, again_or, with_again, with_label, what_of, is_marked}
-use Rattle.proof_model.specs.Machine.{Formula, Frames, State, MachineFault, and_then, push, start, use_label, use_kept, use_what, use_step, keep_top, numbered, run_steps}
+use Rattle.proof_model.specs.Machine.{Formula, Frames, State, MachineFault, and_then, start, use_label, use_kept, use_what, use_step, keep_top, numbered, run_steps}
 use Rattle.proof_laws.proofs.RunLaws.{Outcome, onto, state, Pushes}
 use Rattle.proof_laws.proofs.CodeLaws.{Gives, GivesAll, gives_pushes}
 
