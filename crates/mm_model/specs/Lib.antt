@@ -4,6 +4,7 @@ pub mod Chains
 pub mod Faults
 pub mod Frames
 pub mod FramesExamples
+pub mod Labels
 pub mod Names
 pub mod Productions
 pub mod ProductionsExamples

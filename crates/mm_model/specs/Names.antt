@@ -1,5 +1,7 @@
 -- Names of symbols and labels, and the numbers that stand for them.
-use Rattle.std.specs.Prelude.{ℕ, Bool, ◌&&◌, ◌||◌, ◌==◌, List, nat_le}
+use Rattle.std.specs.Prelude.{ℕ, suc, Bool, false, ◌||◌, List, [], ◌∷◌, if◌then◌else◌, Option, Some, None, option_map}
+use Rattle.std.specs.Str.{bytes_eq}
+use Rattle.std.specs.List.{list_any}
 use Rattle.mm_base.specs.declared.symbols.Sym.{Sym}
 use Rattle.mm_base.specs.declared.symbols.Label.{Label}
 use Rattle.mm_base.specs.declared.symbols.Typecode.{Typecode}
@@ -17,8 +19,16 @@ label n = record { 0 = n }
 abbrev pub typecode : Sym → Typecode
 typecode s = record { 0 = s }
 
--- a byte of a label: a letter, a digit, `-`, `_` or `.` (Metamath book, section 4.1)
-abbrev pub is_label_byte : ℕ → Bool
-is_label_byte b =
-    (nat_le 97 b && nat_le b 122) || (nat_le 65 b && nat_le b 90) || (nat_le 48 b && nat_le b 57)
-    || b == 45 || b == 95 || b == 46
+-- a name stands in a list
+abbrev pub contains : List Name → Name → Bool
+contains names name = list_any (bytes_eq name) names
+
+-- some name stands twice in the list
+abbrev pub has_twice : List Name → Bool
+has_twice [] = false
+has_twice (n ∷ ns) = contains ns n || has_twice ns
+
+-- the number of the first element that passes, from 0
+abbrev pub first_number : {X : Type 0} → (X → Bool) → List X → Option ℕ
+first_number test [] = None
+first_number test (x ∷ xs) = if test x then Some 0 else option_map suc (first_number test xs)

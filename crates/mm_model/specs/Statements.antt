@@ -5,7 +5,8 @@ use Rattle.std.specs.Str.{bytes_eq}
 use Rattle.mm_model.specs.Faults.{Fault, fault, or_else, first_fault_within}
 use Rattle.mm_model.specs.Words.{Word}
 use Rattle.mm_model.specs.Tokens.{tokens, token_fault}
-use Rattle.mm_model.specs.Names.{is_label_byte}
+use Rattle.mm_model.specs.Labels.{is_label_byte}
+pub use Rattle.mm_model.specs.Names.{contains}
 
 -- a list without items
 abbrev pub is_empty : {X : Type 0} → List X → Bool
@@ -81,9 +82,6 @@ active before = active_on (path before) before
 
 abbrev pub with_keyword : List ℕ → List Statement → List Statement
 with_keyword k ss = filter (has_keyword k) ss
-
-abbrev pub contains : List (List ℕ) → List ℕ → Bool
-contains names n = list_any (bytes_eq n) names
 
 abbrev pub constants : List Statement → List (List ℕ)
 constants before = flat_map symbols_in (with_keyword (codes "$c") before)
