@@ -1,0 +1,118 @@
+-- Small databases, computed.
+use Rattle.std.specs.Prelude.{◌≡◌, Some, None, codes, refl}
+use Rattle.mm_model.specs.Faults.{fault}
+use Rattle.mm_model.specs.Statements.{database_fault}
+
+pub redeclares : database_fault (codes "$c wff $. $v wff $.") ≡ Some (fault 13 12)
+redeclares = refl
+
+pub open_comment : database_fault (codes "$( a") ≡ Some (fault 4 2)
+open_comment = refl
+
+pub includes : database_fault (codes "$[ x $]") ≡ Some (fault 0 10)
+includes = refl
+
+pub const_inside : database_fault (codes "${ $c a $.") ≡ Some (fault 3 11)
+const_inside = refl
+
+pub out_of_scope : database_fault (codes "$c w $. ${ $v x $. $} f $f w x $.") ≡ Some (fault 29 13)
+out_of_scope = refl
+
+pub untyped : database_fault (codes "$c w $. $v x $. a $a w x $.") ≡ Some (fault 23 14)
+untyped = refl
+
+pub typed_twice : database_fault (codes "$c w $. $v x $. f $f w x $. g $f w x $.") ≡ Some (fault 35 15)
+typed_twice = refl
+
+pub variable_first : database_fault (codes "$v x $. f $f x x $.") ≡ Some (fault 13 16)
+variable_first = refl
+
+pub label_twice : database_fault (codes "$c w $. a $a w $. a $a w $.") ≡ Some (fault 18 17)
+label_twice = refl
+
+pub no_label : database_fault (codes "$c w $. $a w $.") ≡ Some (fault 8 18)
+no_label = refl
+
+pub extra : database_fault (codes "$c w $. a b $a w $.") ≡ Some (fault 8 19)
+extra = refl
+
+pub ends_early : database_fault (codes "$c w $. a") ≡ Some (fault 9 21)
+ends_early = refl
+
+pub ends_open : database_fault (codes "$c w $. ${") ≡ Some (fault 10 22)
+ends_open = refl
+
+pub unopened : database_fault (codes "$}") ≡ Some (fault 0 23)
+unopened = refl
+
+pub distinct_one : database_fault (codes "$v x $. $d x $.") ≡ Some (fault 13 24)
+distinct_one = refl
+
+pub nothing_declared : database_fault (codes "$c $.") ≡ Some (fault 3 26)
+nothing_declared = refl
+
+pub third : database_fault (codes "$c w $. $v x $. f $f w x x $.") ≡ Some (fault 25 27)
+third = refl
+
+pub unproved : database_fault (codes "$c w $. p $p w $.") ≡ Some (fault 15 28)
+unproved = refl
+
+pub stray : database_fault (codes "$c w $= $.") ≡ Some (fault 5 29)
+stray = refl
+
+pub retyped : database_fault (codes "$c w s $. $v x $. ${ f $f w x $. $} g $f s x $.") ≡ None
+retyped = refl
+
+pub label_byte : database_fault (codes "$c w $. a/ $a w $.") ≡ Some (fault 8 20)
+label_byte = refl
+
+pub distinct_repeats : database_fault (codes "$v x $. $d x x $.") ≡ Some (fault 13 25)
+distinct_repeats = refl
+
+pub const_inside_after : database_fault (codes "$c a $. ${ $c b $. $}") ≡ Some (fault 11 11)
+const_inside_after = refl
+
+pub ends_in_statement : database_fault (codes "$c ( ) -> -. wff |-") ≡ Some (fault 19 21)
+ends_in_statement = refl
+
+pub ends_in_statement_and_block : database_fault (codes "${ $v a") ≡ Some (fault 7 21)
+ends_in_statement_and_block = refl
+
+pub equals_alone : database_fault (codes "$c $= $.") ≡ Some (fault 3 26)
+equals_alone = refl
+
+pub keyword_for_symbol : database_fault (codes "l $a $a") ≡ Some (fault 5 18)
+keyword_for_symbol = refl
+
+pub axiom_in_constants : database_fault (codes "$c a $e") ≡ Some (fault 5 18)
+axiom_in_constants = refl
+
+pub axiom_in_proof : database_fault (codes "$c a $. p $p a $= q $a a $.") ≡ Some (fault 20 18)
+axiom_in_proof = refl
+
+pub close_in_statement : database_fault (codes "$c a $}") ≡ Some (fault 5 23)
+close_in_statement = refl
+
+pub taken_at_the_end : database_fault (codes "$c a $. l $a a $. l") ≡ Some (fault 18 17)
+taken_at_the_end = refl
+
+pub taken_before_extra : database_fault (codes "$c a $. l $a a $. l l") ≡ Some (fault 18 17)
+taken_before_extra = refl
+
+pub extra_before_bad : database_fault (codes "x! y") ≡ Some (fault 0 19)
+extra_before_bad = refl
+
+pub bad_at_the_end : database_fault (codes "x!") ≡ Some (fault 0 20)
+bad_at_the_end = refl
+
+pub listed_twice : database_fault (codes "$v x x $.") ≡ Some (fault 5 12)
+listed_twice = refl
+
+pub constant_was_local : database_fault (codes "${ $v x $. $} $c x $.") ≡ Some (fault 17 12)
+constant_was_local = refl
+
+pub variable_again : database_fault (codes "${ $v x $. $} $v x $.") ≡ None
+variable_again = refl
+
+pub empty_proof : database_fault (codes "$c a $. p $p a $= $.") ≡ None
+empty_proof = refl

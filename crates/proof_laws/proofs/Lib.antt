@@ -1,0 +1,7 @@
+mod AcceptedLaw
+mod CodeEndsLaw
+mod CodeLaws
+mod NormalLaws
+mod NumberLaws
+mod RunLaws
+mod StepLaws

@@ -1,0 +1,16 @@
+-- A proof and its compressed code.
+use Rattle.std.specs.Prelude.{◌≡◌, List, Ok}
+use Rattle.proof_model.specs.declared.theorem.Theorem.{Theorem}
+use Rattle.proof_model.specs.Arities.{HasArities}
+use Rattle.proof_model.specs.Codes.{normal_code, code_of_proof}
+use Rattle.proof_model.specs.Machine.{Formula, Frames, Accepts, stack_after}
+use Rattle.proof_model.specs.Proofs.{Proof, postorder}
+
+-- the compressed code of a proof ends with the stack that its labels end with
+abbrev pub CodeEndsAlike : Frames → Theorem → Type 0
+CodeEndsAlike frames theorem = (p : Proof) (stack : List Formula) → HasArities frames theorem p
+    → stack_after frames theorem (normal_code (postorder p)) ≡ Ok stack → stack_after frames theorem (code_of_proof theorem.mandatory p) ≡ Ok stack
+
+-- so it is accepted where the labels are
+abbrev pub CodeIsAccepted : Frames → Theorem → Type 0
+CodeIsAccepted frames theorem = (p : Proof) → HasArities frames theorem p → Accepts frames theorem (normal_code (postorder p)) → Accepts frames theorem (code_of_proof theorem.mandatory p)

@@ -1,0 +1,4 @@
+pub mod Accepted
+pub mod CodeEnds
+pub mod Labels
+pub mod Spellings

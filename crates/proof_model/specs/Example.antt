@@ -1,0 +1,102 @@
+-- The frames of two small databases, for examples: the first of the Metamath book, and implication with modus ponens.
+use Rattle.std.specs.Prelude.{ℕ, true, false, List, [], ◌∷◌, map, find, option_map, unwrap_or, codes}
+use Rattle.std.specs.Str.{bytes_eq}
+use Rattle.mm_base.specs.declared.symbols.Sym.{Sym}
+use Rattle.mm_base.specs.declared.symbols.Pair.{Pair}
+use Rattle.mm_model.specs.declared.frames.Hyp.{Hyp}
+use Rattle.mm_model.specs.declared.frames.Frame.{Frame}
+use Rattle.mm_model.specs.Words.{words}
+use Rattle.mm_model.specs.Names.{first_number}
+use Rattle.proof_model.specs.Machine.{Formula, Frames}
+
+-- the words of a text
+abbrev pub split : List ℕ → List (List ℕ)
+split text = map (λ w. w.bytes) (words text)
+
+-- the symbols of all examples, by number
+abbrev symbols : List (List ℕ)
+symbols = split (codes "0 + = -> ( ) term wff |- -. setvar class { | } A. t r s P Q ph ps ch x A")
+
+abbrev pub sym : List ℕ → Sym
+sym name = record { 0 = unwrap_or (first_number (bytes_eq name) symbols) 99 }
+
+-- the formula that a text writes
+abbrev pub formula : List ℕ → Formula
+formula text = map sym (split text)
+
+abbrev pub float : List ℕ → List ℕ → Hyp
+float name text = record { name = name; floating = true; formula = formula text }
+
+abbrev pub essential : List ℕ → List ℕ → Hyp
+essential name text = record { name = name; floating = false; formula = formula text }
+
+abbrev pub pair : List ℕ → List ℕ → Pair
+pair a b = record { a = sym a; b = sym b }
+
+-- an assertion by its label, its statement's number, its formula, hypotheses and pairs
+abbrev pub Named : Type 0
+Named = List ℕ × Frame
+
+abbrev pub assertion : List ℕ → ℕ → List ℕ → List Hyp → List Pair → Named
+assertion name at text hyps pairs = (name, record { label = record { 0 = at }; is_axiom = true; at = at; formula = formula text; hyps = hyps; pairs = pairs })
+
+abbrev pub frames_of : List Named → Frames
+frames_of named label = option_map (λ (n : Named). n.1) (find (λ (n : Named). bytes_eq n.0 label) named)
+
+-- ---- terms with zero and addition
+
+abbrev pub tt' : Hyp
+tt' = float (codes "tt") (codes "term t")
+
+abbrev pub tr : Hyp
+tr = float (codes "tr") (codes "term r")
+
+abbrev pub ts : Hyp
+ts = float (codes "ts") (codes "term s")
+
+abbrev pub wp : Hyp
+wp = float (codes "wp") (codes "wff P")
+
+abbrev pub wq : Hyp
+wq = float (codes "wq") (codes "wff Q")
+
+abbrev pub demo : Frames
+demo = frames_of (assertion (codes "tze") 7 (codes "term 0") [] [] ∷ assertion (codes "tpl") 8 (codes "term ( t + r )") (tt' ∷ tr ∷ []) []
+    ∷ assertion (codes "weq") 9 (codes "wff t = r") (tt' ∷ tr ∷ []) [] ∷ assertion (codes "wim") 10 (codes "wff ( P -> Q )") (wp ∷ wq ∷ []) []
+    ∷ assertion (codes "a1") 11 (codes "|- ( t = r -> ( t = s -> r = s ) )") (tt' ∷ tr ∷ ts ∷ []) [] ∷ assertion (codes "a2") 12 (codes "|- ( t + 0 ) = t") (tt' ∷ []) []
+    ∷ assertion (codes "mp") 16 (codes "|- Q") (wp ∷ wq ∷ essential (codes "min") (codes "|- P") ∷ essential (codes "maj") (codes "|- ( P -> Q )") ∷ []) [] ∷ [])
+
+-- ---- implication
+
+abbrev pub wph : Hyp
+wph = float (codes "wph") (codes "wff ph")
+
+abbrev pub wps : Hyp
+wps = float (codes "wps") (codes "wff ps")
+
+abbrev pub wch : Hyp
+wch = float (codes "wch") (codes "wff ch")
+
+abbrev pub vx : Hyp
+vx = float (codes "vx") (codes "setvar x")
+
+abbrev pub cA : Hyp
+cA = float (codes "cA") (codes "class A")
+
+-- modus ponens, its axioms, two inferences, a quantifier with a pair, and abstractions
+abbrev pub logic : Frames
+logic = frames_of (assertion (codes "wi") 6 (codes "wff ( ph -> ps )") (wph ∷ wps ∷ []) []
+    ∷ assertion (codes "ax-mp") 10 (codes "|- ps") (wph ∷ wps ∷ essential (codes "min") (codes "|- ph") ∷ essential (codes "maj") (codes "|- ( ph -> ps )") ∷ []) []
+    ∷ assertion (codes "ax-1") 12 (codes "|- ( ph -> ( ps -> ph ) )") (wph ∷ wps ∷ []) []
+    ∷ assertion (codes "ax-2") 13 (codes "|- ( ( ph -> ( ps -> ch ) ) -> ( ( ph -> ps ) -> ( ph -> ch ) ) )") (wph ∷ wps ∷ wch ∷ []) []
+    ∷ assertion (codes "cab") 21 (codes "class { x | ph }") (wph ∷ vx ∷ []) []
+    ∷ assertion (codes "wal") 23 (codes "wff A. x ph") (wph ∷ vx ∷ []) []
+    ∷ assertion (codes "a1i") 26 (codes "|- ( ps -> ph )") (wph ∷ wps ∷ essential (codes "a1i.1") (codes "|- ph") ∷ []) []
+    ∷ assertion (codes "a2i") 30 (codes "|- ( ( ph -> ps ) -> ( ph -> ch ) )") (wph ∷ wps ∷ wch ∷ essential (codes "a2i.1") (codes "|- ( ph -> ( ps -> ch ) )") ∷ []) []
+    ∷ assertion (codes "ax-5") 34 (codes "|- ( ph -> A. x ph )") (wph ∷ vx ∷ []) (pair (codes "ph") (codes "x") ∷ [])
+    ∷ assertion (codes "eqid") 36 (codes "|- A = A") (cA ∷ []) []
+    ∷ assertion (codes "drop") 39 (codes "|- ( ph -> ph )") (wph ∷ vx ∷ essential (codes "drop.1") (codes "|- ( ph -> A. x ph )") ∷ []) [] ∷ [])
+
+-- the variables of the second, as a theorem has them
+abbrev pub floats : List Hyp
+floats = wph ∷ wps ∷ wch ∷ vx ∷ cA ∷ []

@@ -1,0 +1,9 @@
+pub mod Arities
+pub mod Codes
+pub mod CodesExamples
+pub mod Example
+pub mod Machine
+pub mod MachineExamples
+pub mod ProofCode
+pub mod ProofCodeExamples
+pub mod Proofs

@@ -1,0 +1,14 @@
+pub mod FaultExamples
+pub mod Forms
+pub mod FormsExamples
+pub mod Layout
+pub mod LayoutExamples
+pub mod Lines
+pub mod LinesExamples
+pub mod Reads
+pub mod ReadsExamples
+pub mod SheetStatements
+pub mod SheetStatementsExamples
+pub mod Spellable
+pub mod SpellableExamples
+pub mod TextFaults
