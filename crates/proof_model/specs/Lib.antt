@@ -1,4 +1,5 @@
 pub mod Arities
+pub mod AritiesExamples
 pub mod Codes
 pub mod CodesExamples
 pub mod ExampleFrames
