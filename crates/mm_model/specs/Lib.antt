@@ -5,7 +5,9 @@ pub mod Faults
 pub mod Frames
 pub mod FramesExamples
 pub mod Labels
+pub mod LabelsExamples
 pub mod Names
+pub mod NamesExamples
 pub mod Productions
 pub mod ProductionsExamples
 pub mod Rows

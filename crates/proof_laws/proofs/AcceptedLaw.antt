@@ -33,25 +33,26 @@ formula_self [] = refl
 formula_self (a ∷ more) = and_from (a.0 == a.0) (same_formula more more) (sym_self a) (formula_self more)
 
 module _ (frames : Frames) (thm : Theorem) where
-  equal_end : (f : Formula) (b : Bool) (n : ℕ) → same_formula f thm.formula ≡ b → option_map {U = ℕ × MachineFault} (λ x. (n, x)) (cond b None (Some result_differs)) ≡ None → f ≡ thm.formula
+  equal_end : (f : Formula) (b : Bool) (n : ℕ) → same_formula f thm.formula ≡ b → option_map {U = ℕ × MachineFault} (λ x. (n, x)) (cond b None (Some result_differs))
+      ≡ None → f ≡ thm.formula
   equal_end f true n is e = formulas_are f thm.formula is
   equal_end f false n is e = absurd (cc)
 
-  the_end : (stack : List Formula) (n : ℕ) → option_map {U = ℕ × MachineFault} (λ x. (n, x)) (end_fault frames thm stack) ≡ None → stack ≡ thm.formula ∷ []
+  the_end : (stack : List Formula) (n : ℕ) → option_map {U = ℕ × MachineFault} (λ x. (n, x)) (end_fault thm stack) ≡ None → stack ≡ thm.formula ∷ []
   the_end [] n e = absurd (cc)
   the_end (f ∷ []) n e = ap (λ (g : Formula). g ∷ []) (equal_end f (same_formula f thm.formula) n refl e)
   the_end (f ∷ g ∷ fs) n e = absurd (cc)
 
-  accepted_ends : (o : Ended) (n : ℕ) → ended_fault frames thm n o ≡ None → and_then (λ (st : State). Ok st.stack) o ≡ Ok (thm.formula ∷ [])
+  accepted_ends : (o : Ended) (n : ℕ) → ended_fault thm n o ≡ None → and_then (λ (st : State). Ok st.stack) o ≡ Ok (thm.formula ∷ [])
   accepted_ends (Err x) n e = absurd (cc)
   accepted_ends (Ok st) n e = ap (λ (s : List Formula). Ok s) (the_end st.stack n e)
 
-  ends_accepted : (o : Ended) (n : ℕ) → and_then (λ (st : State). Ok st.stack) o ≡ Ok (thm.formula ∷ []) → ended_fault frames thm n o ≡ None
+  ends_accepted : (o : Ended) (n : ℕ) → and_then (λ (st : State). Ok st.stack) o ≡ Ok (thm.formula ∷ []) → ended_fault thm n o ≡ None
   ends_accepted (Err x) n e = absurd (cc)
   ends_accepted (Ok st) n e =
       let stack : st.stack ≡ thm.formula ∷ [] = cc in
-      ap (λ (s : List Formula). option_map {U = ℕ × MachineFault} (λ x. (n, x)) (end_fault frames thm s)) stack
-        ∙ ap (λ b. option_map {U = ℕ × MachineFault} (λ x. (n, x)) (cond b None (Some result_differs))) (formula_self thm.formula)
+      ap (λ (s : List Formula). option_map {U = ℕ × MachineFault} (λ x. (n, x)) (end_fault thm s)) stack
+      ∙ ap (λ b. option_map {U = ℕ × MachineFault} (λ x. (n, x)) (cond b None (Some result_differs))) (formula_self thm.formula)
 
   pub ends_with_theorem : EndsWithTheorem frames thm
   ends_with_theorem code = (accepted_ends (run_steps frames thm code.labels 0 code.steps start) (length code.steps), ends_accepted (run_steps frames thm code.labels 0 code.steps start) (length code.steps))

@@ -14,7 +14,7 @@ use Rattle.proof_model.specs.Machine.{Formula, Frames, State, MachineFault, star
 use Rattle.proof_laws.specs.CodeEnds.{CodeEndsAlike, CodeIsAccepted}
 use Rattle.proof_laws.proofs.RunLaws.{state}
 use Rattle.proof_laws.proofs.CodeLaws.{gives_pushes, gives_from}
-use Rattle.proof_laws.proofs.NormalLaws.{normal_labels}
+use Rattle.proof_laws.proofs.NormalLaws.{normal_labels, stack_of}
 use Rattle.proof_laws.proofs.StepLaws.{Ended, Spelled, IsSpelled, AreSpelled, code_tracks}
 
 all_left : (P : List ℕ → Type 0) (xs ys : List (List ℕ)) → AllByRecursion P (xs ++ ys) → AllByRecursion P xs
@@ -29,7 +29,8 @@ all_right P (x ∷ xs) ys h = all_right P xs ys h.1
 abbrev Stands : List (List ℕ) → List ℕ → Type 0
 Stands names name = (j : ℕ) × (first_number (bytes_eq name) names ≡ Some j) × (slice_index_or names j [] ≡ name)
 
-stands_by : (n : List ℕ) (ns : List (List ℕ)) (name : List ℕ) (b : Bool) → bytes_eq name n ≡ b → (list_any (bytes_eq name) ns ≡ true → Stands ns name) → (b || list_any (bytes_eq name) ns) ≡ true
+stands_by : (n : List ℕ) (ns : List (List ℕ)) (name : List ℕ) (b : Bool) → bytes_eq name n ≡ b → (list_any (bytes_eq name) ns ≡ true → Stands ns name)
+    → (b || list_any (bytes_eq name) ns) ≡ true
     → (j : ℕ) × (cond b (Some 0) (option_map suc (first_number (bytes_eq name) ns)) ≡ Some j) × (slice_index_or (n ∷ ns) j [] ≡ name)
 stands_by n ns name true is h e = (0, refl, sym ((bytes_eq-Decides name n).0 is))
 stands_by n ns name false is h e = let s = h e in (suc s.0, ap (option_map suc) s.1, s.2)
@@ -70,9 +71,11 @@ distinct_by : (seen : List (List ℕ)) (n : List ℕ) (ns : List (List ℕ)) (b 
     → AllByRecursion (Covers (n ∷ seen) (distinct_names (n ∷ seen) ns)) ns → AllByRecursion (Covers seen (cond b (distinct_names seen ns) (n ∷ distinct_names (n ∷ seen) ns))) (n ∷ ns)
 distinct_by seen n ns true is h k = (or_true (contains seen n) (contains (distinct_names seen ns) n) is, h)
 distinct_by seen n ns false is h k =
-    let here : Covers seen (n ∷ distinct_names (n ∷ seen) ns) n = later_true (contains seen n) (bytes_eq n n) (contains (distinct_names (n ∷ seen) ns) n) (name_self n) in
-    (here, map_all (Covers (n ∷ seen) (distinct_names (n ∷ seen) ns)) (Covers seen (n ∷ distinct_names (n ∷ seen) ns)) ns
-        (λ m e. shuffle (bytes_eq m n) (contains seen m) (contains (distinct_names (n ∷ seen) ns) m) e) k)
+    let here : Covers seen (n ∷ distinct_names (n ∷ seen) ns) n = later_true (contains seen n) (bytes_eq n n) (contains (distinct_names (n ∷ seen) ns) n) (name_self n) in (
+      here,
+      map_all (Covers (n ∷ seen) (distinct_names (n ∷ seen) ns)) (Covers seen (n ∷ distinct_names (n ∷ seen) ns)) ns
+          (λ m e. shuffle (bytes_eq m n) (contains seen m) (contains (distinct_names (n ∷ seen) ns) m) e) k,
+    )
 
 -- each name is among those seen or those listed
 covered : (ns seen : List (List ℕ)) → AllByRecursion (Covers seen (distinct_names seen ns)) ns
@@ -98,11 +101,6 @@ module _ (frames : Frames) (thm : Theorem) where
     spelleds_from labels (next p ps) h =
         (spelled_from labels p (all_left (Spelled frames thm labels) (postorder p) (postorders ps) h), spelleds_from labels ps (all_right (Spelled frames thm labels) (postorder p) (postorders ps) h))
 
-  -- the state behind a run whose stack is known
-  stack_of : (o : Ended) (stack : List Formula) → and_then (λ (st : State). Ok st.stack) o ≡ Ok stack → (st : State) × (o ≡ Ok st) × (st.stack ≡ stack)
-  stack_of (Err e) stack h = absurd (cc)
-  stack_of (Ok st) stack h = (st, refl, let same : st.stack ≡ stack = cc in same)
-
   pub code_ends_alike : CodeEndsAlike frames thm
   code_ends_alike p stack a e =
       let labels = listed_labels thm.mandatory p in
@@ -120,7 +118,8 @@ module _ (frames : Frames) (thm : Theorem) where
   numbered_end n o = option_map (λ f. (n, f)) o
 
   -- a proof without a fault ends with a stack without a fault at its end
-  ends_sound : (o : Ended) (n : ℕ) → ended_fault frames thm n o ≡ None → (stack : List Formula) × (and_then (λ (st : State). Ok st.stack) o ≡ Ok stack) × (numbered_end n (end_fault frames thm stack) ≡ None)
+  ends_sound : (o : Ended) (n : ℕ) → ended_fault thm n o ≡ None
+      → (stack : List Formula) × (and_then (λ (st : State). Ok st.stack) o ≡ Ok stack) × (numbered_end n (end_fault thm stack) ≡ None)
   ends_sound (Err e) n h = absurd (cc)
   ends_sound (Ok st) n h = (st.stack, refl, h)
 
@@ -128,15 +127,15 @@ module _ (frames : Frames) (thm : Theorem) where
   no_fault None n m h = refl
   no_fault (Some f) n m h = absurd (cc)
 
-  ends_so : (o : Ended) (n : ℕ) (stack : List Formula) → and_then (λ (st : State). Ok st.stack) o ≡ Ok stack → numbered_end n (end_fault frames thm stack) ≡ None → ended_fault frames thm n o ≡ None
+  ends_so : (o : Ended) (n : ℕ) (stack : List Formula) → and_then (λ (st : State). Ok st.stack) o ≡ Ok stack → numbered_end n (end_fault thm stack) ≡ None → ended_fault thm n o ≡ None
   ends_so (Err e) n stack is h = absurd (cc)
-  ends_so (Ok st) n stack is h = let same : st.stack ≡ stack = cc in ap (λ (s : List Formula). numbered_end n (end_fault frames thm s)) same ∙ h
+  ends_so (Ok st) n stack is h = let same : st.stack ≡ stack = cc in ap (λ (s : List Formula). numbered_end n (end_fault thm s)) same ∙ h
 
   -- two codes that end with the same stack are accepted alike
   accepted_alike : (c d : Code) → ((stack : List Formula) → stack_after frames thm c ≡ Ok stack → stack_after frames thm d ≡ Ok stack) → Accepts frames thm c → Accepts frames thm d
   accepted_alike c d h e =
       let ended = ends_sound (run_steps frames thm c.labels 0 c.steps start) (length c.steps) e in
-      ends_so (run_steps frames thm d.labels 0 d.steps start) (length d.steps) ended.0 (h ended.0 ended.1) (no_fault (end_fault frames thm ended.0) (length c.steps) (length d.steps) ended.2)
+      ends_so (run_steps frames thm d.labels 0 d.steps start) (length d.steps) ended.0 (h ended.0 ended.1) (no_fault (end_fault thm ended.0) (length c.steps) (length d.steps) ended.2)
 
   pub code_is_accepted : CodeIsAccepted frames thm
   code_is_accepted p a e = accepted_alike (normal_code (postorder p)) (code_of_proof thm.mandatory p) (λ stack r. code_ends_alike p stack a r) e

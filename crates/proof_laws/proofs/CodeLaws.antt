@@ -22,13 +22,13 @@ module _ (frames : Frames) (thm : Theorem) where
     pub gives_pushes : (p : Proof) (f : Formula) → Gives p f → (t j : List Formula) → run_labels frames thm (postorder p) (state t j) ≡ Ok (state (f ∷ t) j)
     gives_pushes (by name below) f g t j =
         run_labels-append frames thm (postorders below) (name ∷ []) (state t j) ∙ ap (and_then (run_labels frames thm (name ∷ []))) (gives_all_push below g.0 g.1 t j)
-            ∙ one_label frames thm name (state (onto g.0 t) j) ∙ g.2.on t j
+        ∙ one_label frames thm name (state (onto g.0 t) j) ∙ g.2.on t j
 
     pub gives_all_push : (ps : Proofs) (fs : List Formula) → GivesAll ps fs → (t j : List Formula) → run_labels frames thm (postorders ps) (state t j) ≡ Ok (state (onto fs t) j)
     gives_all_push none fs g t j = ap (λ (gs : List Formula). Ok (state (onto gs t) j)) (sym g)
     gives_all_push (next p ps) fs g t j =
         run_labels-append frames thm (postorder p) (postorders ps) (state t j) ∙ ap (and_then (run_labels frames thm (postorders ps))) (gives_pushes p g.0 g.3 t j)
-            ∙ gives_all_push ps g.1 g.4 (g.0 ∷ t) j ∙ ap (λ (gs : List Formula). Ok (state (onto gs t) j)) (sym g.2)
+        ∙ gives_all_push ps g.1 g.4 (g.0 ∷ t) j ∙ ap (λ (gs : List Formula). Ok (state (onto gs t) j)) (sym g.2)
 
   -- two ends of one run are one
   one_end : (a b : State) (o : Outcome) → o ≡ Ok a → o ≡ Ok b → a ≡ b
@@ -62,11 +62,11 @@ module _ (frames : Frames) (thm : Theorem) where
     pub gives_from : (p : Proof) → HasArities frames thm p → (s k : List Formula) (st : State) → run_labels frames thm (postorder p) (state s k) ≡ Ok st → (f : Formula) × Gives p f
     gives_from (by name below) a s k st e =
         by_end name below s k st (run_labels frames thm (postorders below) (state s k)) refl a.0 (λ mid m. gives_all_from below a.1 s k mid m)
-            (sym (run_labels-append frames thm (postorders below) (name ∷ []) (state s k)) ∙ e)
+        (sym (run_labels-append frames thm (postorders below) (name ∷ []) (state s k)) ∙ e)
 
     pub gives_all_from : (ps : Proofs) → HaveArities frames thm ps → (s k : List Formula) (st : State) → run_labels frames thm (postorders ps) (state s k) ≡ Ok st
         → (fs : List Formula) × GivesAll ps fs × (length fs ≡ length (listed ps))
     gives_all_from none a s k st e = ([], refl, refl)
     gives_all_from (next p ps) a s k st e =
         next_end p ps s k st (run_labels frames thm (postorder p) (state s k)) refl (λ mid m. gives_from p a.0 s k mid m) (λ f last l. gives_all_from ps a.1 (f ∷ s) k last l)
-            (sym (run_labels-append frames thm (postorder p) (postorders ps) (state s k)) ∙ e)
+        (sym (run_labels-append frames thm (postorder p) (postorders ps) (state s k)) ∙ e)

@@ -1,7 +1,11 @@
 mod AcceptedLaw
-mod CodeEndsLaw
+pub mod CodeEndsLaw
 mod CodeLaws
-mod NormalLaws
-mod NumberLaws
-mod RunLaws
+mod LetterLaws
+pub mod NormalLaws
+pub mod NumberLaws
+pub mod RunLaws
 mod StepLaws
+mod TextLaws
+mod UniqueLaws
+mod WrittenLaw

@@ -63,7 +63,7 @@ pub steps_are : StepsAreSpelledOnce
 steps_are m n letters [] h = h
 steps_are m n letters (s ∷ ss) (front, rest, whole, one, others) =
     whole ∙ ap (λ (t : List ℕ). front ++ t) (steps_are m n rest ss others)
-      ∙ ap (λ (t : List ℕ). t ++ steps_letters m n ss) (one.whole ∙ ap (λ (t : List ℕ). t ++ mark s.marked) (what_is m n one.front s.what one.what))
+    ∙ ap (λ (t : List ℕ). t ++ steps_letters m n ss) (one.whole ∙ ap (λ (t : List ℕ). t ++ mark s.marked) (what_is m n one.front s.what one.what))
 
 -- ---- what is written is a spelling
 

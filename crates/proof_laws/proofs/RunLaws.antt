@@ -37,7 +37,7 @@ module _ (frames : Frames) (thm : Theorem) where
   run_labels-append [] ys st = refl
   run_labels-append (x ∷ xs) ys st =
       same_run (run_labels frames thm (xs ++ ys)) (λ s. and_then (run_labels frames thm ys) (run_labels frames thm xs s)) (use_label frames thm x st) (run_labels-append xs ys)
-        ∙ sym (then_run (run_labels frames thm xs) (run_labels frames thm ys) (use_label frames thm x st))
+      ∙ sym (then_run (run_labels frames thm xs) (run_labels frames thm ys) (use_label frames thm x st))
 
 length-onto : (fs s : List Formula) → length (onto fs s) ≡ length fs + length s
 length-onto [] s = omega arith
@@ -58,7 +58,8 @@ taken-onto fs s =
     let whole : take (length fs) (reverse fs ++ s) ≡ reverse fs = subst (λ (n : ℕ). take n (reverse fs ++ s) ≡ reverse fs) (length-reverse fs) (take-append_seam (reverse fs) s) in
     rw onto-reverse (ap reverse whole ∙ reverse-reverse fs)
 
-any_by : {X : Type 0} (p : X → Bool) (x y : X) (xs : List X) (b : Bool) → (find p xs ≡ Some y → list_any p xs ≡ true) → cond b (Some x) (find p xs) ≡ Some y → (b || list_any p xs) ≡ true
+any_by : {X : Type 0} (p : X → Bool) (x y : X) (xs : List X) (b : Bool) → (find p xs ≡ Some y → list_any p xs ≡ true) → cond b (Some x) (find p xs) ≡ Some y
+    → (b || list_any p xs) ≡ true
 any_by p x y xs true h e = refl
 any_by p x y xs false h e = h e
 
@@ -104,9 +105,14 @@ module _ (frames : Frames) (thm : Theorem) where
   frame_step f false fs s k st is n e = absurd (cc)
   frame_step f true fs s k st is n e =
       let applied_as = apply_onto (applied thm f) (length f.hyps) fs s k n in
-      let shown = frame_shown (applied thm f) fs s k st (applied thm f fs) refl (sym applied_as ∙ e) in
-      (shown.0, shown.1, record { on = λ t j. ap (λ b. cond b (apply_frame thm f (state (onto fs t) j)) (Err not_earlier)) is
-          ∙ apply_onto (applied thm f) (length f.hyps) fs t j n ∙ ap (and_then (λ r. Ok (state (r ∷ t) j))) shown.2 })
+      let shown = frame_shown (applied thm f) fs s k st (applied thm f fs) refl (sym applied_as ∙ e) in (
+        shown.0,
+        shown.1,
+        record {
+          on = λ t j. ap (λ b. cond b (apply_frame thm f (state (onto fs t) j)) (Err not_earlier)) is
+              ∙ apply_onto (applied thm f) (length f.hyps) fs t j n ∙ ap (and_then (λ r. Ok (state (r ∷ t) j))) shown.2;
+        },
+      )
 
   frame_case : (o : Option Frame) (fs s k : List Formula) (st : State) → option_map (λ (f : Frame). length f.hyps) o ≡ Some (length fs)
       → use_frame frames thm o (state (onto fs s) k) ≡ Ok st → Shown (use_frame frames thm o) fs st s k

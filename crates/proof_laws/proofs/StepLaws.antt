@@ -52,9 +52,9 @@ module _ (frames : Frames) (thm : Theorem) (labels : List (List ℕ)) where
   some_end (Err e) = refl
   some_end (Ok st) = refl
 
-  step_case : (o : Outcome) (n : ℕ) (xs ys : List Step) (mid : State) → and_then (run (suc n) xs) (numbered frames thm n o) ≡ Ok mid
+  step_case : (o : Outcome) (n : ℕ) (xs ys : List Step) (mid : State) → and_then (run (suc n) xs) (numbered n o) ≡ Ok mid
       → ((next : State) → run (suc n) xs next ≡ Ok mid → (m : ℕ) × (run (suc n) (xs ++ ys) next ≡ run m ys mid))
-      → (m : ℕ) × (and_then (run (suc n) (xs ++ ys)) (numbered frames thm n o) ≡ run m ys mid)
+      → (m : ℕ) × (and_then (run (suc n) (xs ++ ys)) (numbered n o) ≡ run m ys mid)
   step_case (Err f) n xs ys mid e h = absurd (cc)
   step_case (Ok st) n xs ys mid e h = h st e
 
@@ -65,10 +65,10 @@ module _ (frames : Frames) (thm : Theorem) (labels : List (List ℕ)) where
 
   -- one more step after some
   step_after : (xs : List Step) (x : Step) (st mid last : State) → run 0 xs st ≡ Ok mid → use_what frames thm labels x.what mid ≡ Ok last
-      → run 0 (xs ++ x ∷ []) st ≡ Ok (keep_top frames thm x.marked last)
+      → run 0 (xs ++ x ∷ []) st ≡ Ok (keep_top x.marked last)
   step_after xs x st mid last e u =
       let more = run_steps-append 0 xs (x ∷ []) st mid e in
-      more.1 ∙ ap (λ (o : Outcome). and_then (λ (s : State). Ok s) (numbered frames thm more.0 (and_then (λ (next : State). Ok (keep_top frames thm x.marked next)) o))) u
+      more.1 ∙ ap (λ (o : Outcome). and_then (λ (s : State). Ok s) (numbered more.0 (and_then (λ (next : State). Ok (keep_top x.marked next)) o))) u
 
   abbrev pub Spelled : List ℕ → Type 0
   Spelled name = (st : State) → use_what frames thm labels (what_of thm.mandatory labels name) st ≡ use_label frames thm name st
@@ -137,16 +137,20 @@ module _ (frames : Frames) (thm : Theorem) (labels : List (List ℕ)) where
     label_tracks : (name : List ℕ) (below : Proofs) (f : Formula) (fs : List Formula) (c : Coding) (s k : List Formula) (mark : Bool) → Spelled name
         → Gives frames thm (by name below) f → Pushes (use_label frames thm name) fs f → Tracks c (onto fs s) k
         → Coded (with_label (by name below) mark (what_of thm.mandatory labels name) c) (f ∷ s)
-    label_tracks name below f fs c s k true spelled g p t =
-        (k ++ f ∷ [], record {
-            runs = step_after c.steps (step (what_of thm.mandatory labels name) true) start (state (onto fs s) k) (state (f ∷ s) k) t.runs (spelled (state (onto fs s) k) ∙ p.on s k);
-            kept = kept_more c.marked k (by name below) f t.kept g
-          })
-    label_tracks name below f fs c s k false spelled g p t =
-        (k, record {
-            runs = step_after c.steps (step (what_of thm.mandatory labels name) false) start (state (onto fs s) k) (state (f ∷ s) k) t.runs (spelled (state (onto fs s) k) ∙ p.on s k);
-            kept = t.kept
-          })
+    label_tracks name below f fs c s k true spelled g p t = (
+      k ++ f ∷ [],
+      record {
+        runs = step_after c.steps (step (what_of thm.mandatory labels name) true) start (state (onto fs s) k) (state (f ∷ s) k) t.runs (spelled (state (onto fs s) k) ∙ p.on s k);
+        kept = kept_more c.marked k (by name below) f t.kept g;
+      },
+    )
+    label_tracks name below f fs c s k false spelled g p t = (
+      k,
+      record {
+        runs = step_after c.steps (step (what_of thm.mandatory labels name) false) start (state (onto fs s) k) (state (f ∷ s) k) t.runs (spelled (state (onto fs s) k) ∙ p.on s k);
+        kept = t.kept;
+      },
+    )
 
     -- a proof that was marked is one step
     again_tracks : (p : Proof) (f : Formula) (c : Coding) (s k : List Formula) (i : ℕ) → Gives frames thm p f → Tracks c s k → first_number (same_proof p) c.marked ≡ Some i
@@ -155,7 +159,7 @@ module _ (frames : Frames) (thm : Theorem) (labels : List (List ℕ)) where
         let at = kept_at p c.marked k i t.kept is in
         let same = gives_one p at.0 f at.2 g in
         let pushed : use_what frames thm labels (what.Again i) (state s k) ≡ Ok (state (f ∷ s) k) =
-            ap (λ (o : Option Formula). use_kept frames thm o (state s k)) at.1 ∙ ap (λ (x : Formula). Ok (state (x ∷ s) k)) same in
+        ap (λ (o : Option Formula). use_kept o (state s k)) at.1 ∙ ap (λ (x : Formula). Ok (state (x ∷ s) k)) same in
         (k, record { runs = step_after c.steps (step (what.Again i) false) start (state s k) (state (f ∷ s) k) t.runs pushed; kept = t.kept })
 
     choose_tracks : (p : Proof) (f : Formula) (c : Coding) (s k : List Formula) (o : Option ℕ) (rest : Coding → Coding) → Gives frames thm p f → Tracks c s k
@@ -164,11 +168,12 @@ module _ (frames : Frames) (thm : Theorem) (labels : List (List ℕ)) where
     choose_tracks p f c s k (Some i) rest g t is r = again_tracks p f c s k i g t is
 
     mutual
-      pub code_tracks : (p : Proof) (f : Formula) → IsSpelled p → Gives frames thm p f → (c : Coding) (s k : List Formula) → Tracks c s k → Coded (coded thm.mandatory labels places p c) (f ∷ s)
+      pub code_tracks : (p : Proof) (f : Formula) → IsSpelled p → Gives frames thm p f → (c : Coding) (s k : List Formula) → Tracks c s k
+          → Coded (coded thm.mandatory labels places p c) (f ∷ s)
       code_tracks (by name below) f sp g c s k t =
           let all = codes_track below g.0 sp.1 g.1 c s k t in
           choose_tracks (by name below) f c s k (first_number (same_proof (by name below)) c.marked) _ g t refl
-              (label_tracks name below f g.0 (coded_all thm.mandatory labels places below c) s all.0 (is_marked places (by name below)) sp.0 g g.2 all.1)
+          (label_tracks name below f g.0 (coded_all thm.mandatory labels places below c) s all.0 (is_marked places (by name below)) sp.0 g g.2 all.1)
 
       pub codes_track : (ps : Proofs) (fs : List Formula) → AreSpelled ps → GivesAll frames thm ps fs → (c : Coding) (s k : List Formula) → Tracks c s k
           → Coded (coded_all thm.mandatory labels places ps c) (onto fs s)

@@ -5,21 +5,26 @@ ghost use Rattle.proof_model.specs.declared.theorem.Theorem.{Theorem};
 ghost use Rattle.proof_model.specs.Machine.{Frames};
 ghost use Rattle.proof_laws.specs.Accepted.{EndsWithTheorem};
 ghost use Rattle.proof_laws.specs.CodeEnds.{CodeEndsAlike, CodeIsAccepted};
+ghost use Rattle.proof_laws.specs.Labels.{NormalRunsLabels};
 ghost use Rattle.proof_laws.specs.Spellings.{NumberIsSpelledOnce, NumberIsSpelled, StepsAreSpelledOnce, StepsAreSpelled};
+ghost use Rattle.proof_laws.specs.WrittenCode.{WrittenSpells, WrittenIsSound, SpellsOne};
 
 /// A proof is accepted exactly where it ends with the theorem's formula alone on the stack.
 pub fn accepted_ends_with_theorem()
     ensures { (frames : Frames) (theorem : Theorem) → EndsWithTheorem frames theorem }
-{
-}
+{}
+
+/// A normal proof ends with the stack that its labels leave, one after the other.
+pub fn normal_proof_runs_its_labels()
+    ensures { (frames : Frames) (theorem : Theorem) → NormalRunsLabels frames theorem }
+{}
 
 /// A proof and its compressed code end with the same stack, and so the code is accepted where the proof's labels are.
 /// It does not depend on which subproofs are marked.
 pub fn code_ends_alike()
     ensures stack { (frames : Frames) (theorem : Theorem) → CodeEndsAlike frames theorem }
     ensures accepted { (frames : Frames) (theorem : Theorem) → CodeIsAccepted frames theorem }
-{
-}
+{}
 
 /// Each number from 1 has exactly one spelling in letters, and so has each list of steps.
 pub fn one_spelling()
@@ -27,5 +32,11 @@ pub fn one_spelling()
     ensures number { NumberIsSpelled }
     ensures steps_once { StepsAreSpelledOnce }
     ensures steps { StepsAreSpelled }
-{
-}
+{}
+
+/// The text of a code is read as that code: it spells it, has no fault, and no text spells two codes.
+pub fn written_code_is_read()
+    ensures spells { WrittenSpells }
+    ensures sound { WrittenIsSound }
+    ensures one { SpellsOne }
+{}

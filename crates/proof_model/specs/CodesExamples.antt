@@ -4,7 +4,7 @@ use Rattle.proof_model.specs.declared.code.What.TheVariants as what
 use Rattle.proof_model.specs.Proofs.{Proof, by, none, proofs, postorder}
 use Rattle.proof_model.specs.Codes.{step, normal_steps, code_of_proof}
 use Rattle.proof_model.specs.ProofCode.{spelled}
-use Rattle.proof_model.specs.Example.{split}
+use Rattle.proof_model.specs.ExampleFrames.{split}
 
 -- a hypothesis or an assertion without hypotheses; an assertion behind the proofs of its hypotheses
 abbrev pub leaf : List ℕ → Proof

@@ -1,7 +1,8 @@
 pub mod Arities
+pub mod AritiesExamples
 pub mod Codes
 pub mod CodesExamples
-pub mod Example
+pub mod ExampleFrames
 pub mod Machine
 pub mod MachineExamples
 pub mod ProofCode

@@ -160,6 +160,28 @@ apply_frame theorem frame st =
     if nat_lt (length st.stack) (length frame.hyps) then Err underflow
     else and_then (λ f. Ok (record { stack = f ∷ drop (length frame.hyps) st.stack; kept = st.kept })) (applied theorem frame (reverse (take (length frame.hyps) st.stack)))
 
+-- what a marked step left; a number that no mark has is refused as a step that is not proved yet
+abbrev pub use_kept : Option Formula → State → Result State MachineFault
+use_kept None st = Err unknown
+use_kept (Some f) st = Ok (push f st)
+
+abbrev pub keep_top : Bool → State → State
+keep_top true st = record { stack = st.stack; kept = st.kept ++ take 1 st.stack }
+keep_top false st = st
+
+abbrev pub numbered : ℕ → Result State MachineFault → Result State (ℕ × MachineFault)
+numbered n (Ok st) = Ok st
+numbered n (Err f) = Err (n, f)
+
+-- 7 and 8: at the end there is one entry, the theorem's formula
+abbrev pub end_fault : Theorem → List Formula → Option MachineFault
+end_fault theorem (f ∷ []) = if same_formula f theorem.formula then None else Some result_differs
+end_fault theorem stack = Some (left_over (length stack))
+
+abbrev pub ended_fault : Theorem → ℕ → Result State (ℕ × MachineFault) → Option (ℕ × MachineFault)
+ended_fault theorem n (Ok st) = option_map (λ f. (n, f)) (end_fault theorem st.stack)
+ended_fault theorem n (Err f) = Some f
+
 module _ (frames : Frames) (theorem : Theorem) where
   -- 6: the assertion is not there, or is not before the theorem's place
   abbrev pub use_frame : Option Frame → State → Result State MachineFault
@@ -174,45 +196,24 @@ module _ (frames : Frames) (theorem : Theorem) where
   abbrev pub use_label : List ℕ → State → Result State MachineFault
   use_label label st = use_hyp label (find (λ (h : Hyp). bytes_eq h.name label) theorem.hyps) st
 
-  -- what a marked step left
-  abbrev pub use_kept : Option Formula → State → Result State MachineFault
-  use_kept None st = Err unknown
-  use_kept (Some f) st = Ok (push f st)
-
+  -- 9: a step that is not proved yet
   abbrev pub use_what : List (List ℕ) → What → State → Result State MachineFault
   use_what labels (what.Hyp k) st = use_label (slice_index_or theorem.mandatory k []) st
   use_what labels (what.Listed k) st = use_label (slice_index_or labels k []) st
   use_what labels (what.Again k) st = use_kept (slice_get st.kept k) st
   use_what labels what.Unknown st = Err unknown
 
-  abbrev pub keep_top : Bool → State → State
-  keep_top true st = record { stack = st.stack; kept = st.kept ++ take 1 st.stack }
-  keep_top false st = st
-
   abbrev pub use_step : List (List ℕ) → Step → State → Result State MachineFault
   use_step labels s st = and_then (λ next. Ok (keep_top s.marked next)) (use_what labels s.what st)
-
-  abbrev pub numbered : ℕ → Result State MachineFault → Result State (ℕ × MachineFault)
-  numbered n (Ok st) = Ok st
-  numbered n (Err f) = Err (n, f)
 
   -- the state behind the steps, the first of which has number n; or the first fault, with its step's number
   abbrev pub run_steps : List (List ℕ) → ℕ → List Step → State → Result State (ℕ × MachineFault)
   run_steps labels n [] st = Ok st
   run_steps labels n (s ∷ ss) st = and_then (run_steps labels (suc n) ss) (numbered n (use_step labels s st))
 
-  -- 7 and 8: at the end there is one entry, the theorem's formula
-  abbrev pub end_fault : List Formula → Option MachineFault
-  end_fault (f ∷ []) = if same_formula f theorem.formula then None else Some result_differs
-  end_fault stack = Some (left_over (length stack))
-
-  abbrev pub ended_fault : ℕ → Result State (ℕ × MachineFault) → Option (ℕ × MachineFault)
-  ended_fault n (Ok st) = option_map (λ f. (n, f)) (end_fault st.stack)
-  ended_fault n (Err f) = Some f
-
   -- the first fault of a proof, with the number of its step; a fault at the end has the number of steps
   abbrev pub proof_fault : Code → Option (ℕ × MachineFault)
-  proof_fault code = ended_fault (length code.steps) (run_steps code.labels 0 code.steps start)
+  proof_fault code = ended_fault theorem (length code.steps) (run_steps code.labels 0 code.steps start)
 
   abbrev pub Accepts : Code → Type 0
   Accepts code = proof_fault code ≡ None

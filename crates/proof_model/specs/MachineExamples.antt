@@ -1,6 +1,6 @@
 -- Proofs on the stack machine, computed.
 use Rattle.std.specs.Prelude.{◌≡◌, ℕ, true, false, List, [], ◌∷◌, ◌++◌, Option, Some, None, Ok, codes, map, refl}
-use Rattle.std.proofs.Common.{arith}
+use Rattle.std.proofs.lemmas.Bool.{ltb-true}
 use Rattle.mm_base.specs.declared.symbols.Pair.{Pair}
 use Rattle.mm_model.specs.declared.frames.Hyp.{Hyp}
 use Rattle.proof_model.specs.declared.code.What.TheVariants as what
@@ -11,7 +11,7 @@ use Rattle.proof_model.specs.Proofs.{postorder}
 use Rattle.proof_model.specs.Codes.{step, normal_code, code_of_proof}
 use Rattle.proof_model.specs.ProofCode.{Spells, code_fault}
 use Rattle.proof_model.specs.CodesExamples.{th1, r, id, u, syl, abid, dm}
-use Rattle.proof_model.specs.Example.{split, sym, formula, essential, pair, assertion, frames_of, demo, tt', tr, ts, logic, floats, wph, wps, wch}
+use Rattle.proof_model.specs.ExampleFrames.{split, sym, formula, essential, pair, assertion, frames_of, demo, tt', tr, ts, logic, floats, wph, wps, wch}
 
 -- a theorem behind all assertions: its formula, its `$e`, the labels of its mandatory hypotheses, and its pairs
 abbrev theorem : List ℕ → List Hyp → List ℕ → List Pair → Theorem
@@ -57,7 +57,8 @@ pub u_accepted : Accepts logic u_theorem (code_of_proof u_theorem.mandatory u)
 u_accepted = refl
 
 abbrev syl_theorem : Theorem
-syl_theorem = theorem (codes "|- ( ph -> ch )") (essential (codes "syl.1") (codes "|- ( ph -> ps )") ∷ essential (codes "syl.2") (codes "|- ( ps -> ch )") ∷ []) (codes "wph wps wch syl.1 syl.2") []
+syl_theorem = theorem (codes "|- ( ph -> ch )") (essential (codes "syl.1") (codes "|- ( ph -> ps )")
+    ∷ essential (codes "syl.2") (codes "|- ( ps -> ch )") ∷ []) (codes "wph wps wch syl.1 syl.2") []
 
 pub syl_accepted : Accepts logic syl_theorem (code_of_proof syl_theorem.mandatory syl)
 syl_accepted = refl
@@ -96,7 +97,7 @@ good_spelled = record {
       (codes "C", [], refl, record { front = codes "C"; what = (refl, refl); whole = refl }, refl),
     ),
   );
-  there = (omega arith, (omega arith, (omega arith, tt)));
+  there = (ltb-true 0 2 refl, (ltb-true 1 2 refl, (ltb-true 0 1 refl, tt)));
 }
 
 pub good_accepted : Accepts logic good_theorem good
@@ -128,7 +129,8 @@ other_type = refl
 
 -- 3: the first `$e` entry that differs, with what was expected and what was found; 2 goes before it
 pub other_hyp : faults (codes "wph wps h.2 h.2 ax-mp" ∷ codes "wph wps h.1 h.1 ax-mp" ∷ codes "h.1 wps h.2 h.2 ax-mp" ∷ [])
-    ≡ Some (4, hyp_differs (formula (codes "|- ph")) (formula (codes "|- ( ph -> ps )"))) ∷ Some (4, hyp_differs (formula (codes "|- ( ph -> ps )")) (formula (codes "|- ph"))) ∷ Some (4, type_differs) ∷ []
+    ≡ Some (4, hyp_differs (formula (codes "|- ph")) (formula (codes "|- ( ph -> ps )")))
+    ∷ Some (4, hyp_differs (formula (codes "|- ( ph -> ps )")) (formula (codes "|- ph"))) ∷ Some (4, type_differs) ∷ []
 other_hyp = refl
 
 -- 4: the substitutes of ph and x share x
@@ -177,7 +179,8 @@ three_apart = pair (codes "ph") (codes "ps") ∷ pair (codes "ph") (codes "ch") 
 
 abbrev apart_fault : List Pair → List ℕ → Option (ℕ × MachineFault)
 apart_fault pairs labels =
-    proof_fault (frames_of (assertion (codes "wi") 1 (codes "wff ( ph -> ps )") (wph ∷ wps ∷ []) [] ∷ assertion (codes "apart") 2 (codes "|- ph") (wph ∷ wps ∷ wch ∷ []) three_apart ∷ [])) (theorem (codes "|- ph") [] [] pairs) (listed labels)
+    proof_fault (frames_of (assertion (codes "wi") 1 (codes "wff ( ph -> ps )") (wph ∷ wps ∷ []) []
+    ∷ assertion (codes "apart") 2 (codes "|- ph") (wph ∷ wps ∷ wch ∷ []) three_apart ∷ [])) (theorem (codes "|- ph") [] [] pairs) (listed labels)
 
 -- the first pair has no pair of the theorem, but a later one shares a variable: 4 goes before 5 for all pairs
 pub four_first : apart_fault [] (codes "wph wps wps apart") ≡ Some (3, shared (sym (codes "ps")) (sym (codes "ch")) (sym (codes "ps")))
@@ -190,9 +193,11 @@ least_shared = refl
 -- of the variables of a pair that are no pair of the theorem, the least are told: by the number of the first, and then of the second
 abbrev two_fault : List Pair → List ℕ → Option (ℕ × MachineFault)
 two_fault pairs labels =
-    proof_fault (frames_of (assertion (codes "wi") 1 (codes "wff ( ph -> ps )") (wph ∷ wps ∷ []) [] ∷ assertion (codes "two") 2 (codes "|- ph") (wph ∷ wps ∷ []) (pair (codes "ph") (codes "ps") ∷ []) ∷ [])) (theorem (codes "|- ph") [] [] pairs) (listed labels)
+    proof_fault (frames_of (assertion (codes "wi") 1 (codes "wff ( ph -> ps )") (wph ∷ wps ∷ []) []
+    ∷ assertion (codes "two") 2 (codes "|- ph") (wph ∷ wps ∷ []) (pair (codes "ph") (codes "ps") ∷ []) ∷ [])) (theorem (codes "|- ph") [] [] pairs) (listed labels)
 
-pub least_lacking : map (λ pairs. two_fault pairs (codes "wch wph wi wps two")) ([] ∷ (pair (codes "ph") (codes "ps") ∷ []) ∷ (pair (codes "ph") (codes "ps") ∷ pair (codes "ps") (codes "ch") ∷ []) ∷ [])
+pub least_lacking : map (λ pairs. two_fault pairs (codes "wch wph wi wps two")) ([] ∷ (pair (codes "ph") (codes "ps") ∷ [])
+    ∷ (pair (codes "ph") (codes "ps") ∷ pair (codes "ps") (codes "ch") ∷ []) ∷ [])
     ≡ Some (4, not_distinct (sym (codes "ph")) (sym (codes "ps"))) ∷ Some (4, not_distinct (sym (codes "ch")) (sym (codes "ps"))) ∷ Some (5, result_differs) ∷ []
 least_lacking = refl
 
@@ -206,11 +211,16 @@ abbrev wi_theorem : Theorem
 wi_theorem = theorem (codes "wff ( ( ph -> ps ) -> ( ph -> ps ) )") [] (codes "wph wps") []
 
 -- a marked step is named again
-pub again : Accepts logic wi_theorem (record { labels = codes "wi" ∷ []; steps = step (what.Hyp 0) false ∷ step (what.Hyp 1) false ∷ step (what.Listed 0) true ∷ step (what.Again 0) false ∷ step (what.Listed 0) false ∷ [] })
+pub again : Accepts logic wi_theorem (record {
+  labels = codes "wi" ∷ [];
+  steps = step (what.Hyp 0) false ∷ step (what.Hyp 1) false ∷ step (what.Listed 0) true
+      ∷ step (what.Again 0) false ∷ step (what.Listed 0) false ∷ [];
+})
 again = refl
 
 -- ---- substitution
 
 -- all variables at once
-pub swapped : substituted ((wph, formula (codes "wff ( ps -> ch )")) ∷ (wps, formula (codes "wff ph")) ∷ []) (formula (codes "|- ( ph -> ps )")) ≡ formula (codes "|- ( ( ps -> ch ) -> ph )")
+pub swapped : substituted ((wph, formula (codes "wff ( ps -> ch )")) ∷ (wps, formula (codes "wff ph")) ∷ []) (formula (codes "|- ( ph -> ps )"))
+    ≡ formula (codes "|- ( ( ps -> ch ) -> ph )")
 swapped = refl

@@ -1,10 +1,10 @@
 -- Compressed proofs as texts: numbers in letters, steps, brackets, and the faults (Metamath book, appendix B).
 use Rattle.std.specs.Prelude.{◌≡◌, ℕ, zero, suc, ◌+◌, ◌*◌, ◌-◌, ◌/◌, ◌%◌, ◌<◌, Bool, true, false, not, ◌&&◌, ◌||◌, ◌==◌, List, [], ◌∷◌, ◌++◌, length, take, drop, slice_index_or, nat_le, nat_lt, Option, Some, None, if◌then◌else◌, map, reverse, flat_map, codes}
-use Rattle.std.specs.List.{list_any, before_first, after_first, join_with_byte}
+use Rattle.std.specs.List.{list_all, list_any, before_first, after_first, join_with_byte}
 use Rattle.std.specs.Str.{bytes_eq}
-use Rattle.mm_model.specs.Words.{Word, words}
+use Rattle.mm_model.specs.Words.{Word, words, is_white}
 use Rattle.mm_model.specs.Faults.{Fault, fault, or_else, first_fault}
-use Rattle.mm_model.specs.Names.{contains}
+use Rattle.mm_model.specs.Names.{contains, has_twice}
 use Rattle.proof_model.specs.declared.code.What.{What}
 use Rattle.proof_model.specs.declared.code.What.TheVariants as what
 use Rattle.proof_model.specs.declared.code.Step.{Step}
@@ -190,3 +190,13 @@ steps_letters m n steps = flat_map (step_letters m n) steps
 -- the text of a code with m mandatory hypotheses: `(`, the labels, `)` and the letters in one run, parted by one space
 abbrev pub spelled : ℕ → Code → List ℕ
 spelled m code = join_with_byte 32 (codes "(" ∷ code.labels ++ codes ")" ∷ steps_letters m (length code.labels) code.steps ∷ [])
+
+-- a label that can stand in the brackets: it has bytes, none of white space, and is not `)`
+abbrev pub is_listable : List ℕ → Bool
+is_listable label = not (length label == 0) && list_all (λ b. not (is_white b)) label && not (bytes_eq label (codes ")"))
+
+-- a code that can be written with m mandatory hypotheses
+pub record IsWritable (m : ℕ) (code : Code) : Type 0 where
+  pub labels : list_all is_listable code.labels ≡ true
+  pub differ : has_twice code.labels ≡ false
+  pub there : AreThere m (length code.labels) 0 code.steps

@@ -1,15 +1,16 @@
 -- Proof codes, computed.
 use Rattle.std.specs.Prelude.{◌≡◌, ℕ, true, false, List, [], ◌∷◌, Option, Some, None, codes, refl, map}
-use Rattle.std.proofs.Common.{arith}
+use Rattle.std.proofs.lemmas.Bool.{ltb-true}
 use Rattle.mm_model.specs.Faults.{Fault, fault}
 use Rattle.proof_model.specs.declared.code.What.TheVariants as what
 use Rattle.proof_model.specs.declared.code.Code.{Code}
 use Rattle.proof_model.specs.Codes.{step}
-use Rattle.proof_model.specs.ProofCode.{SpellsNumber, number_letters, labels_of, letters_of, code_fault, label_told, number_told, spelled, Spells}
+use Rattle.proof_model.specs.ProofCode.{SpellsNumber, number_letters, labels_of, letters_of, code_fault, label_told, number_told, spelled, Spells, IsWritable, is_listable}
 
 -- ---- numbers
 
-pub numbers : map number_letters (1 ∷ 20 ∷ 21 ∷ 120 ∷ 121 ∷ 620 ∷ 621 ∷ []) ≡ codes "A" ∷ codes "T" ∷ codes "UA" ∷ codes "YT" ∷ codes "UUA" ∷ codes "YYT" ∷ codes "UUUA" ∷ []
+pub numbers : map number_letters (1 ∷ 20 ∷ 21 ∷ 120 ∷ 121 ∷ 620 ∷ 621 ∷ [])
+    ≡ codes "A" ∷ codes "T" ∷ codes "UA" ∷ codes "YT" ∷ codes "UUA" ∷ codes "YYT" ∷ codes "UUUA" ∷ []
 numbers = refl
 
 pub spells_21 : SpellsNumber (codes "UA") 21
@@ -83,7 +84,11 @@ told_number = refl
 -- ---- what is written, and what it spells
 
 abbrev three : Code
-three = record { labels = codes "ax-1" ∷ []; steps = step (what.Hyp 0) false ∷ step (what.Hyp 1) true ∷ step (what.Listed 0) false ∷ step (what.Again 0) false ∷ step what.Unknown false ∷ [] }
+three = record {
+  labels = codes "ax-1" ∷ [];
+  steps = step (what.Hyp 0) false ∷ step (what.Hyp 1) true ∷ step (what.Listed 0) false ∷ step (what.Again 0) false
+      ∷ step what.Unknown false ∷ [];
+}
 
 pub three_spelled : spelled 2 three ≡ codes "( ax-1 ) ABZCD?"
 three_spelled = refl
@@ -117,5 +122,11 @@ three_spells = record {
       ),
     ),
   );
-  there = (omega arith, (omega arith, (omega arith, (omega arith, (tt, tt)))));
+  there = (ltb-true 0 2 refl, (ltb-true 1 2 refl, (ltb-true 0 1 refl, (ltb-true 0 1 refl, (tt, tt)))));
 }
+
+pub three_writable : IsWritable 2 three
+three_writable = record { labels = refl; differ = refl; there = three_spells.there }
+
+pub listable : map is_listable (codes "ax-1" ∷ [] ∷ codes "a b" ∷ codes ")" ∷ codes "(" ∷ []) ≡ true ∷ false ∷ false ∷ false ∷ true ∷ []
+listable = refl

@@ -9,7 +9,8 @@ abbrev named : Option (List ℕ) → Option Header
 named loc = Some (record { theorem = codes "th1"; loc = loc })
 
 -- no LOC_AFTER, an empty one, and `?` mean that none is given
-pub no_loc : map (λ (more : List (List ℕ)). header_of (header (codes "THEOREM=th1" ∷ more))) ([] ∷ (codes "LOC_AFTER=" ∷ []) ∷ (codes "LOC_AFTER=?" ∷ []) ∷ (codes "LOC_AFTER=a.1" ∷ []) ∷ [])
+pub no_loc : map (λ (more : List (List ℕ)). header_of (header (codes "THEOREM=th1" ∷ more))) ([] ∷ (codes "LOC_AFTER=" ∷ []) ∷ (codes "LOC_AFTER=?" ∷ [])
+    ∷ (codes "LOC_AFTER=a.1" ∷ []) ∷ [])
     ≡ named None ∷ named None ∷ named None ∷ named (Some (codes "a.1")) ∷ []
 no_loc = refl
 
@@ -23,7 +24,14 @@ pub no_header : map header_of ((codes "$(" ∷ codes "<MM>" ∷ []) ∷ header [
 no_header = refl
 
 pub plain_step : step_of (codes "3:1,2:mp" ∷ codes "|-" ∷ codes "ps" ∷ [])
-    ≡ Some (record { hyp = false; name = codes "3"; entries = Some (codes "1") ∷ Some (codes "2") ∷ []; reference = Some (codes "mp"); formula = codes "|-" ∷ codes "ps" ∷ [] })
+    ≡ Some (record {
+      hyp = false;
+      name = codes "3";
+      entries = Some (codes "1") ∷ Some (codes "2") ∷ [];
+      reference = Some (codes "mp");
+      formula = codes "|-"
+          ∷ codes "ps" ∷ [];
+    })
 plain_step = refl
 
 -- no places, a blank formula; a `?` as place; a `?` as reference

@@ -19,7 +19,8 @@ proof = codes "( wi a1i a2i ax-mp ) ABFACFDABCBCFAEGHI"
 abbrev written : List ℕ
 written = text (codes "$( <MM> <PROOF_ASST> THEOREM=syl LOC_AFTER=?" ∷ codes "* An inference version of the transitive laws for implication."
     ∷ codes "h1::syl.1 |- ( ph -> ps )" ∷ codes "h2::syl.2 |- ( ps -> ch )" ∷ codes "3:2:a1i |- ( ph -> ( ps -> ch ) )"
-    ∷ codes "4:3:a2i |- ( ( ph -> ps ) -> ( ph -> ch ) )" ∷ codes "qed:1,4:ax-mp |- ( ph -> ch )" ∷ codes "$= ( wi a1i a2i ax-mp ) ABFACFDABCBCFAEGHI $." ∷ codes "$)" ∷ [])
+    ∷ codes "4:3:a2i |- ( ( ph -> ps ) -> ( ph -> ch ) )" ∷ codes "qed:1,4:ax-mp |- ( ph -> ch )" ∷ codes "$= ( wi a1i a2i ax-mp ) ABFACFDABCBCFAEGHI $."
+    ∷ codes "$)" ∷ [])
 
 pub syllogism_laid : layout syllogism_sheet (Some proof) ≡ written
 syllogism_laid = refl
@@ -48,7 +49,8 @@ small = record {
 }
 
 pub small_laid : layout small (Some (codes "? $. ?"))
-    ≡ text (codes "$( <MM> <PROOF_ASST> THEOREM=o LOC_AFTER=ax-1" ∷ codes "* one" ∷ codes "   two" ∷ codes "1::" ∷ codes "qed:?,1:ax-mp |- ps" ∷ codes "$= ? $. ? $." ∷ codes "$d ph x" ∷ codes "$)" ∷ [])
+    ≡ text (codes "$( <MM> <PROOF_ASST> THEOREM=o LOC_AFTER=ax-1" ∷ codes "* one" ∷ codes "   two" ∷ codes "1::" ∷ codes "qed:?,1:ax-mp |- ps"
+    ∷ codes "$= ? $. ? $." ∷ codes "$d ph x" ∷ codes "$)" ∷ [])
 small_laid = refl
 
 -- whatever the proof's text is, as long as it has no LF

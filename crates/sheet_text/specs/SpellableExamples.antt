@@ -19,15 +19,18 @@ abbrev step : Bool → List ℕ → List Given → Option (List ℕ) → SheetSt
 step hyp name places reference = record { line = 0; hyp = hyp; name = name; places = places; reference = reference; formula = [] }
 
 -- step number 1: one that is fine; a name with `h` that is no hypothesis, and one that is; a later place; a hypothesis without a label; a reference that is no label
-pub some_steps : map (is_step_spellable 1) (step false (codes "2") (given.Step 0 ∷ given.Gap ∷ []) None ∷ step false (codes "h2") [] None ∷ step true (codes "h2") [] (Some (codes "a"))
+pub some_steps : map (is_step_spellable 1) (step false (codes "2") (given.Step 0 ∷ given.Gap ∷ []) None ∷ step false (codes "h2") [] None
+    ∷ step true (codes "h2") [] (Some (codes "a"))
     ∷ step false (codes "2") (given.Step 1 ∷ []) None ∷ step true (codes "2") [] None ∷ step false (codes "2") [] (Some (codes "?")) ∷ [])
     ≡ true ∷ false ∷ true ∷ false ∷ false ∷ false ∷ []
 some_steps = refl
 
-pub some_comments : map is_comment_spellable ((codes "* a" ∷ codes "  b" ∷ []) ∷ [] ∷ (codes "a" ∷ []) ∷ (codes "* a" ∷ codes "b" ∷ []) ∷ (codes "* a " ∷ []) ∷ (codes "* a" ∷ [] ∷ []) ∷ [])
+pub some_comments : map is_comment_spellable ((codes "* a" ∷ codes "  b" ∷ []) ∷ [] ∷ (codes "a" ∷ []) ∷ (codes "* a" ∷ codes "b" ∷ []) ∷ (codes "* a " ∷ [])
+    ∷ (codes "* a" ∷ [] ∷ []) ∷ [])
     ≡ true ∷ false ∷ false ∷ false ∷ false ∷ false ∷ []
 some_comments = refl
 
-pub some_pairs : map (λ names. is_pair_spellable (record { line = 0; names = names })) ((codes "x" ∷ codes "y" ∷ []) ∷ (codes "x" ∷ []) ∷ (codes "x" ∷ codes "x" ∷ []) ∷ (codes "x" ∷ codes "$." ∷ []) ∷ [])
+pub some_pairs : map (λ names. is_pair_spellable (record { line = 0; names = names })) ((codes "x" ∷ codes "y" ∷ []) ∷ (codes "x" ∷ []) ∷ (codes "x" ∷ codes "x" ∷ [])
+    ∷ (codes "x" ∷ codes "$." ∷ []) ∷ [])
     ≡ true ∷ false ∷ false ∷ false ∷ []
 some_pairs = refl
