@@ -1,1 +1,5 @@
+mod Checked
+mod LabelFacts
+mod Listed
 pub mod PathLaws
+mod Shapes
