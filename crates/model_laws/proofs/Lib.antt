@@ -1,4 +1,5 @@
 mod Checked
+mod FrameFacts
 mod LabelFacts
 mod Listed
 pub mod PathLaws
