@@ -225,7 +225,7 @@ module _ (names mandatory : List Name) where
   abbrev pub typed_list : List Statement → List Typed
   typed_list hs = flat_map (λ (h : Hyp). typed_by h.formula) (hypotheses hs)
 
-  typed_list-cons : (h : Statement) (hs : List Statement) → (m : IsMandatory mandatory h) → typed_list (h ∷ hs) ≡ variable_of h m ∷ typed_list hs
+  pub typed_list-cons : (h : Statement) (hs : List Statement) → (m : IsMandatory mandatory h) → typed_list (h ∷ hs) ≡ variable_of h m ∷ typed_list hs
   typed_list-cons h hs m = ap (λ vs. vs ++ typed_list hs) (typed_here h m)
 
   pub formulas_are : (hs : List Statement) → AllByRecursion (IsMandatory mandatory) hs → map (λ (h : Hyp). h.formula) (hypotheses hs) ≡ map float_formula (typed_list hs)
@@ -277,7 +277,7 @@ pub record IsFrameAt (ss : List Statement) (l : Label) (f : Frame) : Type 0 wher
   pub assertion : is_assertion statement ≡ true
   pub frame : frame_at ss l at statement ≡ f
 
-and_then : {A B : Type 0} (f : A → Option B) (o : Option A) (y : B) → option_and_then f o ≡ Some y → (x : A) × (o ≡ Some x) × (f x ≡ Some y)
+pub and_then : {A B : Type 0} (f : A → Option B) (o : Option A) (y : B) → option_and_then f o ≡ Some y → (x : A) × (o ≡ Some x) × (f x ≡ Some y)
 and_then f None y e = absurd cc
 and_then f (Some x) y e = (x, refl, e)
 
@@ -322,7 +322,7 @@ typed_at ss l at s = ap (λ hs. flat_map (λ (h : Hyp). typed_by h.formula) hs) 
 pub known_at : (ss : List Statement) (at : ℕ) (s : Statement) (n : Name) → contains (mandatory_at ss at s) n ≡ true → contains (symbols ss) n ≡ true
 known_at ss at s n e = contains-filter _ (symbols ss) n e
 
-facts_at : (ss : List Statement) (l : Label) (at : ℕ) (s : Statement) → EachBefore IsChecked (below ss at) → slice_get (positions ss) l.0 ≡ Some at → Facts ss l (frame_at ss l at s)
+pub facts_at : (ss : List Statement) (l : Label) (at : ℕ) (s : Statement) → EachBefore IsChecked (below ss at) → slice_get (positions ss) l.0 ≡ Some at → Facts ss l (frame_at ss l at s)
 facts_at ss l at s h position =
     let names = symbols ss in
     let mandatory = mandatory_at ss at s in

@@ -3,4 +3,5 @@ mod FrameFacts
 mod LabelFacts
 mod Listed
 pub mod PathLaws
+mod RowFacts
 mod Shapes

@@ -8,7 +8,7 @@ use Rattle.std.proofs.lemmas.List.{append-nil}
 use Rattle.std.proofs.lemmas.List.Folds.{list_any-append}
 use Rattle.std.proofs.lemmas.List.Sums.{take_while-cons}
 use Rattle.mm_model.specs.Words.{Word}
-use Rattle.mm_model.specs.Statements.{Statement, is, is_one_of, is_word, is_empty, unended, ended, labels_in, body, has_keyword, has_one_of, symbols_in, in_proof, contains, labels, typed, is_symbol_of, rank, label_taken, label_extra, bad_hypothesis, two_types}
+use Rattle.mm_model.specs.Statements.{Statement, is, is_one_of, is_word, is_empty, unended, ended, labels_in, body, has_keyword, has_one_of, symbols_in, in_proof, contains, labels, typed, variables, is_symbol_of, labelled, rank, label_taken, label_extra, bad_hypothesis, two_types, first_not_const}
 use Rattle.model_laws.proofs.Checked.{NoRule, rules_fail, At, Looked, IsChecked}
 
 -- ---- the longest front of a list that passes a test
@@ -179,34 +179,34 @@ label_by e s (l ∷ m ∷ ls) rest c is h =
 pub label_is_new : (e : List Statement) (s : Statement) → IsChecked e s → LabelIsNew e (labels_in s)
 label_is_new e s c = let p = parts is_word s in subst (λ x. LabelIsNew e x) (sym p.taken) (label_by e s p.front p.rest c p.whole p.pass)
 
--- ---- what the rules say of the symbols of a `$f`
+-- ---- the symbols of a statement with this keyword
 
-keyword-float : (kw : Word) → is (codes "$f") kw ≡ true → kw.bytes ≡ codes "$f"
-keyword-float kw e = (bytes_eq-Decides kw.bytes (codes "$f")).0 e
+keyword_begun : (k : List ℕ) (f : Statement) (ls : List Word) (kw : Word) (us : List Word) → Begun f ls kw us → is k kw ≡ true
+    → (ks : List (List ℕ)) → has_one_of ks f ≡ list_any (bytes_eq k) ks
+keyword_begun k f ls kw us b e ks =
+    one_of-begun ks f ls kw us b ∙ ap (λ (bs : List ℕ). list_any (bytes_eq bs) ks) ((bytes_eq-Decides kw.bytes k).0 e)
 
-float_is_begun : (f : Statement) (ls : List Word) (kw : Word) (us : List Word) → Begun f ls kw us → is (codes "$f") kw ≡ true
-    → (has_one_of (codes "$f" ∷ []) f ≡ true) × (in_proof f ≡ false)
-float_is_begun f ls kw us b e =
-    let same = keyword-float kw e in
-    let other : is (codes "$=") kw ≡ false = ap (λ (bs : List ℕ). bytes_eq bs (codes "$=")) same in
-    (one_of-begun (codes "$f" ∷ []) f ls kw us b ∙ ap (λ (bs : List ℕ). list_any (bytes_eq bs) (codes "$f" ∷ [])) same, proof-begun f ls kw us b other)
+no_proof_begun : (k : List ℕ) (f : Statement) (ls : List Word) (kw : Word) (us : List Word) → Begun f ls kw us → is k kw ≡ true → bytes_eq k (codes "$=") ≡ false → in_proof f ≡ false
+no_proof_begun k f ls kw us b e differs =
+    proof-begun f ls kw us b (ap (λ (bs : List ℕ). bytes_eq bs (codes "$=")) ((bytes_eq-Decides kw.bytes k).0 e) ∙ differs)
 
--- where a word is a symbol of a `$f` behind these symbols
-pub record AtFloat (e : List Statement) (us : List Word) (w : Word) (after : List Word) : Type 0 where
+-- where a word is a symbol behind these symbols
+pub record AtSymbol (e : List Statement) (k : List ℕ) (us : List Word) (w : Word) (after : List Word) : Type 0 where
   pub at : List Word
   pub here : At e at w after
-  pub is_float : has_one_of (codes "$f" ∷ []) at ≡ true
+  pub keyword : (ks : List (List ℕ)) → has_one_of ks at ≡ list_any (bytes_eq k) ks
   pub no_proof : in_proof at ≡ false
   pub symbols : symbols_in at ≡ map (λ (u : Word). u.bytes) us
+  pub pass : is_word w ≡ true
 
 front_words : (us : List Word) (w : Word) (more : List Word) → AreWords (us ++ w ∷ more) → AreWords us × (is_word w ≡ true)
 front_words [] w more h = (tt, h.0)
 front_words (u ∷ us) w more h = let r = front_words us w more h.1 in ((h.0, r.0), r.1)
 
-pub at_float : (e : List Statement) (s : Statement) (c : IsChecked e s) → (h : has_keyword (codes "$f") s ≡ true) → (us : List Word) (w : Word) (more : List Word)
-    → (shape s (codes "$f") h).us ≡ us ++ w ∷ more → AtFloat e us w ((more ++ (shape s (codes "$f") h).tail) ++ c.after) × (is_word w ≡ true)
-at_float e s c h us w more is_us =
-    let sh = shape s (codes "$f") h in
+pub at_symbol : (e : List Statement) (s : Statement) (k : List ℕ) (c : IsChecked e s) → (h : has_keyword k s ≡ true) → bytes_eq k (codes "$=") ≡ false → (us : List Word) (w : Word) (more : List Word)
+    → (shape s k h).us ≡ us ++ w ∷ more → AtSymbol e k us w ((more ++ (shape s k h).tail) ++ c.after)
+at_symbol e s k c h differs us w more is_us =
+    let sh = shape s k h in
     let pass : AreWords (us ++ w ∷ more) = subst AreWords is_us sh.symbols_pass in
     let words = front_words us w more pass in
     let split : s ≡ (sh.ls ++ sh.kw ∷ us) ++ w ∷ (more ++ sh.tail) =
@@ -215,34 +215,49 @@ at_float e s c h us w more is_us =
           ∙ sym (append_assoc sh.ls (sh.kw ∷ us) (w ∷ (more ++ sh.tail))) in
     let front : List Word = sh.ls ++ sh.kw ∷ us in
     let begun : Begun front sh.ls sh.kw us = record { whole = refl; labels_pass = sh.labels_pass; keyword_stops = sh.keyword_stops; symbols_pass = words.0 } in
-    let is_f : is (codes "$f") sh.kw ≡ true = sym (sh.keyword_is (codes "$f")) ∙ h in
-    let facts = float_is_begun front sh.ls sh.kw us begun is_f in
-    (record { at = front; here = at_split e s front w (more ++ sh.tail) c split; is_float = facts.0; no_proof = facts.1; symbols = symbols-begun front sh.ls sh.kw us begun }, words.1)
+    let is_k : is k sh.kw ≡ true = sym (sh.keyword_is k) ∙ h in
+    record {
+      at = front;
+      here = at_split e s front w (more ++ sh.tail) c split;
+      keyword = keyword_begun k front sh.ls sh.kw us begun is_k;
+      no_proof = no_proof_begun k front sh.ls sh.kw us begun is_k differs;
+      symbols = symbols-begun front sh.ls sh.kw us begun;
+      pass = words.1;
+    }
+
+-- the same, said of the tokens before
+pub record Before {e : List Statement} {k : List ℕ} {us : List Word} {w : Word} {after : List Word} (f : AtSymbol e k us w after) : Type 0 where
+  pub keyword : (ks : List (List ℕ)) → has_one_of ks (unended f.here.before) ≡ list_any (bytes_eq k) ks
+  pub no_proof : in_proof (unended f.here.before) ≡ false
+  pub symbols : symbols_in (unended f.here.before) ≡ map (λ (u : Word). u.bytes) us
+
+pub before_symbol : (e : List Statement) (k : List ℕ) (us : List Word) (w : Word) (after : List Word) (f : AtSymbol e k us w after) → Before f
+before_symbol e k us w after f = record {
+  keyword = λ ks. ap (has_one_of ks) f.here.unended_is ∙ f.keyword ks;
+  no_proof = ap in_proof f.here.unended_is ∙ f.no_proof;
+  symbols = ap symbols_in f.here.unended_is ∙ f.symbols;
+}
+
+-- ---- what the rules say of the symbols of a `$f`
 
 -- the third symbol of a `$f` has a fault
-no_third : (e : List Statement) (a b w : Word) (after : List Word) → AtFloat e (a ∷ b ∷ []) w after → is_word w ≡ true → ⊥
-no_third e a b w after f h =
+no_third : (e : List Statement) (a b w : Word) (after : List Word) → AtSymbol e (codes "$f") (a ∷ b ∷ []) w after → ⊥
+no_third e a b w after f =
     let before = f.here.before in
-    let fail = rules_fail before w after f.here.no_rule in
-    let bad : bad_hypothesis before w after ≡ false = fail.1.1.1.1.1.1.1.1.1.1.1.1.1.1.1.0 in
-    let is_f : has_one_of (codes "$f" ∷ []) (unended before) ≡ true = ap (has_one_of (codes "$f" ∷ [])) f.here.unended_is ∙ f.is_float in
-    let proof : in_proof (unended before) ≡ false = ap in_proof f.here.unended_is ∙ f.no_proof in
-    let syms : symbols_in (unended before) ≡ a.bytes ∷ b.bytes ∷ [] = ap symbols_in f.here.unended_is ∙ f.symbols in
-    let second : (is_symbol_of (codes "$f" ∷ []) before w && nat_le 2 (rank before)) ≡ false =
+    let known = before_symbol e (codes "$f") (a ∷ b ∷ []) w after f in
+    let bad : bad_hypothesis before w after ≡ false = (rules_fail before w after f.here.no_rule).1.1.1.1.1.1.1.1.1.1.1.1.1.1.1.0 in
+    let third : (is_symbol_of (codes "$f" ∷ []) before w && nat_le 2 (rank before)) ≡ false =
           (or_parts (is (codes "$.") w && has_keyword (codes "$f") (unended before) && nat_lt (rank before) 2) (is_symbol_of (codes "$f" ∷ []) before w && nat_le 2 (rank before)) bad).1 in
-    let clash : true ≡ false = rw (h, is_f, proof, syms) at second in
+    let clash : true ≡ false = rw (f.pass, known.keyword (codes "$f" ∷ []), known.no_proof, known.symbols) at third in
     absurd cc
 
 -- the second symbol has no active `$f` yet
-new_variable : (e : List Statement) (a w : Word) (after : List Word) → AtFloat e (a ∷ []) w after → is_word w ≡ true → contains (typed e) w.bytes ≡ false
-new_variable e a w after f h =
+new_variable : (e : List Statement) (a w : Word) (after : List Word) → AtSymbol e (codes "$f") (a ∷ []) w after → contains (typed e) w.bytes ≡ false
+new_variable e a w after f =
     let before = f.here.before in
-    let fail = rules_fail before w after f.here.no_rule in
-    let two : two_types before w after ≡ false = fail.1.1.1.1.1.0 in
-    let is_f : has_one_of (codes "$f" ∷ []) (unended before) ≡ true = ap (has_one_of (codes "$f" ∷ [])) f.here.unended_is ∙ f.is_float in
-    let proof : in_proof (unended before) ≡ false = ap in_proof f.here.unended_is ∙ f.no_proof in
-    let syms : symbols_in (unended before) ≡ a.bytes ∷ [] = ap symbols_in f.here.unended_is ∙ f.symbols in
-    let new : contains (typed (ended before)) w.bytes ≡ false = rw (h, is_f, proof, syms) at two in
+    let known = before_symbol e (codes "$f") (a ∷ []) w after f in
+    let two : two_types before w after ≡ false = (rules_fail before w after f.here.no_rule).1.1.1.1.1.0 in
+    let new : contains (typed (ended before)) w.bytes ≡ false = rw (f.pass, known.keyword (codes "$f" ∷ []), known.no_proof, known.symbols) at two in
     ap (λ (x : List Statement). contains (typed x) w.bytes) (sym f.here.ended_is) ∙ new
 
 -- what holds of the symbols of a `$f`: two at most, and the second has no active `$f` before
@@ -255,8 +270,30 @@ FloatIsNew e (a ∷ v ∷ x ∷ ns) = ⊥
 float_by : (e : List Statement) (s : Statement) (c : IsChecked e s) → (h : has_keyword (codes "$f") s ≡ true) → (us : List Word) → (shape s (codes "$f") h).us ≡ us → FloatIsNew e (map (λ (w : Word). w.bytes) us)
 float_by e s c h [] is_us = tt
 float_by e s c h (a ∷ []) is_us = tt
-float_by e s c h (a ∷ v ∷ []) is_us = let f = at_float e s c h (a ∷ []) v [] is_us in new_variable e a v _ f.0 f.1
-float_by e s c h (a ∷ v ∷ x ∷ more) is_us = let f = at_float e s c h (a ∷ v ∷ []) x more is_us in no_third e a v x _ f.0 f.1
+float_by e s c h (a ∷ v ∷ []) is_us = new_variable e a v _ (at_symbol e s (codes "$f") c h refl (a ∷ []) v [] is_us)
+float_by e s c h (a ∷ v ∷ x ∷ more) is_us = no_third e a v x _ (at_symbol e s (codes "$f") c h refl (a ∷ v ∷ []) x more is_us)
 
 pub float_is_new : (e : List Statement) (s : Statement) → IsChecked e s → has_keyword (codes "$f") s ≡ true → FloatIsNew e (symbols_in s)
 float_is_new e s c h = subst (λ x. FloatIsNew e x) (sym (shape s (codes "$f") h).symbols_are) (float_by e s c h (shape s (codes "$f") h).us refl)
+
+-- ---- what the rules say of the first symbol of a `$a`
+
+first_constant : (e : List Statement) (w : Word) (after : List Word) → AtSymbol e (codes "$a") [] w after → contains (variables e) w.bytes ≡ false
+first_constant e w after f =
+    let before = f.here.before in
+    let known = before_symbol e (codes "$a") [] w after f in
+    let first : first_not_const before w after ≡ false = (rules_fail before w after f.here.no_rule).1.1.1.1.1.1.0 in
+    let plain : contains (variables (ended before)) w.bytes ≡ false = rw (f.pass, known.keyword labelled, known.no_proof, known.symbols) at first in
+    ap (λ (x : List Statement). contains (variables x) w.bytes) (sym f.here.ended_is) ∙ plain
+
+-- the first of them, if there is one, is no active variable
+abbrev pub BeginsWithConstant : List Statement → List (List ℕ) → Type 0
+BeginsWithConstant e [] = Unit {0}
+BeginsWithConstant e (c ∷ ns) = contains (variables e) c ≡ false
+
+axiom_by : (e : List Statement) (s : Statement) (c : IsChecked e s) → (h : has_keyword (codes "$a") s ≡ true) → (us : List Word) → (shape s (codes "$a") h).us ≡ us → BeginsWithConstant e (map (λ (w : Word). w.bytes) us)
+axiom_by e s c h [] is_us = tt
+axiom_by e s c h (w ∷ more) is_us = first_constant e w _ (at_symbol e s (codes "$a") c h refl [] w more is_us)
+
+pub axiom_begins : (e : List Statement) (s : Statement) → IsChecked e s → has_keyword (codes "$a") s ≡ true → BeginsWithConstant e (symbols_in s)
+axiom_begins e s c h = subst (λ x. BeginsWithConstant e x) (sym (shape s (codes "$a") h).symbols_are) (axiom_by e s c h (shape s (codes "$a") h).us refl)
