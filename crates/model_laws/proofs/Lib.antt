@@ -1,4 +1,5 @@
 mod Checked
+mod DatabaseFacts
 mod FrameFacts
 mod LabelFacts
 mod Listed
