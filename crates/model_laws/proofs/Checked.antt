@@ -1,5 +1,5 @@
 -- Each token of a text without a fault passed every rule, in the statement where it stands.
-use Rattle.std.proofs.Common.{◌≡◌, ◌<◌, ◌≤◌, ℕ, zero, suc, Bool, true, false, cond, List, [], ◌∷◌, ◌++◌, length, take, reverse, Option, Some, None, option_map, refl, sym, ap, ◌∙◌, arith, subst, append_assoc, inl, inr}
+use Rattle.std.proofs.Common.{◌≡◌, ◌<◌, ◌≤◌, ℕ, zero, suc, Bool, true, false, cond, List, [], ◌∷◌, ◌++◌, length, take, reverse, Option, Some, None, option_map, refl, sym, ap, ◌∙◌, arith, subst, append_assoc, inl, inr, nat_lt, ◌^◌}
 use Rattle.std.specs.Prelude.{find}
 use mathlib.Core.List.{reverse_aux}
 use Rattle.std.specs.List.{AllByRecursion, slice_get}
@@ -172,3 +172,14 @@ found P (t ∷ e) at s h is =
   where
     grow : (xs : List Statement) (t : Statement) (k : ℕ) → k < length (xs ++ t ∷ []) → length xs ≤ k → length xs ≡ k
     grow xs t k h l = omega (arith, h, l, length-append xs (t ∷ []))
+
+-- ---- the first fault of a text
+
+later : (b : Bool) (f : Fault) (o : Option Fault) → cond b (Some f) o ≡ None → o ≡ None
+later true f o e = absurd cc
+later false f o e = e
+
+pub no_statement_fault : (text : List ℕ) → database_fault text ≡ None → statement_fault text ≡ None
+no_statement_fault text e =
+    let small = later (nat_lt (2 ^ 28) (length text)) (fault (2 ^ 28) 30) (or_else (token_fault text) (statement_fault text)) e in
+    (or_else_none (token_fault text) (statement_fault text) small).1
