@@ -1,5 +1,6 @@
 -- What holds of the database of a text without a fault.
-use Rattle.std.specs.Prelude.{◌≡◌, ◌≢◌, ◌<◌, ℕ, ◌==◌, not, List, [], ◌∷◌, length, map, filter, slice_get, slice_index_or, Option, Some}
+use Rattle.std.specs.Prelude.{◌≡◌, ◌≢◌, ◌<◌, ℕ, ◌==◌, not, true, List, [], ◌∷◌, length, map, drop, filter, slice_get, is_some, Option, Some}
+use Rattle.std.specs.List.{AllByRecursion}
 use Rattle.mm_base.specs.declared.symbols.Sym.{Sym}
 use Rattle.mm_base.specs.declared.symbols.Label.{Label}
 use Rattle.mm_base.specs.declared.symbols.Typecode.{Typecode}
@@ -12,7 +13,7 @@ use Rattle.mm_model.specs.Names.{Name, sym}
 use Rattle.mm_model.specs.Rows.{IsGrammar}
 use Rattle.mm_model.specs.Texts.{row_of}
 use Rattle.mm_model.specs.Productions.{Typed, typed_variables, floats}
-use Rattle.mm_model.specs.Book.{Database, Assertion, IsUsable, position_of}
+use Rattle.mm_model.specs.Book.{Database, Assertion, IsUsable, position_of, declared_leaf}
 
 -- no two places of the list have one name
 abbrev pub NamesDiffer : List Name → Type 0
@@ -48,12 +49,19 @@ pub record IsRowFrame (r : Production) (f : Frame) : Type 0 where
   pub formula : f.formula ≡ r.gives.0 ∷ map (item_symbol (typed_variables f.hyps)) r.items
   pub no_pairs : f.pairs ≡ []
 
--- the frame's own facts: its label and position, its `$f` have two symbols each, and their variables differ
+-- the symbols of a formula are the database's, and past the first each is a constant or a variable with a typecode at the place
+pub record IsKnownAt (db : Database) (place : ℕ) (formula : List Sym) : Type 0 where
+  pub symbols : AllByRecursion (λ s. s.0 < length db.symbols) formula
+  pub leaves : AllByRecursion (λ s. is_some (declared_leaf db place s) ≡ true) (drop 1 formula)
+
+-- the frame's own facts: its label and position, its `$f` have two symbols each, their variables differ, and its formulas are known
 pub record IsFrame (db : Database) (l : Label) (f : Frame) : Type 0 where
   pub label : f.label ≡ l
   pub at : f.at ≡ position_of db l
   pub floats : map (λ (h : Hyp). h.formula) (floats f.hyps) ≡ map float_formula (typed_variables f.hyps)
   pub variables : VariablesDiffer (typed_variables f.hyps)
+  pub formula : IsKnownAt db f.at f.formula
+  pub hyps : AllByRecursion (λ (h : Hyp). IsKnownAt db f.at h.formula) f.hyps
 
 -- what the worksheet side rests on
 pub record IsDatabase (db : Database) : Type 0 where

@@ -10,22 +10,25 @@ use Rattle.mm_base.specs.declared.symbols.Label.{Label}
 use Rattle.mm_base.specs.declared.symbols.Typecode.{Typecode}
 use Rattle.mm_base.specs.declared.kinds.Kinds.{Kinds}
 use Rattle.mm_model.specs.declared.frames.Frame.{Frame}
+use Rattle.mm_model.specs.declared.frames.Hyp.{Hyp}
 use Rattle.mm_model.specs.declared.rows.Production.{Production}
 use Rattle.mm_model.specs.Names.{Name, label}
-use Rattle.mm_model.specs.Statements.{Statement, statements, statement_fault, labels}
-use Rattle.mm_model.specs.Frames.{symbols, symbol_in, positions, position_of as position_in, frame_of}
+use Rattle.mm_model.specs.Statements.{Statement, statements, statement_fault, labels, symbols_in}
+use Rattle.mm_model.specs.Frames.{symbols, symbol_in, positions, frame_of, frame_at, below, is_assertion, mandatory_hypotheses}
 use Rattle.mm_model.specs.Productions.{frames, rows, kept_rows, row_of_frame, typed_variables}
 use Rattle.mm_model.specs.Chains.{chain_from, leads, keep, keep_by, kept}
 use Rattle.mm_model.specs.Rows.{IsRow, LabelsDiffer, AreRows, IsGrammar}
 use Rattle.mm_model.specs.Texts.{row_of}
 use Rattle.mm_model.specs.Book.{Database, Assertion, IsDatabaseOf, IsUsable}
-use Rattle.mm_model.specs.BookFacts.{NamesDiffer, Rise, IsRowFrame, IsFrame, IsDatabase, VariablesDiffer}
+use Rattle.mm_model.specs.BookFacts.{NamesDiffer, Rise, IsRowFrame, IsFrame, IsKnownAt, IsDatabase}
 use Rattle.mm_model.proofs.RowLaws.{row_stands}
 use Rattle.mm_model.proofs.KeptLaws.{kept_is_grammar}
-use Rattle.model_laws.proofs.Checked.{EachBefore, IsChecked, last_first, text_checked}
+use Rattle.model_laws.proofs.Checked.{EachBefore, IsChecked, last_first, text_checked, found}
 use Rattle.model_laws.proofs.Listed.{Pairwise, places_differ, all-filter_map, pairwise-filter_map, all-reverse, all_at, all_with}
 use Rattle.model_laws.proofs.LabelFacts.{labels_differ, positions_rise, positions_are, symbols_differ}
-use Rattle.model_laws.proofs.FrameFacts.{Facts, frame_facts, frame_known}
+use Rattle.model_laws.proofs.FrameFacts.{Facts, frame_facts, frame_known, mandatory_at}
+use Rattle.model_laws.proofs.KnownFacts.{assertion_known, mandatory_known}
+use Rattle.model_laws.proofs.KnownAt.{known_at_place, all_known_at_place}
 use Rattle.model_laws.proofs.RowFacts.{RowFacts, row_facts}
 
 -- ---- numbers from one on
@@ -174,14 +177,32 @@ module _ (kinds : Kinds) (text : List ℕ) (db : Database) (is : IsDatabaseOf ki
       let k = kept_frame e each provable l r (ap (λ rs. row_of rs l) (sym is.rows) ∙ row) in
       (k.0, is.frame l ∙ k.1, k.2)
 
+  -- the formulas of a frame are known at its place
+  known : (l : Label) (k : ℕ) (s : Statement) → EachBefore IsChecked (below (statements text) k) → IsChecked (below (statements text) k) s → is_assertion s ≡ true
+      → IsKnownAt db k (frame_at (statements text) l k s).formula × AllByRecursion (λ (h : Hyp). IsKnownAt db k h.formula) (frame_at (statements text) l k s).hyps
+  known l k s before here a =
+      let b = below (statements text) k in
+      (known_at_place (statements text) k db is.symbols (is.active_at k) (λ x. is.is_constant_at x k) (symbols_in s) (assertion_known b s here a),
+        all_known_at_place (statements text) k db is.symbols (is.active_at k) (λ x. is.is_constant_at x k) (mandatory_hypotheses (mandatory_at (statements text) k s) b)
+          (mandatory_known (mandatory_at (statements text) k s) b before))
+
+  known_frame : (l : Label) (f : Frame) → frame_of (statements text) l ≡ Some f → IsKnownAt db f.at f.formula × AllByRecursion (λ (h : Hyp). IsKnownAt db f.at h.formula) f.hyps
+  known_frame l f frame =
+      let k = frame_known (statements text) l f frame in
+      let there = found IsChecked e k.at k.statement each k.stands in
+      subst (λ (x : Frame). IsKnownAt db x.at x.formula × AllByRecursion (λ (h : Hyp). IsKnownAt db x.at h.formula) x.hyps) k.frame (known l k.at k.statement there.before there.here k.assertion)
+
   pub frames_are : (l : Label) (f : Frame) → db.frame l ≡ Some f → IsFrame db l f
   frames_are l f frame =
       let facts = frame_facts e each l f (sym (is.frame l) ∙ frame) in
+      let formulas = known_frame l f (sym (is.frame l) ∙ frame) in
       record {
         label = facts.label;
         at = facts.at ∙ ap (λ ps. get_or ps l.0 0) (sym is.positions);
         floats = facts.floats;
         variables = facts.variables;
+        formula = formulas.0;
+        hyps = formulas.1;
       }
 
   pub places_are : length db.positions ≡ length db.labels

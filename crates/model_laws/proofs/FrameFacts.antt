@@ -47,7 +47,7 @@ close_by s e (n ∷ p) is o c =
     inr (record { front = i.front; eq = i.eq ∙ ap (λ x. i.front ++ x) (sym (active-close s e o c deep)) })
 
 -- it is put before them, or some of the first are taken off
-active_step : (s : Statement) (e : List Statement) → (active (s ∷ e) ≡ s ∷ active e) ⊎ EndsIn (active e) (active (s ∷ e))
+pub active_step : (s : Statement) (e : List Statement) → (active (s ∷ e) ≡ s ∷ active e) ⊎ EndsIn (active e) (active (s ∷ e))
 active_step s e = elim (cases_Bool (has_keyword (codes "${") s)) [
     | inl o ↦ inl (active-open s e o)
     | inr o ↦ elim (cases_Bool (has_keyword (codes "$}") s)) [

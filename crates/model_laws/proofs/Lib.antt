@@ -1,8 +1,12 @@
 mod Checked
 mod DatabaseFacts
 mod FrameFacts
+mod KnownAt
+mod KnownFacts
 mod LabelFacts
 mod Listed
+mod Passing
 pub mod PathLaws
 mod RowFacts
 mod Shapes
+mod Symbols
