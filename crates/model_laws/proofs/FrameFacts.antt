@@ -15,7 +15,7 @@ use Rattle.mm_model.specs.Names.{Name, typecode}
 use Rattle.mm_model.specs.Words.{Word}
 use Rattle.mm_model.specs.Statements.{Statement, is, has_keyword, with_keyword, symbols_in, second, contains, variables, typed, path, active, active_on}
 use Rattle.mm_model.specs.Frames.{symbols, symbol_in, positions, position_of, below, hypothesis_of, formula_of, mandatory_variables, mandatory_hypotheses, frame_at, frame_of, statement_of, is_assertion}
-use Rattle.mm_model.specs.Productions.{Typed, typed_by, typed_variables, floats}
+use Rattle.mm_model.specs.Productions.{TypedVariable, typed_by, typed_variables, floats}
 use Rattle.mm_model.specs.BookFacts.{float_formula, VariablesDiffer}
 use Rattle.mm_model.proofs.Scopes.{active-open, active-plain, active-close, active_on-keep, path-close, nested, EndsIn}
 use Rattle.model_laws.proofs.Checked.{EachBefore, IsChecked, found}
@@ -213,7 +213,7 @@ module _ (names mandatory : List Name) where
   hypotheses hs = map (hypothesis_of names) hs
 
   -- the variable of a `$f`
-  abbrev pub variable_of : (h : Statement) → IsMandatory mandatory h → Typed
+  abbrev pub variable_of : (h : Statement) → IsMandatory mandatory h → TypedVariable
   variable_of h m = record { sym = symbol_in names m.variable; code = typecode (symbol_in names m.code) }
 
   typed_here : (h : Statement) → (m : IsMandatory mandatory h) → typed_by (formula_of names h) ≡ variable_of h m ∷ []
@@ -222,7 +222,7 @@ module _ (names mandatory : List Name) where
   formula_here : (h : Statement) → (m : IsMandatory mandatory h) → formula_of names h ≡ float_formula (variable_of h m)
   formula_here h m = ap (λ ns. map (symbol_in names) ns) m.symbols
 
-  abbrev pub typed_list : List Statement → List Typed
+  abbrev pub typed_list : List Statement → List TypedVariable
   typed_list hs = flat_map (λ (h : Hyp). typed_by h.formula) (hypotheses hs)
 
   pub typed_list-cons : (h : Statement) (hs : List Statement) → (m : IsMandatory mandatory h) → typed_list (h ∷ hs) ≡ variable_of h m ∷ typed_list hs
@@ -235,7 +235,7 @@ module _ (names mandatory : List Name) where
       ∙ ap (λ fs. float_formula (variable_of h m.0) ∷ fs) (formulas_are hs m.1)
       ∙ ap (λ vs. map float_formula vs) (sym (typed_list-cons h hs m.0))
 
-  abbrev pub Other : Typed → Typed → Type 0
+  abbrev pub Other : TypedVariable → TypedVariable → Type 0
   Other v w = v.sym ≡ w.sym → ⊥
 
   others : (known : (n : Name) → contains mandatory n ≡ true → contains names n ≡ true) → (h : Statement) → is_float h ≡ true → (m : IsMandatory mandatory h)
@@ -303,9 +303,9 @@ pub record Facts (ss : List Statement) (l : Label) (f : Frame) : Type 0 where
   pub floats : map (λ (h : Hyp). h.formula) (floats f.hyps) ≡ map float_formula (typed_variables f.hyps)
   pub variables : VariablesDiffer (typed_variables f.hyps)
 
-variables_differ : (vars : List Typed) → Pairwise (λ v w. v.sym ≡ w.sym → ⊥) vars → VariablesDiffer vars
+variables_differ : (vars : List TypedVariable) → Pairwise (λ v w. v.sym ≡ w.sym → ⊥) vars → VariablesDiffer vars
 variables_differ vars h i j v w e f s =
-    places_differ (λ (a b : Typed). a.sym ≡ b.sym → ⊥) (λ (a b : Typed). a.sym ≡ b.sym) (λ a b s. sym s) (λ a b r s. r s) vars h i j v w e f s
+    places_differ (λ (a b : TypedVariable). a.sym ≡ b.sym → ⊥) (λ (a b : TypedVariable). a.sym ≡ b.sym) (λ a b s. sym s) (λ a b r s. r s) vars h i j v w e f s
 
 abbrev pub mandatory_at : List Statement → ℕ → Statement → List Name
 mandatory_at ss at s = mandatory_variables (symbols ss) (below ss at) s

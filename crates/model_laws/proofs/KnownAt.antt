@@ -15,7 +15,7 @@ use Rattle.mm_model.specs.Names.{Name}
 use Rattle.mm_model.specs.Words.{Word}
 use Rattle.mm_model.specs.Statements.{Statement, is, is_one_of, body, has_keyword, has_one_of, with_keyword, symbols_in, second, contains, constants, variables, typed, active, path}
 use Rattle.mm_model.specs.Frames.{symbols, without_repeats, symbol_in, below, hypothesis_of, formula_of, is_hypothesis, active_at, is_constant_at}
-use Rattle.mm_model.specs.Productions.{Typed, typed_by, typed_variables, floats}
+use Rattle.mm_model.specs.Productions.{TypedVariable, typed_by, typed_variables, floats}
 use Rattle.mm_model.specs.Book.{Database, declared_leaf, float_of}
 use Rattle.mm_model.specs.BookFacts.{IsKnownAt}
 use Rattle.model_laws.proofs.Listed.{first_within, same_names, name_self}
@@ -89,7 +89,7 @@ module _ (ss : List Statement) (at : ℕ) where
             (λ m d. and_from (contains (variables b) m) (bytes_eq n m) (ap (contains (variables b)) (sym (same_names n m d)) ∙ h) d) names (variable_known n h) in
       numbers_of n (filter (contains (variables b)) names) (any_kept (bytes_eq n) (contains (variables b)) names both)
 
-  abbrev is_number_of : Name → Typed → Bool
+  abbrev is_number_of : Name → TypedVariable → Bool
   is_number_of n v = v.sym.0 == (symbol_in names n).0
 
   typed_stands : (n : Name) (ns : List Name) → contains (second ns) n ≡ true → list_any (is_number_of n) (typed_by (map (symbol_in names) ns)) ≡ true
@@ -124,7 +124,7 @@ module _ (ss : List Statement) (at : ℕ) where
     ]
 
   float_found : (n : Name) → contains (typed b) n ≡ true → is_some (float_of (symbol_in names n) (active_at ss at).hyps) ≡ true
-  float_found n h = found_some (is_number_of n) (λ (v : Typed). v.code) (typed_variables (active_at ss at).hyps) (float_stands n h)
+  float_found n h = found_some (is_number_of n) (λ (v : TypedVariable). v.code) (typed_variables (active_at ss at).hyps) (float_stands n h)
 
   -- ---- in the database of the text
 

@@ -19,7 +19,7 @@ use Rattle.mm_model.specs.Names.{Name}
 use Rattle.mm_model.specs.Words.{Word}
 use Rattle.mm_model.specs.Statements.{Statement, is, is_one_of, body, has_keyword, has_one_of, with_keyword, symbols_in, second, contains, constants, variables, typed, active, active_on, path}
 use Rattle.mm_model.specs.Frames.{symbols, without_repeats, symbol_in, below, hypothesis_of, formula_of, is_hypothesis, is_assertion, active_variables, active_at, is_constant_at, mandatory_hypotheses, frame_at}
-use Rattle.mm_model.specs.Productions.{Typed, typed_by, typed_variables, floats}
+use Rattle.mm_model.specs.Productions.{TypedVariable, typed_by, typed_variables, floats}
 use Rattle.mm_model.specs.Book.{Database, declared_leaf, float_of}
 use Rattle.mm_model.specs.BookFacts.{IsKnownAt}
 use Rattle.mm_model.proofs.Lists.{listed, listed-append, listed-cons, added}

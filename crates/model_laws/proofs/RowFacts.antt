@@ -19,7 +19,7 @@ use Rattle.mm_model.specs.declared.rows.Production.{Production}
 use Rattle.mm_model.specs.Names.{Name, typecode}
 use Rattle.mm_model.specs.Statements.{Statement, has_keyword, with_keyword, symbols_in, contains, variables, active, is_empty}
 use Rattle.mm_model.specs.Frames.{symbols, symbol_in, below, hypothesis_of, formula_of, mandatory_hypotheses, frame_at, frame_of}
-use Rattle.mm_model.specs.Productions.{Typed, typed_variables, floats, essentials, item_of, has_repeats, row_with, row_of_frame, is_syntax, begins_with}
+use Rattle.mm_model.specs.Productions.{TypedVariable, typed_variables, floats, essentials, item_of, has_repeats, row_with, row_of_frame, is_syntax, begins_with}
 use Rattle.mm_model.specs.Rows.{slot_order, place_of, EachOnce, IsRow}
 use Rattle.mm_model.specs.BookFacts.{VariablesDiffer, IsRowFrame, item_symbol, float_formula}
 use Rattle.model_laws.proofs.Checked.{EachBefore, IsChecked, found}
@@ -108,7 +108,7 @@ no_essential names mandatory b e =
 same_sym : (s t : Sym) → (s.0 == t.0) ≡ true → s ≡ t
 same_sym s t e = ap (λ (n : ℕ). let x : Sym = record { 0 = n } in x) (eqb-true s.0 t.0 e)
 
-abbrev is_of : Sym → Typed → Bool
+abbrev is_of : Sym → TypedVariable → Bool
 is_of s v = v.sym.0 == s.0
 
 position_some : {X : Type 0} (p : X → Bool) (xs : List X) (k : ℕ) → position p xs ≡ Some k → (k < length xs) × (position_or_len p xs ≡ k)
@@ -118,10 +118,10 @@ position_some p xs k e =
     (subst (λ (n : ℕ). n < length xs) both.1 less, both.1)
 
 -- what stands at a number that was found
-pub slot_stands : (vars : List Typed) (s : Sym) (k : ℕ) → position (is_of s) vars ≡ Some k → (v : Typed) × (slice_get vars k ≡ Some v) × (v.sym ≡ s)
+pub slot_stands : (vars : List TypedVariable) (s : Sym) (k : ℕ) → position (is_of s) vars ≡ Some k → (v : TypedVariable) × (slice_get vars k ≡ Some v) × (v.sym ≡ s)
 slot_stands vars s k e =
     let at = position_some (is_of s) vars k e in
-    let d : Typed = record { sym = s; code = typecode s } in
+    let d : TypedVariable = record { sym = s; code = typecode s } in
     let less : position_or_len (is_of s) vars < length vars = subst (λ (n : ℕ). n < length vars) (sym at.1) at.0 in
     let pass = passes_at_first (is_of s) vars d less in
     (get_or vars k d, slice_get-get_or vars k d at.0, same_sym (get_or vars k d).sym s (ap (λ (n : ℕ). is_of s (get_or vars n d)) (sym at.1) ∙ pass))
@@ -135,7 +135,7 @@ first_of_two p (y ∷ xs) (suc k) x e h = elim (cases_Bool (p y)) [
   ]
 
 -- a variable of the frame is found at its own number
-found_at : (vars : List Typed) → VariablesDiffer vars → (k : ℕ) (v : Typed) → slice_get vars k ≡ Some v → position (is_of v.sym) vars ≡ Some k
+found_at : (vars : List TypedVariable) → VariablesDiffer vars → (k : ℕ) (v : TypedVariable) → slice_get vars k ≡ Some v → position (is_of v.sym) vars ≡ Some k
 found_at vars differ k v e =
     let less = first_of_two (is_of v.sym) vars k v e (eq-eqb v.sym.0 v.sym.0 refl) in
     let n = position_or_len (is_of v.sym) vars in
@@ -150,43 +150,43 @@ abbrev by_place : Sym → Option ℕ → Item
 by_place s None = Const s
 by_place s (Some k) = Slot k
 
-item-by : (vars : List Typed) (s : Sym) (o : Option ℕ) → position (is_of s) vars ≡ o → item_of vars s ≡ by_place s o
+item-by : (vars : List TypedVariable) (s : Sym) (o : Option ℕ) → position (is_of s) vars ≡ o → item_of vars s ≡ by_place s o
 item-by vars s None e = rw e refl
 item-by vars s (Some k) e = rw e refl
 
-symbol-by : (vars : List Typed) (s : Sym) (o : Option ℕ) → position (is_of s) vars ≡ o → item_symbol vars (item_of vars s) ≡ s
+symbol-by : (vars : List TypedVariable) (s : Sym) (o : Option ℕ) → position (is_of s) vars ≡ o → item_symbol vars (item_of vars s) ≡ s
 symbol-by vars s None e = ap (item_symbol vars) (item-by vars s None e)
 symbol-by vars s (Some k) e =
     let at = slot_stands vars s k e in
     ap (item_symbol vars) (item-by vars s (Some k) e) ∙ rw at.1 at.2
 
-pub symbols_back : (vars : List Typed) (ss : List Sym) → map (item_symbol vars) (map (item_of vars) ss) ≡ ss
+pub symbols_back : (vars : List TypedVariable) (ss : List Sym) → map (item_symbol vars) (map (item_of vars) ss) ≡ ss
 symbols_back vars [] = refl
 symbols_back vars (s ∷ ss) =
     ap (λ x. x ∷ map (item_symbol vars) (map (item_of vars) ss)) (symbol-by vars s (position (is_of s) vars) refl) ∙ ap (λ xs. s ∷ xs) (symbols_back vars ss)
 
 -- ---- the order of the slots
 
-abbrev order : List Typed → List Sym → List ℕ
+abbrev order : List TypedVariable → List Sym → List ℕ
 order vars ss = slot_order (map (item_of vars) ss)
 
-order-cons : (vars : List Typed) (s : Sym) (ss : List Sym) (o : Option ℕ) → position (is_of s) vars ≡ o → order vars (s ∷ ss) ≡ slot_order (by_place s o ∷ map (item_of vars) ss)
+order-cons : (vars : List TypedVariable) (s : Sym) (ss : List Sym) (o : Option ℕ) → position (is_of s) vars ≡ o → order vars (s ∷ ss) ≡ slot_order (by_place s o ∷ map (item_of vars) ss)
 order-cons vars s ss o e = ap (λ i. slot_order (i ∷ map (item_of vars) ss)) (item-by vars s o e)
 
-within_by : (vars : List Typed) (s : Sym) (ss : List Sym) (o : Option ℕ) → position (is_of s) vars ≡ o → AllByRecursion (λ k. k < length vars) (order vars ss) → AllByRecursion (λ k. k < length vars) (order vars (s ∷ ss))
+within_by : (vars : List TypedVariable) (s : Sym) (ss : List Sym) (o : Option ℕ) → position (is_of s) vars ≡ o → AllByRecursion (λ k. k < length vars) (order vars ss) → AllByRecursion (λ k. k < length vars) (order vars (s ∷ ss))
 within_by vars s ss None e h = subst (AllByRecursion (λ k. k < length vars)) (sym (order-cons vars s ss None e)) h
 within_by vars s ss (Some k) e h = subst (AllByRecursion (λ k. k < length vars)) (sym (order-cons vars s ss (Some k) e)) ((position_some (is_of s) vars k e).0, h)
 
-order_within : (vars : List Typed) (ss : List Sym) → AllByRecursion (λ k. k < length vars) (order vars ss)
+order_within : (vars : List TypedVariable) (ss : List Sym) → AllByRecursion (λ k. k < length vars) (order vars ss)
 order_within vars [] = tt
 order_within vars (s ∷ ss) = within_by vars s ss (position (is_of s) vars) refl (order_within vars ss)
 
-has_by : (vars : List Typed) (k : ℕ) (s : Sym) (ss : List Sym) (o : Option ℕ) → position (is_of s) vars ≡ o → list_any (nat_eq k) (order vars ss) ≡ true → list_any (nat_eq k) (order vars (s ∷ ss)) ≡ true
+has_by : (vars : List TypedVariable) (k : ℕ) (s : Sym) (ss : List Sym) (o : Option ℕ) → position (is_of s) vars ≡ o → list_any (nat_eq k) (order vars ss) ≡ true → list_any (nat_eq k) (order vars (s ∷ ss)) ≡ true
 has_by vars k s ss None e h = ap (list_any (nat_eq k)) (order-cons vars s ss None e) ∙ h
 has_by vars k s ss (Some j) e h = ap (list_any (nat_eq k)) (order-cons vars s ss (Some j) e) ∙ elim (cases_Bool (nat_eq k j)) [ inl d ↦ rw d refl | inr d ↦ rw d h ]
 
 -- where a symbol of the text is the variable of a number
-order_has : (vars : List Typed) (names : List Name) (k : ℕ) (n : Name) (ns : List Name) → position (is_of (symbol_in names n)) vars ≡ Some k → contains ns n ≡ true
+order_has : (vars : List TypedVariable) (names : List Name) (k : ℕ) (n : Name) (ns : List Name) → position (is_of (symbol_in names n)) vars ≡ Some k → contains ns n ≡ true
     → list_any (nat_eq k) (order vars (map (symbol_in names) ns)) ≡ true
 order_has vars names k n [] e h = absurd cc
 order_has vars names k n (m ∷ ns) e h = elim (or_cases (bytes_eq n m) (contains ns n) h) [
@@ -247,13 +247,13 @@ all_none p (x ∷ xs) e = elim (cases_Bool (p x)) [
     | inr d ↦ let bad : ◌≡◌ {A = List _} (x ∷ filter (λ x. not (p x)) xs) [] = rw d at e in absurd cc
   ]
 
-typed_from : (names mandatory : List Name) (hs : List Statement) → AllByRecursion (IsMandatory mandatory) hs → (k : ℕ) (v : Typed) → slice_get (typed_list names mandatory hs) k ≡ Some v
+typed_from : (names mandatory : List Name) (hs : List Statement) → AllByRecursion (IsMandatory mandatory) hs → (k : ℕ) (v : TypedVariable) → slice_get (typed_list names mandatory hs) k ≡ Some v
     → (n : Name) × (contains mandatory n ≡ true) × (v.sym ≡ symbol_in names n)
 typed_from names mandatory [] ms k v e = absurd cc
 typed_from names mandatory (h ∷ hs) ms zero v e =
     let first : slice_get (variable_of names mandatory h ms.0 ∷ typed_list names mandatory hs) 0 ≡ Some v = subst (λ vs. slice_get vs 0 ≡ Some v) (typed_list-cons names mandatory h hs ms.0) e in
     let same : variable_of names mandatory h ms.0 ≡ v = cc in
-    (ms.0.variable, ms.0.listed, ap (λ (x : Typed). x.sym) (sym same))
+    (ms.0.variable, ms.0.listed, ap (λ (x : TypedVariable). x.sym) (sym same))
 typed_from names mandatory (h ∷ hs) ms (suc k) v e =
     typed_from names mandatory hs ms.1 k v (subst (λ vs. slice_get vs (suc k) ≡ Some v) (typed_list-cons names mandatory h hs ms.0) e)
 
@@ -274,16 +274,16 @@ in_formula ss at s c rest is constant none n h =
     ]
 
 -- the vars of a frame at their places, and all of them in this text
-record IsText (vars : List Typed) (names : List Name) (ns : List Name) : Type 0 where
+record IsText (vars : List TypedVariable) (names : List Name) (ns : List Name) : Type 0 where
   differ : VariablesDiffer vars
-  stand : (k : ℕ) (v : Typed) → slice_get vars k ≡ Some v → (n : Name) × (contains ns n ≡ true) × (v.sym ≡ symbol_in names n)
+  stand : (k : ℕ) (v : TypedVariable) → slice_get vars k ≡ Some v → (n : Name) × (contains ns n ≡ true) × (v.sym ≡ symbol_in names n)
 
-each_once : (vars : List Typed) (names ns : List Name) → IsText vars names ns → has_repeats (order vars (map (symbol_in names) ns)) ≡ false
+each_once : (vars : List TypedVariable) (names ns : List Name) → IsText vars names ns → has_repeats (order vars (map (symbol_in names) ns)) ≡ false
     → EachOnce (length vars) (order vars (map (symbol_in names) ns))
 each_once vars names ns t repeats = record {
   within = λ j l. all_get (λ k. k < length vars) (order vars (map (symbol_in names) ns)) (order_within vars (map (symbol_in names) ns)) j l;
   found = λ k l.
-      let d : Typed = record { sym = symbol_in names []; code = typecode (symbol_in names []) } in
+      let d : TypedVariable = record { sym = symbol_in names []; code = typecode (symbol_in names []) } in
       let v = get_or vars k d in
       let e = slice_get-get_or vars k d l in
       let n = t.stand k v e in
@@ -305,7 +305,7 @@ made f c rest = record {
     at = f.at;
     gives = typecode c;
     items = map (item_of (typed_variables f.hyps)) rest;
-    slots = map (λ (v : Typed). v.code) (typed_variables f.hyps)
+    slots = map (λ (v : TypedVariable). v.code) (typed_variables f.hyps)
   }
 
 row_at : (ss : List Statement) (l : Label) (at : ℕ) (s : Statement) → EachBefore IsChecked (below ss at) → IsChecked (below ss at) s → Facts ss l (frame_at ss l at s)
@@ -327,7 +327,7 @@ row_at ss l at s each here facts axiom_ syntax_ a n ns is repeats =
               let m = typed_from names mandatory hs (floats_mandatory mandatory b each) k v (subst (λ vs. slice_get vs k ≡ Some v) (typed_at ss l at s) e) in
               (m.0, in_formula ss at s a (n ∷ ns) is constant none m.0 m.1, m.2);
         } in
-    let long : length (map (λ (v : Typed). v.code) vars) ≡ length vars = length-map vars (λ (v : Typed). v.code) in
+    let long : length (map (λ (v : TypedVariable). v.code) vars) ≡ length vars = length-map vars (λ (v : TypedVariable). v.code) in
     record {
       row = record {
         written = λ e. absurd (filled (item_of vars (symbol_in names n)) (map (item_of vars) (map (symbol_in names) ns)) e);
