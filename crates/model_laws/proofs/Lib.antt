@@ -5,6 +5,7 @@ mod KnownAt
 mod KnownFacts
 mod LabelFacts
 mod Listed
+mod OneDatabase
 mod Passing
 pub mod PathLaws
 mod RowFacts

@@ -1,5 +1,6 @@
 -- What holds of the database of a text without a fault, law by law.
 use Rattle.std.specs.Prelude.{◌≡◌, ℕ, List, length, Some, None}
+use Rattle.mm_base.specs.declared.symbols.Sym.{Sym}
 use Rattle.mm_base.specs.declared.symbols.Label.{Label}
 use Rattle.mm_base.specs.declared.kinds.Kinds.{Kinds}
 use Rattle.mm_model.specs.declared.frames.Frame.{Frame}
@@ -41,3 +42,23 @@ RowsAreFrames = OfEach (λ db. (l : Label) (r : Production) → row_of db.rows l
 -- all that worksheets rest on
 abbrev pub HasDatabaseFacts : Type 0
 HasDatabaseFacts = OfEach (λ db. IsDatabase db)
+
+-- two databases that are one in what they answer
+pub record Agree (db other : Database) : Type 0 where
+  pub provable : db.provable ≡ other.provable
+  pub logic : db.logic ≡ other.logic
+  pub symbols : db.symbols ≡ other.symbols
+  pub labels : db.labels ≡ other.labels
+  pub positions : db.positions ≡ other.positions
+  pub statement_count : db.statement_count ≡ other.statement_count
+  pub frame : (l : Label) → db.frame l ≡ other.frame l
+  pub active_at : (place : ℕ) → db.active_at place ≡ other.active_at place
+  pub is_constant_at : (s : Sym) (place : ℕ) → db.is_constant_at s place ≡ other.is_constant_at s place
+  pub place_after : (l : Label) → db.place_after l ≡ other.place_after l
+  pub float_codes : (place : ℕ) → db.float_codes place ≡ other.float_codes place
+  pub rows : db.rows ≡ other.rows
+  pub usable : (l : Label) → db.usable l ≡ other.usable l
+
+-- a text has one database under given kinds
+abbrev pub TextHasOneDatabase : Type 0
+TextHasOneDatabase = (kinds : Kinds) (text : List ℕ) (db other : Database) → IsDatabaseOf kinds text db → IsDatabaseOf kinds text other → Agree db other

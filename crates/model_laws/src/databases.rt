@@ -1,4 +1,4 @@
-ghost use Rattle.model_laws.specs.DatabaseLaws.{FramesAreWhole, HasDatabaseFacts, LabelsAreDistinct, PositionsRise, RowsAreAGrammar, RowsAreFrames, SymbolsAreDistinct};
+ghost use Rattle.model_laws.specs.DatabaseLaws.{FramesAreWhole, HasDatabaseFacts, LabelsAreDistinct, PositionsRise, RowsAreAGrammar, RowsAreFrames, SymbolsAreDistinct, TextHasOneDatabase};
 
 /// No two labels of a database without a fault are one.
 pub fn labels_are_distinct()
@@ -39,5 +39,11 @@ pub fn rows_are_frames()
 /// All that worksheets rest on holds of the database of a text without a fault.
 pub fn has_database_facts()
     ensures { HasDatabaseFacts }
+{
+}
+
+/// A text has one database under given kinds: two of them answer alike.
+pub fn text_has_one_database()
+    ensures { TextHasOneDatabase }
 {
 }
