@@ -1,11 +1,11 @@
 -- The code at a token, by how far its statement has come.
-use Rattle.std.proofs.Common.{◌≡◌, ℕ, suc, Bool, true, false, cond, not, ◌&&◌, ◌||◌, ◌==◌, eqb, List, [], ◌∷◌, ◌++◌, length, Option, Some, None, take, map, refl, sym, ap, ◌∙◌, inl, inr, subst, codes, nat_lt, nat_le, arith, option_map}
+use Rattle.std.proofs.Common.{◌≡◌, ℕ, suc, Bool, true, false, cond, not, ◌&&◌, ◌||◌, eqb, List, [], ◌∷◌, length, Option, Some, None, take, map, refl, codes, nat_lt, nat_le, arith, option_map}
 use Rattle.std.specs.List.{list_any, list_all, take_while}
 use Rattle.std.proofs.lemmas.Bool.Decides.{nat_tests}
 use Rattle.mm_model.specs.Faults.{first_code_within}
 use Rattle.mm_model.specs.Words.{Word, word}
 use Rattle.mm_model.specs.Names.{is_label_byte}
-use Rattle.mm_model.specs.Statements.{Statement, Rule, token_rules, is, is_one_of, is_word, is_empty, is_label_alone, labelled, unended, ended, contains, symbols_in, labels, path, is_constant, is_variable, is_typed, variables_ever, redeclared, not_active, no_type, two_types, first_not_const, label_taken, label_extra, bad_label, distinct_twice, const_in_block, block_unopened, stray_token}
+use Rattle.mm_model.specs.Statements.{Statement, Rule, token_rules, is, is_one_of, is_word, is_empty, is_label_alone, labelled, unended, ended, contains, labels, path, is_constant, is_variable, is_typed, variables_ever, redeclared, not_active, no_type, two_types, first_not_const, label_taken, label_extra, bad_label, distinct_twice, const_in_block, block_unopened, stray_token}
 
 abbrev pub code_at : List Word → Word → List Word → Option ℕ
 code_at before w after = first_code_within token_rules before w after

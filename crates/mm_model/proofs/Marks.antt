@@ -1,9 +1,9 @@
 -- What the reader keeps of the active statements, as a list that is cut back at `$}`.
-use Rattle.std.proofs.Common.{◌≡◌, ℕ, zero, suc, ◌+◌, ◌<◌, ◌≤◌, Bool, true, false, cond, List, [], ◌∷◌, ◌++◌, length, take, drop, reverse, refl, sym, ap, ◌∙◌, subst, arith, codes, flat_map}
+use Rattle.std.proofs.Common.{◌≡◌, ℕ, suc, ◌<◌, true, false, List, [], ◌∷◌, ◌++◌, length, take, drop, reverse, refl, sym, ap, ◌∙◌, subst, arith, codes, flat_map}
 use Rattle.std.proofs.lemmas.Grind.{flat_map-append}
 use Rattle.std.proofs.lemmas.List.{reverse-append, length-reverse}
-use Rattle.mm_model.specs.Statements.{Statement, has_keyword, with_keyword, path, active_on, active}
-use Rattle.mm_model.proofs.Scopes.{active_on-skip, active_on-keep, active_on-fresh, active-open, active-plain, active-close, path-open, path-close, path-plain, nested, length-drop-lt, drop-tail}
+use Rattle.mm_model.specs.Statements.{Statement, has_keyword, path, active_on, active}
+use Rattle.mm_model.proofs.Scopes.{active_on-skip, active_on-keep, active-open, active-plain, active-close, path-open, path-close, path-plain, nested, length-drop-lt, drop-tail}
 use Rattle.mm_model.proofs.Lists.{added, listed, listed-cons}
 
 -- what g takes of each active statement, the nearest first
@@ -64,7 +64,7 @@ marks-over g s e k (m ∷ ms) o c there h =
     let less : k < length (drop 1 (path e)) = within (path e) k h.0 in
     let deep : k < length (path (s ∷ e)) = subst (λ (p : List ℕ). k < length p) (sym (path-close s e o c)) less in
     let same : active_on (drop (suc k) (path (s ∷ e))) (s ∷ e) ≡ active_on (drop (suc (suc k)) (path e)) e =
-          ap (λ (p : List ℕ). active_on (drop (suc k) p) (s ∷ e)) (path-close s e o c) ∙ ap (λ (p : List ℕ). active_on p (s ∷ e)) (drop-tail (suc k) (path e)) ∙ active_on-skip (drop (suc (suc k)) (path e)) s e (length-drop-lt (suc k) (path e) there) in
+    ap (λ (p : List ℕ). active_on (drop (suc k) p) (s ∷ e)) (path-close s e o c) ∙ ap (λ (p : List ℕ). active_on p (s ∷ e)) (drop-tail (suc k) (path e)) ∙ active_on-skip (drop (suc (suc k)) (path e)) s e (length-drop-lt (suc k) (path e) there) in
     (deep, h.1 ∙ ap (λ (ss : List Statement). length (flat_map g ss)) (sym same), marks-over g s e (suc k) ms o c there h.2)
   where
     within : (p : List ℕ) (k : ℕ) → suc k < length p → k < length (drop 1 p)

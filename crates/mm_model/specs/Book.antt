@@ -1,7 +1,6 @@
 -- A database, as the definitions on worksheets see it.
-use Rattle.std.specs.Prelude.{◌≡◌, ℕ, ◌==◌, ◌≤◌, ◌<◌, Bool, true, false, List, [], ◌∷◌, length, map, drop, find, position, unwrap_or, slice_index_or, Option, Some, None, option_map, if◌then◌else◌}
-use Rattle.std.specs.List.{AllZip, AllByRecursion, list_any, filter_map}
-use Rattle.std.specs.Str.{bytes_eq}
+use Rattle.std.specs.Prelude.{◌≡◌, ℕ, ◌==◌, ◌≤◌, Bool, List, [], ◌∷◌, length, drop, find, unwrap_or, slice_index_or, Option, Some, None, option_map, if◌then◌else◌}
+use Rattle.std.specs.List.{AllZip, list_any, filter_map}
 use Rattle.mm_base.specs.declared.symbols.Sym.{Sym}
 use Rattle.mm_base.specs.declared.symbols.Label.{Label}
 use Rattle.mm_base.specs.declared.symbols.Typecode.{Typecode}
@@ -77,8 +76,8 @@ abbrev pub declared_leaf : Database → ℕ → Sym → Option Leaf
 declared_leaf db place s =
     if db.is_constant_at s place then Some (leaf.Const s)
     else (if list_any (λ (v : Sym). v.0 == s.0) (db.active_at place).variables
-      then option_map (λ c. leaf.Var s c) (float_of s (db.active_at place).hyps)
-      else None)
+    then option_map (λ c. leaf.Var s c) (float_of s (db.active_at place).hyps)
+    else None)
 
 -- the expression behind the typecode of a formula
 abbrev pub expression_at : Database → ℕ → List Sym → List Leaf

@@ -1,9 +1,8 @@
 -- What holds of the database of a text without a fault.
-use Rattle.std.specs.Prelude.{◌≡◌, ◌≢◌, ◌<◌, ℕ, ◌==◌, not, true, List, [], ◌∷◌, length, map, drop, filter, slice_get, is_some, Option, Some}
+use Rattle.std.specs.Prelude.{◌≡◌, ◌<◌, ℕ, not, true, List, [], ◌∷◌, length, map, drop, filter, slice_get, is_some, Option, Some}
 use Rattle.std.specs.List.{AllByRecursion}
 use Rattle.mm_base.specs.declared.symbols.Sym.{Sym}
 use Rattle.mm_base.specs.declared.symbols.Label.{Label}
-use Rattle.mm_base.specs.declared.symbols.Typecode.{Typecode}
 use Rattle.mm_model.specs.declared.frames.Hyp.{Hyp}
 use Rattle.mm_model.specs.declared.frames.Frame.{Frame}
 use Rattle.mm_model.specs.declared.rows.Item.{Item}

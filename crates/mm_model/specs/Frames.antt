@@ -98,10 +98,10 @@ active_pairs names vars before = map (pair_of names) (pairs_with (with_keyword (
 -- what is active at a place
 abbrev pub active_at : List Statement → ℕ → Active
 active_at ss place = record {
-    variables = map (symbol_in (symbols ss)) (active_variables (symbols ss) (below ss place));
-    hyps = map (hypothesis_of (symbols ss)) (filter is_hypothesis (reverse (active (below ss place))));
-    pairs = active_pairs (symbols ss) (active_variables (symbols ss) (below ss place)) (below ss place)
-  }
+  variables = map (symbol_in (symbols ss)) (active_variables (symbols ss) (below ss place));
+  hyps = map (hypothesis_of (symbols ss)) (filter is_hypothesis (reverse (active (below ss place))));
+  pairs = active_pairs (symbols ss) (active_variables (symbols ss) (below ss place)) (below ss place);
+}
 
 -- the typecodes of the `$f` below a place, whether active there or not
 abbrev pub float_codes : List Statement → ℕ → List Typecode
@@ -130,7 +130,7 @@ frame_at ss l at s =
       at = at;
       formula = formula_of (symbols ss) s;
       hyps = map (hypothesis_of (symbols ss)) (mandatory_hypotheses mandatory (below ss at));
-      pairs = active_pairs (symbols ss) mandatory (below ss at)
+      pairs = active_pairs (symbols ss) mandatory (below ss at);
     }
 
 -- a `$a` or a `$p`

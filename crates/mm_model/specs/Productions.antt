@@ -2,7 +2,6 @@
 use Rattle.std.specs.Prelude.{ℕ, ◌==◌, Bool, true, false, not, ◌&&◌, List, [], ◌∷◌, length, map, filter, position, option_and_then, nat_eq, Option, Some, None, if◌then◌else◌}
 use Rattle.std.specs.List.{list_any, filter_map, flat_map, range_with_len}
 use Rattle.mm_base.specs.declared.symbols.Sym.{Sym}
-use Rattle.mm_base.specs.declared.symbols.Pair.{Pair}
 use Rattle.mm_base.specs.declared.symbols.Typecode.{Typecode}
 use Rattle.mm_model.specs.declared.frames.Hyp.{Hyp}
 use Rattle.mm_model.specs.declared.frames.Frame.{Frame}
@@ -55,12 +54,12 @@ abbrev pub row_with : Frame → List Sym → Option Production
 row_with f [] = None
 row_with f (c ∷ []) = None
 row_with f (c ∷ s ∷ rest) = Some (record {
-    label = f.label;
-    at = f.at;
-    gives = typecode c;
-    items = map (item_of (typed_variables f.hyps)) (s ∷ rest);
-    slots = map (λ (v : TypedVariable). v.code) (typed_variables f.hyps)
-  })
+  label = f.label;
+  at = f.at;
+  gives = typecode c;
+  items = map (item_of (typed_variables f.hyps)) (s ∷ rest);
+  slots = map (λ (v : TypedVariable). v.code) (typed_variables f.hyps);
+})
 
 -- whether a symbol string begins with this symbol
 abbrev pub begins_with : Sym → List Sym → Bool

@@ -177,16 +177,16 @@ const_in_block before w after = is (codes "$c") w && not (is_empty (path (ended 
 abbrev pub redeclared : Rule
 redeclared before w after =
     (is_symbol_of (codes "$c" ∷ []) before w
-      && (is_constant before w || contains (variables_ever (ended before)) w.bytes || stands_in_statement before w))
+    && (is_constant before w || contains (variables_ever (ended before)) w.bytes || stands_in_statement before w))
     || (is_symbol_of (codes "$v" ∷ []) before w && (is_constant before w || is_variable before w || stands_in_statement before w))
 
 -- 13: in `$e $a $p`, and first in `$f`, neither a constant nor an active variable; in `$d`, and second in `$f`, no active variable
 abbrev pub not_active : Rule
 not_active before w after =
     ((is_symbol_of asserting before w || (is_symbol_of (codes "$f" ∷ []) before w && is_first before))
-      && not (is_constant before w) && not (is_variable before w))
+    && not (is_constant before w) && not (is_variable before w))
     || ((is_symbol_of (codes "$d" ∷ []) before w || (is_symbol_of (codes "$f" ∷ []) before w && rank before == 1))
-      && not (is_variable before w))
+    && not (is_variable before w))
 
 -- 14: in `$e $a $p`, past the first, a variable without an active `$f`
 abbrev pub no_type : Rule

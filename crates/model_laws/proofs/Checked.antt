@@ -10,7 +10,7 @@ use Rattle.std.proofs.lemmas.Option.{slice_get_within}
 use Rattle.mm_model.specs.Faults.{Fault, fault, or_else, first_code_within, first_fault_within}
 use Rattle.mm_model.specs.Words.{Word}
 use Rattle.mm_model.specs.Tokens.{tokens, token_fault}
-use Rattle.mm_model.specs.Statements.{Statement, Rule, token_rules, ended, unended, ends_statement, statements, end_fault, statement_fault, database_fault}
+use Rattle.mm_model.specs.Statements.{Statement, Rule, token_rules, ended, unended, ends_statement, end_fault, statement_fault, database_fault}
 use Rattle.mm_model.proofs.Lists.{ended-on, ended-end, unended-on, unended-end}
 use Rattle.mm_model.specs.Frames.{below}
 
@@ -81,9 +81,10 @@ Looked e front (w ∷ rest) after = At e front w (rest ++ after) × Looked e (fr
 
 looked-push : (e : List Statement) (front rest : List Word) (w : Word) (after : List Word) → Looked e front rest (w ∷ after) → At e (front ++ rest) w after → Looked e front (rest ++ w ∷ []) after
 looked-push e front [] w after h at = (subst (λ f. At e f w after) (append-nil front) at, tt)
-looked-push e front (x ∷ rest) w after h at =
-    (subst (λ a. At e front x a) (sym (append_assoc rest (w ∷ []) after)) h.0,
-      looked-push e (front ++ x ∷ []) rest w after h.1 (subst (λ f. At e f w after) (sym (append_assoc front (x ∷ []) rest)) at))
+looked-push e front (x ∷ rest) w after h at = (
+  subst (λ a. At e front x a) (sym (append_assoc rest (w ∷ []) after)) h.0,
+  looked-push e (front ++ x ∷ []) rest w after h.1 (subst (λ f. At e f w after) (sym (append_assoc front (x ∷ []) rest)) at),
+)
 
 -- a statement whose tokens passed every rule, behind these statements, the nearest first
 pub record IsChecked (e : List Statement) (s : Statement) : Type 0 where
@@ -102,16 +103,16 @@ pub record Split (before after : List Word) : Type 0 where
 split_on : (w : Word) (before after : List Word) → NoRule before w after → Split before (w ∷ after) → Split (w ∷ before) after
 split_on w before after h s =
     let whole : Looked (ended before) [] (unended before ++ w ∷ []) after =
-          looked-push (ended before) [] (unended before) w after s.looked (record { before = before; ended_is = refl; unended_is = refl; no_rule = h }) in
+    looked-push (ended before) [] (unended before) w after s.looked (record { before = before; ended_is = refl; unended_is = refl; no_rule = h }) in
     elim (cases_Bool (ends_statement w)) [
       | inl e ↦ record {
-          checked = subst (λ x. EachBefore IsChecked x) (sym (ended-end w before e)) (record { after = after; looked = whole }, s.checked);
-          looked = subst (λ x. Looked (ended (w ∷ before)) [] x after) (sym (unended-end w before e)) tt;
-        }
+        checked = subst (λ x. EachBefore IsChecked x) (sym (ended-end w before e)) (record { after = after; looked = whole }, s.checked);
+        looked = subst (λ x. Looked (ended (w ∷ before)) [] x after) (sym (unended-end w before e)) tt;
+      }
       | inr e ↦ record {
-          checked = subst (λ x. EachBefore IsChecked x) (sym (ended-on w before e)) s.checked;
-          looked = subst (λ x. Looked x [] (unended (w ∷ before)) after) (sym (ended-on w before e)) (subst (λ x. Looked (ended before) [] x after) (sym (unended-on w before e)) whole);
-        }
+        checked = subst (λ x. EachBefore IsChecked x) (sym (ended-on w before e)) s.checked;
+        looked = subst (λ x. Looked x [] (unended (w ∷ before)) after) (sym (ended-on w before e)) (subst (λ x. Looked (ended before) [] x after) (sym (unended-on w before e)) whole);
+      }
     ]
 
 splits : (before after : List Word) → Cleaned before after → Split before after
@@ -159,14 +160,14 @@ found P (t ∷ e) at s h is =
           let within : at < length (reverse e) = omega (arith, l, length-reverse e) in
           let f = found P e at s h.1 (sym (slice_get-left (reverse e) (t ∷ []) at within) ∙ there) in
           let same : below (reverse e) at ≡ below (reverse (t ∷ e)) at =
-                ap (λ x. reverse x) (sym (take-append-le at (reverse e) (t ∷ []) (omega (arith, within))) ∙ ap (λ x. take at x) (sym turned)) in
+          ap (λ x. reverse x) (sym (take-append-le at (reverse e) (t ∷ []) (omega (arith, within))) ∙ ap (λ x. take at x) (sym turned)) in
           record { here = subst (λ b. P b s) same f.here; before = subst (λ b. EachBefore P b) same f.before }
       | inr l ↦
           let within = slice_get_within (reverse e ++ t ∷ []) at s there in
           let last : length (reverse e) ≡ at = grow (reverse e) t at within (omega (arith, l, length-reverse e)) in
           let is_t : t ≡ s = slice_get-last (reverse e) t s at last there in
           let same : e ≡ below (reverse (t ∷ e)) at =
-                sym (reverse-reverse e) ∙ ap (λ x. reverse x) (sym (take_at (reverse e) (t ∷ []) at last) ∙ ap (λ x. take at x) (sym turned)) in
+          sym (reverse-reverse e) ∙ ap (λ x. reverse x) (sym (take_at (reverse e) (t ∷ []) at last) ∙ ap (λ x. take at x) (sym turned)) in
           record { here = subst (λ b. P b s) same (subst (λ x. P e x) is_t h.0); before = subst (λ b. EachBefore P b) same h.1 }
     ]
   where

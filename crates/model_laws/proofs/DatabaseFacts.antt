@@ -1,10 +1,8 @@
 -- The database of a text without a fault has the facts that worksheets rest on.
-use Rattle.std.proofs.Common.{◌≡◌, ◌<◌, ◌≤◌, ◌+◌, ℕ, zero, suc, Bool, true, false, cond, List, [], ◌∷◌, length, reverse, Option, Some, None, option_map, refl, sym, ap, ◌∙◌, arith, subst, inl, inr, get_or}
+use Rattle.std.proofs.Common.{◌≡◌, ◌<◌, ◌+◌, ℕ, zero, suc, true, List, [], ◌∷◌, length, reverse, Option, Some, None, sym, ap, ◌∙◌, arith, subst, inl, inr, get_or}
 use Rattle.std.specs.Prelude.{fold}
-use Rattle.std.specs.Option.{option_and_then}
-use Rattle.std.specs.List.{AllByRecursion, All, slice_get, filter_map, range_with_len}
+use Rattle.std.specs.List.{AllByRecursion, filter_map, range_with_len}
 use Rattle.std.proofs.lemmas.Bool.{cases_Bool}
-use Rattle.std.proofs.lemmas.Option.{slice_get-get_or}
 use Rattle.mm_base.specs.declared.symbols.Sym.{Sym}
 use Rattle.mm_base.specs.declared.symbols.Label.{Label}
 use Rattle.mm_base.specs.declared.symbols.Typecode.{Typecode}
@@ -12,21 +10,21 @@ use Rattle.mm_base.specs.declared.kinds.Kinds.{Kinds}
 use Rattle.mm_model.specs.declared.frames.Frame.{Frame}
 use Rattle.mm_model.specs.declared.frames.Hyp.{Hyp}
 use Rattle.mm_model.specs.declared.rows.Production.{Production}
-use Rattle.mm_model.specs.Names.{Name, label}
+use Rattle.mm_model.specs.Names.{label}
 use Rattle.mm_model.specs.Statements.{Statement, statements, statement_fault, labels, symbols_in}
-use Rattle.mm_model.specs.Frames.{symbols, symbol_in, positions, frame_of, frame_at, below, is_assertion, mandatory_hypotheses}
-use Rattle.mm_model.specs.Productions.{frames, rows, kept_rows, row_of_frame, typed_variables}
+use Rattle.mm_model.specs.Frames.{symbols, symbol_in, frame_of, frame_at, below, is_assertion, mandatory_hypotheses}
+use Rattle.mm_model.specs.Productions.{frames, rows, row_of_frame}
 use Rattle.mm_model.specs.Chains.{chain_from, leads, keep, keep_by, kept}
 use Rattle.mm_model.specs.Rows.{IsRow, LabelsDiffer, AreRows, IsGrammar}
 use Rattle.mm_model.specs.Texts.{row_of}
-use Rattle.mm_model.specs.Book.{Database, Assertion, IsDatabaseOf, IsUsable}
+use Rattle.mm_model.specs.Book.{Database, IsDatabaseOf}
 use Rattle.mm_model.specs.BookFacts.{NamesDiffer, Rise, IsRowFrame, IsFrame, IsKnownAt, IsDatabase}
 use Rattle.mm_model.proofs.RowLaws.{row_stands}
 use Rattle.mm_model.proofs.KeptLaws.{kept_is_grammar}
 use Rattle.model_laws.proofs.Checked.{EachBefore, IsChecked, last_first, text_checked, found}
-use Rattle.model_laws.proofs.Listed.{Pairwise, places_differ, all-filter_map, pairwise-filter_map, all-reverse, all_at, all_with}
+use Rattle.model_laws.proofs.Listed.{Pairwise, places_differ, all-filter_map, pairwise-filter_map, all-reverse, all_at}
 use Rattle.model_laws.proofs.LabelFacts.{labels_differ, positions_rise, positions_are, symbols_differ}
-use Rattle.model_laws.proofs.FrameFacts.{Facts, frame_facts, frame_known, mandatory_at}
+use Rattle.model_laws.proofs.FrameFacts.{frame_facts, frame_known, mandatory_at}
 use Rattle.model_laws.proofs.KnownFacts.{assertion_known, mandatory_known}
 use Rattle.model_laws.proofs.KnownAt.{known_at_place, all_known_at_place}
 use Rattle.model_laws.proofs.RowFacts.{RowFacts, row_facts}
@@ -60,9 +58,9 @@ frames_rise : (ss : List Statement) → Pairwise Earlier (frames ss)
 frames_rise ss =
     pairwise-filter_map Less Earlier (λ n. frame_of ss (label n))
     (λ a b f g less e d.
-      let left : f.label.0 ≡ a = ap (λ (l : Label). l.0) (frame_label ss (label a) f e) in
-      let right : g.label.0 ≡ b = ap (λ (l : Label). l.0) (frame_label ss (label b) g d) in
-      omega (arith, less, left, right))
+    let left : f.label.0 ≡ a = ap (λ (l : Label). l.0) (frame_label ss (label a) f e) in
+    let right : g.label.0 ≡ b = ap (λ (l : Label). l.0) (frame_label ss (label b) g d) in
+    omega (arith, less, left, right))
     (range_with_len 0 (length (labels ss))) (range_rises 0 (length (labels ss)))
 
 frames_own : (ss : List Statement) → AllByRecursion (λ (f : Frame). frame_of ss f.label ≡ Some f) (frames ss)
@@ -112,10 +110,10 @@ module _ (e : List Statement) (each : EachBefore IsChecked e) (provable : Sym) w
   rows_rise =
       pairwise-filter_map OwnEarlier RowEarlier (row_of_frame provable)
       (λ f g r s own is there.
-        let left : r.label.0 ≡ f.label.0 = ap (λ (l : Label). l.0) (row_label f r own.0 is) in
-        let right : s.label.0 ≡ g.label.0 = ap (λ (l : Label). l.0) (row_label g s own.1 there) in
-        let less = own.2 in
-        omega (arith, left, right, less))
+      let left : r.label.0 ≡ f.label.0 = ap (λ (l : Label). l.0) (row_label f r own.0 is) in
+      let right : s.label.0 ≡ g.label.0 = ap (λ (l : Label). l.0) (row_label g s own.1 there) in
+      let less = own.2 in
+      omega (arith, left, right, less))
       (frames ss) (own_pairs (frames ss) (frames_own ss) (frames_rise ss))
 
   rows_differ : LabelsDiffer all_rows
@@ -140,9 +138,9 @@ module _ (e : List Statement) (each : EachBefore IsChecked e) (provable : Sym) w
   kept_by : (o : Option Typecode) (older : List Production) (r : Production) → AllByRecursion (IsRowIn provable ss) older → IsRowIn provable ss r → AllByRecursion (IsRowIn provable ss) (keep_by o older r)
   kept_by None older r h p = (p, h)
   kept_by (Some from) older r h p = elim (cases_Bool (leads older r.gives from)) [
-      | inl d ↦ rw d h
-      | inr d ↦ rw d (p, h)
-    ]
+    | inl d ↦ rw d h
+    | inr d ↦ rw d (p, h)
+  ]
 
   fold_kept : (rest older : List Production) → AllByRecursion (IsRowIn provable ss) older → AllByRecursion (IsRowIn provable ss) rest → AllByRecursion (IsRowIn provable ss) (fold keep older rest)
   fold_kept [] older h k = h
@@ -181,10 +179,11 @@ module _ (kinds : Kinds) (text : List ℕ) (db : Database) (is : IsDatabaseOf ki
   known : (l : Label) (k : ℕ) (s : Statement) → EachBefore IsChecked (below (statements text) k) → IsChecked (below (statements text) k) s → is_assertion s ≡ true
       → IsKnownAt db k (frame_at (statements text) l k s).formula × AllByRecursion (λ (h : Hyp). IsKnownAt db k h.formula) (frame_at (statements text) l k s).hyps
   known l k s before here a =
-      let b = below (statements text) k in
-      (known_at_place (statements text) k db is.symbols (is.active_at k) (λ x. is.is_constant_at x k) (symbols_in s) (assertion_known b s here a),
+      let b = below (statements text) k in (
+        known_at_place (statements text) k db is.symbols (is.active_at k) (λ x. is.is_constant_at x k) (symbols_in s) (assertion_known b s here a),
         all_known_at_place (statements text) k db is.symbols (is.active_at k) (λ x. is.is_constant_at x k) (mandatory_hypotheses (mandatory_at (statements text) k s) b)
-          (mandatory_known (mandatory_at (statements text) k s) b before))
+            (mandatory_known (mandatory_at (statements text) k s) b before),
+      )
 
   known_frame : (l : Label) (f : Frame) → frame_of (statements text) l ≡ Some f → IsKnownAt db f.at f.formula × AllByRecursion (λ (h : Hyp). IsKnownAt db f.at h.formula) f.hyps
   known_frame l f frame =

@@ -1,9 +1,9 @@
 -- What holds of the frames of a text without a fault.
-use Rattle.std.proofs.Common.{◌≡◌, ◌<◌, ◌≤◌, ◌+◌, ◌-◌, ℕ, zero, suc, Bool, true, false, cond, ◌||◌, ◌&&◌, List, [], ◌∷◌, ◌++◌, length, map, drop, reverse, Option, Some, None, option_map, refl, sym, ap, ◌∙◌, arith, subst, inl, inr, flat_map, get_or, ◌⊎◌, codes, nat_eq}
+use Rattle.std.proofs.Common.{◌≡◌, ◌<◌, ℕ, Bool, true, false, cond, ◌||◌, ◌&&◌, List, [], ◌∷◌, ◌++◌, length, map, drop, reverse, Option, Some, None, option_map, refl, sym, ap, ◌∙◌, arith, subst, inl, inr, flat_map, get_or, ◌⊎◌, codes, nat_eq}
 use Rattle.std.specs.Option.{option_and_then}
 use Rattle.std.specs.List.{AllByRecursion, slice_get, filter, list_any, position_or_len, ends_with}
 use Rattle.std.specs.Str.{bytes_eq}
-use Rattle.std.proofs.lemmas.Bool.{cases_Bool, cases_lt, or_parts, or_cases, and_parts, both_ways}
+use Rattle.std.proofs.lemmas.Bool.{cases_Bool, or_parts, or_cases, both_ways}
 use Rattle.std.proofs.lemmas.List.Folds.{list_any-append}
 use Rattle.std.proofs.lemmas.List.Sums.{passes_at_first}
 use Rattle.std.proofs.lemmas.Option.{cond_some, get_or_from_slice_get}
@@ -12,8 +12,7 @@ use Rattle.mm_base.specs.declared.symbols.Label.{Label}
 use Rattle.mm_model.specs.declared.frames.Hyp.{Hyp}
 use Rattle.mm_model.specs.declared.frames.Frame.{Frame}
 use Rattle.mm_model.specs.Names.{Name, typecode}
-use Rattle.mm_model.specs.Words.{Word}
-use Rattle.mm_model.specs.Statements.{Statement, is, has_keyword, with_keyword, symbols_in, second, contains, variables, typed, path, active, active_on}
+use Rattle.mm_model.specs.Statements.{Statement, is, has_keyword, with_keyword, symbols_in, second, contains, path, active, active_on}
 use Rattle.mm_model.specs.Frames.{symbols, symbol_in, positions, position_of, below, hypothesis_of, formula_of, mandatory_variables, mandatory_hypotheses, frame_at, frame_of, statement_of, is_assertion}
 use Rattle.mm_model.specs.Productions.{TypedVariable, typed_by, typed_variables, floats}
 use Rattle.mm_model.specs.BookFacts.{float_formula, VariablesDiffer}
@@ -49,20 +48,20 @@ close_by s e (n ∷ p) is o c =
 -- it is put before them, or some of the first are taken off
 pub active_step : (s : Statement) (e : List Statement) → (active (s ∷ e) ≡ s ∷ active e) ⊎ EndsIn (active e) (active (s ∷ e))
 active_step s e = elim (cases_Bool (has_keyword (codes "${") s)) [
-    | inl o ↦ inl (active-open s e o)
-    | inr o ↦ elim (cases_Bool (has_keyword (codes "$}") s)) [
-      | inl c ↦ close_by s e (path e) refl o c
-      | inr c ↦ inl (active-plain s e o c)
-    ]
+  | inl o ↦ inl (active-open s e o)
+  | inr o ↦ elim (cases_Bool (has_keyword (codes "$}") s)) [
+    | inl c ↦ close_by s e (path e) refl o c
+    | inr c ↦ inl (active-plain s e o c)
   ]
+]
 
 -- what holds of each statement holds of each active one
 pub all_active : (P : Statement → Type 0) (e : List Statement) → EachBefore (λ b s. P s) e → (p : List ℕ) → AllByRecursion P (active_on p e)
 all_active P [] h p = tt
 all_active P (s ∷ e) h p = elim (cases_Bool (ends_with nat_eq p (path e))) [
-    | inl d ↦ rw d (h.0, all_active P e h.1 p)
-    | inr d ↦ rw d (all_active P e h.1 p)
-  ]
+  | inl d ↦ rw d (h.0, all_active P e h.1 p)
+  | inr d ↦ rw d (all_active P e h.1 p)
+]
 
 pub each_with : (P Q : List Statement → Statement → Type 0) → ((b : List Statement) (s : Statement) → P b s → Q b s) → (e : List Statement) → EachBefore P e → EachBefore Q e
 each_with P Q f [] h = tt
@@ -86,22 +85,23 @@ apart_none s none (h ∷ hs) = ((λ f g v c d. let bad : false ≡ true = sym (a
 apart_one : (s : Statement) (v : Name) → types s ≡ v ∷ [] → (hs : List Statement) → contains (flat_map types (with_keyword (codes "$f") hs)) v ≡ false → AllByRecursion (Apart s) hs
 apart_one s v is [] none = tt
 apart_one s v is (h ∷ hs) none = elim (cases_Bool (is_float h)) [
-    | inl d ↦
-        let two : contains (types h ++ flat_map types (with_keyword (codes "$f") hs)) v ≡ false = rw d at none in
-        let halves = or_parts (contains (types h) v) (contains (flat_map types (with_keyword (codes "$f") hs)) v) (sym (list_any-append (bytes_eq v) (types h) (flat_map types (with_keyword (codes "$f") hs))) ∙ two) in
-        ((λ f g u c there.
+  | inl d ↦
+      let two : contains (types h ++ flat_map types (with_keyword (codes "$f") hs)) v ≡ false = rw d at none in
+      let halves = or_parts (contains (types h) v) (contains (flat_map types (with_keyword (codes "$f") hs)) v) (sym (list_any-append (bytes_eq v) (types h) (flat_map types (with_keyword (codes "$f") hs))) ∙ two) in (
+        (λ f g u c there.
             let in_one : contains (v ∷ []) u ≡ true = sym (ap (λ ns. contains ns u) is) ∙ c in
             let same : u ≡ v = only u v in_one in
             both_ways (contains (types h) v) halves.0 (subst (λ (x : Name). contains (types h) x ≡ true) same there)),
-          apart_one s v is hs halves.1)
-    | inr d ↦ ((λ f g u c there. both_ways (is_float h) d g), apart_one s v is hs (rw d at none))
-  ]
+        apart_one s v is hs halves.1,
+      )
+  | inr d ↦ ((λ f g u c there. both_ways (is_float h) d g), apart_one s v is hs (rw d at none))
+]
   where
     only : (u v : Name) → contains (v ∷ []) u ≡ true → u ≡ v
     only u v e = elim (or_cases (bytes_eq u v) false e) [
-        | inl t ↦ same_names u v t
-        | inr t ↦ let bad : false ≡ true = t in absurd cc
-      ]
+      | inl t ↦ same_names u v t
+      | inr t ↦ let bad : false ≡ true = t in absurd cc
+    ]
 
 apart_by : (e : List Statement) (s : Statement) (ns : List Name) → symbols_in s ≡ ns → FloatIsNew e ns → AllByRecursion (Apart s) (active e)
 apart_by e s [] is h = apart_none s (ap second is) (active e)
@@ -111,9 +111,9 @@ apart_by e s (a ∷ v ∷ x ∷ ns) is h = absurd h
 
 apart_new : (e : List Statement) (s : Statement) → IsChecked e s → AllByRecursion (Apart s) (active e)
 apart_new e s c = elim (cases_Bool (is_float s)) [
-    | inl f ↦ apart_by e s (symbols_in s) refl (float_is_new e s c f)
-    | inr f ↦ all_with (λ t. Unit {0}) (Apart s) (λ t u g. absurd (both_ways (is_float s) f g)) (active e) (units (active e))
-  ]
+  | inl f ↦ apart_by e s (symbols_in s) refl (float_is_new e s c f)
+  | inr f ↦ all_with (λ t. Unit {0}) (Apart s) (λ t u g. absurd (both_ways (is_float s) f g)) (active e) (units (active e))
+]
   where
     units : (hs : List Statement) → AllByRecursion (λ (t : Statement). Unit {0}) hs
     units [] = tt
@@ -122,9 +122,9 @@ apart_new e s c = elim (cases_Bool (is_float s)) [
 pub floats_apart : (e : List Statement) → EachBefore IsChecked e → Pairwise Apart (active e)
 floats_apart [] h = tt
 floats_apart (s ∷ e) h = elim (active_step s e) [
-    | inl is ↦ subst (Pairwise Apart) (sym is) (apart_new e s h.0, floats_apart e h.1)
-    | inr is ↦ pairwise_right Apart is.front (active (s ∷ e)) (subst (Pairwise Apart) is.eq (floats_apart e h.1))
-  ]
+  | inl is ↦ subst (Pairwise Apart) (sym is) (apart_new e s h.0, floats_apart e h.1)
+  | inr is ↦ pairwise_right Apart is.front (active (s ∷ e)) (subst (Pairwise Apart) is.eq (floats_apart e h.1))
+]
 
 -- ---- a `$f` of a frame has two symbols, of which the second is mandatory
 
@@ -184,9 +184,9 @@ floats_mandatory mandatory b h =
     let hs = reverse (active b) in
     let kept = filter (counts mandatory) hs in
     both_facts mandatory (filter is_float kept)
-      (all-filter FloatShort is_float kept (all-filter FloatShort (counts mandatory) hs (all-reverse FloatShort (active b) (floats_short b h))))
-      (all-filter (λ x. counts mandatory x ≡ true) is_float kept (all_pass (counts mandatory) hs))
-      (all_pass is_float kept)
+    (all-filter FloatShort is_float kept (all-filter FloatShort (counts mandatory) hs (all-reverse FloatShort (active b) (floats_short b h))))
+    (all-filter (λ x. counts mandatory x ≡ true) is_float kept (all_pass (counts mandatory) hs))
+    (all_pass is_float kept)
 
 pub floats_differ : (mandatory : List Name) (b : List Statement) → EachBefore IsChecked b → Pairwise Apart (floats_of mandatory b)
 floats_differ mandatory b h =
@@ -244,11 +244,12 @@ module _ (names mandatory : List Name) where
   others known h f m (x ∷ hs) fs ms apart =
       let stands : contains (second (symbols_in h)) m.variable ≡ true = ap (λ ns. contains (second ns) m.variable) m.symbols ∙ alone m.variable in
       let there : contains (second (symbols_in x)) ms.0.variable ≡ true = ap (λ ns. contains (second ns) ms.0.variable) ms.0.symbols ∙ alone ms.0.variable in
-      subst (AllByRecursion (Other (variable_of h m))) (sym (typed_list-cons x hs ms.0))
-      ((λ same.
-          let one : m.variable ≡ ms.0.variable = same_number names m.variable ms.0.variable (known m.variable m.listed) (known ms.0.variable ms.0.listed) same in
-          apart.0 f fs.0 m.variable stands (subst (λ (v : Name). contains (second (symbols_in x)) v ≡ true) (sym one) there)),
-        others known h f m hs fs.1 ms.1 apart.1)
+      subst (AllByRecursion (Other (variable_of h m))) (sym (typed_list-cons x hs ms.0)) (
+        (λ same.
+            let one : m.variable ≡ ms.0.variable = same_number names m.variable ms.0.variable (known m.variable m.listed) (known ms.0.variable ms.0.listed) same in
+            apart.0 f fs.0 m.variable stands (subst (λ (v : Name). contains (second (symbols_in x)) v ≡ true) (sym one) there)),
+        others known h f m hs fs.1 ms.1 apart.1,
+      )
     where
       alone : (v : Name) → contains (v ∷ []) v ≡ true
       alone v = rw (name_self v) refl
@@ -263,9 +264,9 @@ module _ (names mandatory : List Name) where
 pub filter-map : {X Y : Type 0} (p : Y → Bool) (f : X → Y) (xs : List X) → filter p (map f xs) ≡ map f (filter (λ x. p (f x)) xs)
 filter-map p f [] = refl
 filter-map p f (x ∷ xs) = elim (cases_Bool (p (f x))) [
-    | inl d ↦ rw d (ap (λ ys. f x ∷ ys) (filter-map p f xs))
-    | inr d ↦ rw d (filter-map p f xs)
-  ]
+  | inl d ↦ rw d (ap (λ ys. f x ∷ ys) (filter-map p f xs))
+  | inr d ↦ rw d (filter-map p f xs)
+]
 
 -- ---- a frame and its statement
 
@@ -334,7 +335,7 @@ facts_at ss l at s h position =
       floats = ap (λ xs. map (λ (x : Hyp). x.formula) xs) (floats_at ss l at s) ∙ formulas_are names mandatory hs ms ∙ ap (λ vs. map float_formula vs) (sym (typed_at ss l at s));
       variables = subst VariablesDiffer (sym (typed_at ss l at s))
           (variables_differ (typed_list names mandatory hs)
-            (variables_apart names mandatory (known_at ss at s) hs (floats_are mandatory (below ss at)) ms (floats_differ mandatory (below ss at) h)));
+          (variables_apart names mandatory (known_at ss at s) hs (floats_are mandatory (below ss at)) ms (floats_differ mandatory (below ss at) h)));
     }
 
 -- the statements of a text without a fault

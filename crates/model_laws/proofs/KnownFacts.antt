@@ -1,32 +1,18 @@
 -- The symbols of a frame's formulas are known at its place.
-use Rattle.std.proofs.Common.{◌≡◌, ◌<◌, ◌≤◌, ◌+◌, ◌==◌, ℕ, zero, suc, Bool, true, false, cond, not, ◌&&◌, ◌||◌, List, [], ◌∷◌, ◌++◌, length, map, take, drop, reverse, Option, Some, None, option_map, refl, sym, ap, ◌∙◌, arith, subst, append_assoc, inl, inr, ◌⊎◌, codes, flat_map, get_or, nat_eq}
-use Rattle.std.specs.Prelude.{is_some, find}
-use Rattle.std.specs.List.{AllByRecursion, list_any, filter, position_or_len, ends_with}
+use Rattle.std.proofs.Common.{◌≡◌, ℕ, true, false, ◌&&◌, ◌||◌, List, [], ◌∷◌, ◌++◌, take, reverse, refl, sym, ap, ◌∙◌, subst, append_assoc, inl, inr, ◌⊎◌, codes}
+use Rattle.std.specs.List.{AllByRecursion, list_any}
 use Rattle.std.specs.Str.{bytes_eq}
-use Rattle.std.proofs.lemmas.Bool.{cases_Bool, and_parts, and_from, or_cases, or_left, or_right, eqb-true, eq-eqb}
+use Rattle.std.proofs.lemmas.Bool.{and_parts, or_cases, or_left, or_right}
 use Rattle.std.proofs.lemmas.List.Folds.{list_any-append}
-use Rattle.std.proofs.lemmas.List.{take-append-drop, reverse-reverse}
-use Rattle.std.proofs.lemmas.List.Sums.{passes_at_first}
-use Rattle.mm_base.specs.declared.symbols.Sym.{Sym}
-use Rattle.mm_base.specs.declared.symbols.Label.{Label}
-use Rattle.mm_model.specs.declared.frames.Hyp.{Hyp}
-use Rattle.mm_model.specs.declared.frames.Frame.{Frame}
-use Rattle.mm_model.specs.declared.frames.Active.{Active}
-use Rattle.mm_model.specs.declared.rows.Leaf.{Leaf}
-use Rattle.mm_model.specs.declared.rows.Leaf.TheVariants as leaf
-use Rattle.mm_base.specs.declared.symbols.Typecode.{Typecode}
 use Rattle.mm_model.specs.Names.{Name}
 use Rattle.mm_model.specs.Words.{Word}
-use Rattle.mm_model.specs.Statements.{Statement, is, is_one_of, body, has_keyword, has_one_of, with_keyword, symbols_in, second, contains, constants, variables, typed, active, active_on, path}
-use Rattle.mm_model.specs.Frames.{symbols, without_repeats, symbol_in, below, hypothesis_of, formula_of, is_hypothesis, is_assertion, active_variables, active_at, is_constant_at, mandatory_hypotheses, frame_at}
-use Rattle.mm_model.specs.Productions.{TypedVariable, typed_by, typed_variables, floats}
-use Rattle.mm_model.specs.Book.{Database, declared_leaf, float_of}
-use Rattle.mm_model.specs.BookFacts.{IsKnownAt}
+use Rattle.mm_model.specs.Statements.{Statement, is, is_one_of, body, has_keyword, symbols_in, second, contains, constants, variables, typed, active}
+use Rattle.mm_model.specs.Frames.{is_assertion, mandatory_hypotheses}
 use Rattle.mm_model.proofs.Lists.{listed, listed-append, listed-cons, added}
-use Rattle.model_laws.proofs.Checked.{EachBefore, IsChecked, reverse-cons}
-use Rattle.model_laws.proofs.Listed.{all-filter, all-reverse, all_with, all_and, all_pass, first_within, same_names, name_self}
+use Rattle.model_laws.proofs.Checked.{EachBefore, IsChecked}
+use Rattle.model_laws.proofs.Listed.{all-filter, all-reverse, all_with, all_pass, name_self}
 use Rattle.model_laws.proofs.Shapes.{FloatIsNew, float_is_new}
-use Rattle.model_laws.proofs.FrameFacts.{is_float, active_step, counts, filter-map, mandatory_at}
+use Rattle.model_laws.proofs.FrameFacts.{is_float, active_step, counts}
 use Rattle.model_laws.proofs.Symbols.{Meant, FormulaKnown, formula_known, FloatKnown, float_known, IsAsserting}
 
 -- ---- an active statement, and those that were active before it
@@ -58,9 +44,9 @@ nothing (x ∷ front) h rest is = cc
 pub located : (e : List Statement) → EachBefore IsChecked e → (front : List Statement) (h : Statement) (rest : List Statement) → active e ≡ front ++ h ∷ rest → Located e h rest
 located [] c front h rest is = absurd (nothing front h rest is)
 located (s ∷ e) c front h rest is = elim (active_step s e) [
-    | inl step ↦ located_here s e c.0 (located e c.1) front h rest (sym step ∙ is)
-    | inr step ↦ located_more s e h rest (located e c.1 (step.front ++ front) h rest (step.eq ∙ ap (λ x. step.front ++ x) is ∙ sym (append_assoc step.front front (h ∷ rest))))
-  ]
+  | inl step ↦ located_here s e c.0 (located e c.1) front h rest (sym step ∙ is)
+  | inr step ↦ located_more s e h rest (located e c.1 (step.front ++ front) h rest (step.eq ∙ ap (λ x. step.front ++ x) is ∙ sym (append_assoc step.front front (h ∷ rest))))
+]
 
 -- ---- what was known stays known
 
@@ -95,9 +81,9 @@ module _ (b : List Statement) (h : Statement) (front rest : List Statement) (is 
       let types : Statement → List Name = λ (s : Statement). second (symbols_in s) in
       let mine : contains (added (codes "$f") types h) v ≡ true = rw f c in
       let here : contains (listed (codes "$f") types (h ∷ active l.before)) v ≡ true =
-            ap (λ ns. contains ns v) (listed-cons (codes "$f") types h (active l.before))
-            ∙ list_any-append (bytes_eq v) (added (codes "$f") types h) (listed (codes "$f") types (active l.before))
-            ∙ or_left (contains (added (codes "$f") types h) v) (contains (listed (codes "$f") types (active l.before)) v) mine in
+      ap (λ ns. contains ns v) (listed-cons (codes "$f") types h (active l.before))
+      ∙ list_any-append (bytes_eq v) (added (codes "$f") types h) (listed (codes "$f") types (active l.before))
+      ∙ or_left (contains (added (codes "$f") types h) v) (contains (listed (codes "$f") types (active l.before)) v) mine in
       ap (λ x. contains (listed (codes "$f") types x) v) (is ∙ ap (λ x. front ++ h ∷ x) l.rest_is) ∙ listed-right (codes "$f") types front (h ∷ active l.before) v here
 
   float_stays : is_float h ≡ true → (ns : List Name) → symbols_in h ≡ ns → FloatIsNew l.before ns → FloatKnown l.before ns → FormulaKnown b ns
@@ -132,26 +118,28 @@ hypotheses_known b c = hypotheses_from b c [] (active b) refl
 either_keyword : (j k : List ℕ) (ws : List Word) → list_any (is_one_of (j ∷ k ∷ [])) ws ≡ true → (list_any (is j) ws ≡ true) ⊎ (list_any (is k) ws ≡ true)
 either_keyword j k [] h = absurd cc
 either_keyword j k (w ∷ ws) h = elim (or_cases (is_one_of (j ∷ k ∷ []) w) (list_any (is_one_of (j ∷ k ∷ [])) ws) h) [
-    | inl d ↦ elim (or_cases (is j w) (is k w || false) d) [
-      | inl a ↦ inl (or_left _ _ a)
-      | inr a ↦ elim (or_cases (is k w) false a) [ inl g ↦ inr (or_left _ _ g) | inr g ↦ let bad : false ≡ true = g in absurd cc ]
-    ]
-    | inr d ↦ elim (either_keyword j k ws d) [ inl a ↦ inl (or_right _ _ a) | inr a ↦ inr (or_right _ _ a) ]
+  | inl d ↦ elim (or_cases (is j w) (is k w || false) d) [
+    | inl a ↦ inl (or_left _ _ a)
+    | inr a ↦ elim (or_cases (is k w) false a) [ inl g ↦ inr (or_left _ _ g) | inr g ↦ let bad : false ≡ true = g in absurd cc ]
   ]
+  | inr d ↦ elim (either_keyword j k ws d) [ inl a ↦ inl (or_right _ _ a) | inr a ↦ inr (or_right _ _ a) ]
+]
 
 pub assertion_known : (b : List Statement) (s : Statement) → IsChecked b s → is_assertion s ≡ true → FormulaKnown b (symbols_in s)
 assertion_known b s c h = elim (either_keyword (codes "$a") (codes "$p") (take 1 (body s)) h) [
-    | inl a ↦ formula_known b s (codes "$a") c a (record { asserting = refl; labelled = refl; no_proof = refl })
-    | inr p ↦ formula_known b s (codes "$p") c p (record { asserting = refl; labelled = refl; no_proof = refl })
-  ]
+  | inl a ↦ formula_known b s (codes "$a") c a (record { asserting = refl; labelled = refl; no_proof = refl })
+  | inr p ↦ formula_known b s (codes "$p") c p (record { asserting = refl; labelled = refl; no_proof = refl })
+]
 
 counted : (mandatory : List Name) (hs : List Statement) (b : List Statement) → AllByRecursion (HypothesisKnown b) hs → AllByRecursion (λ h. counts mandatory h ≡ true) hs → AllByRecursion (λ h. FormulaKnown b (symbols_in h)) hs
 counted mandatory [] b k c = tt
-counted mandatory (h ∷ hs) b k c =
-    (k.0 (elim (or_cases (has_keyword (codes "$e") h) (is_float h && list_any (contains mandatory) (second (symbols_in h))) c.0) [
-        | inl e ↦ inl e
-        | inr f ↦ inr (and_parts (is_float h) (list_any (contains mandatory) (second (symbols_in h))) f).0
-      ]), counted mandatory hs b k.1 c.1)
+counted mandatory (h ∷ hs) b k c = (
+  k.0 (elim (or_cases (has_keyword (codes "$e") h) (is_float h && list_any (contains mandatory) (second (symbols_in h))) c.0) [
+    | inl e ↦ inl e
+    | inr f ↦ inr (and_parts (is_float h) (list_any (contains mandatory) (second (symbols_in h))) f).0
+  ]),
+  counted mandatory hs b k.1 c.1,
+)
 
 -- the formula of each mandatory hypothesis is known
 pub mandatory_known : (mandatory : List Name) (b : List Statement) → EachBefore IsChecked b → AllByRecursion (λ h. FormulaKnown b (symbols_in h)) (mandatory_hypotheses mandatory b)

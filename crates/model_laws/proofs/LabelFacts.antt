@@ -1,5 +1,5 @@
 -- Labels differ, their positions rise, and symbols differ.
-use Rattle.std.proofs.Common.{◌≡◌, ◌<◌, ◌≤◌, ◌+◌, ◌-◌, ℕ, zero, suc, Bool, true, false, cond, ◌||◌, List, [], ◌∷◌, ◌++◌, length, map, reverse, Option, Some, None, refl, sym, ap, ◌∙◌, arith, subst, inl, inr, flat_map}
+use Rattle.std.proofs.Common.{◌≡◌, ◌<◌, ◌≤◌, ◌+◌, ℕ, zero, suc, true, false, List, [], ◌∷◌, ◌++◌, length, map, reverse, Some, None, refl, sym, ap, ◌∙◌, arith, subst, inl, inr, flat_map}
 use Rattle.std.specs.List.{AllByRecursion, slice_get}
 use Rattle.std.specs.Str.{bytes_eq}
 use Rattle.std.proofs.lemmas.Bool.{cases_Bool, or_left, or_right}
@@ -133,16 +133,16 @@ positions_are ss = positions-length 0 ss
 not_seen : (seen ns : List Name) (n : Name) → contains seen n ≡ true → AllByRecursion (Unlike n) (without_repeats seen ns)
 not_seen seen [] n e = tt
 not_seen seen (x ∷ ns) n e = elim (cases_Bool (contains seen x)) [
-    | inl d ↦ rw d (not_seen seen ns n e)
-    | inr d ↦ rw d ((λ same. let bad : true ≡ false = sym e ∙ ap (contains seen) same ∙ d in absurd cc), not_seen (x ∷ seen) ns n (or_right (bytes_eq n x) (contains seen n) e))
-  ]
+  | inl d ↦ rw d (not_seen seen ns n e)
+  | inr d ↦ rw d ((λ same. let bad : true ≡ false = sym e ∙ ap (contains seen) same ∙ d in absurd cc), not_seen (x ∷ seen) ns n (or_right (bytes_eq n x) (contains seen n) e))
+]
 
 apart_names : (seen ns : List Name) → Pairwise Unlike (without_repeats seen ns)
 apart_names seen [] = tt
 apart_names seen (x ∷ ns) = elim (cases_Bool (contains seen x)) [
-    | inl d ↦ rw d (apart_names seen ns)
-    | inr d ↦ rw d (not_seen (x ∷ seen) ns x (or_left (bytes_eq x x) (contains seen x) (name_self x)), apart_names (x ∷ seen) ns)
-  ]
+  | inl d ↦ rw d (apart_names seen ns)
+  | inr d ↦ rw d (not_seen (x ∷ seen) ns x (or_left (bytes_eq x x) (contains seen x) (name_self x)), apart_names (x ∷ seen) ns)
+]
 
 pub symbols_apart : (ss : List Statement) → Pairwise Unlike (symbols ss)
 symbols_apart ss = apart_names [] _

@@ -1,11 +1,10 @@
 -- Facts of each element of a list, and of each two.
-use Rattle.std.proofs.Common.{◌≡◌, ◌<◌, ◌≤◌, ◌+◌, ◌-◌, ℕ, zero, suc, Bool, true, false, cond, ◌||◌, ◌&&◌, List, [], ◌∷◌, ◌++◌, length, map, reverse, Option, Some, None, refl, sym, ap, ◌∙◌, arith, subst, inl, inr, get_or}
+use Rattle.std.proofs.Common.{◌≡◌, ◌<◌, ◌-◌, ℕ, zero, suc, Bool, true, false, List, [], ◌∷◌, ◌++◌, length, reverse, Option, Some, None, refl, sym, ap, ◌∙◌, arith, subst, inl, inr}
 use Rattle.std.specs.List.{AllByRecursion, slice_get, filter, filter_map, list_any, position_or_len}
 use Rattle.std.specs.Str.{bytes_eq}
 use Rattle.std.proofs.lemmas.Bool.{cases_Bool, or_cases, or_left, or_right, both_ways}
 use Rattle.std.proofs.lemmas.Slice.Eq.{bytes_eq-Decides}
-use Rattle.std.proofs.lemmas.List.{length-reverse, get_or-reverse, reverse-append}
-use Rattle.std.proofs.lemmas.List.Sums.{passes_at_first}
+use Rattle.std.proofs.lemmas.List.{length-reverse, get_or-reverse}
 use Rattle.std.proofs.lemmas.Option.{slice_get_within, get_or_from_slice_get, slice_get-get_or}
 use Rattle.mm_model.specs.Names.{Name}
 use Rattle.mm_model.specs.Statements.{contains}
@@ -24,9 +23,9 @@ module _ {X : Type 0} (P : X → Type 0) where
   pub all-filter : (p : X → Bool) (xs : List X) → AllByRecursion P xs → AllByRecursion P (filter p xs)
   all-filter p [] h = tt
   all-filter p (x ∷ xs) h = elim (cases_Bool (p x)) [
-      | inl e ↦ rw e (h.0, all-filter p xs h.1)
-      | inr e ↦ rw e (all-filter p xs h.1)
-    ]
+    | inl e ↦ rw e (h.0, all-filter p xs h.1)
+    | inr e ↦ rw e (all-filter p xs h.1)
+  ]
 
   pub all_right : (xs ys : List X) → AllByRecursion P (xs ++ ys) → AllByRecursion P ys
   all_right [] ys h = h
@@ -48,9 +47,9 @@ all_with P Q f (x ∷ xs) h = (f x h.0, all_with P Q f xs h.1)
 pub all_pass : {X : Type 0} (p : X → Bool) (xs : List X) → AllByRecursion (λ x. p x ≡ true) (filter p xs)
 all_pass p [] = tt
 all_pass p (x ∷ xs) = elim (cases_Bool (p x)) [
-    | inl e ↦ rw e (e, all_pass p xs)
-    | inr e ↦ rw e (all_pass p xs)
-  ]
+  | inl e ↦ rw e (e, all_pass p xs)
+  | inr e ↦ rw e (all_pass p xs)
+]
 
 -- a fact of each two elements, the earlier first
 abbrev pub Pairwise : {X : Type 0} → (X → X → Type 0) → List X → Type 0
@@ -61,9 +60,9 @@ module _ {X : Type 0} (R : X → X → Type 0) where
   pub pairwise-filter : (p : X → Bool) (xs : List X) → Pairwise R xs → Pairwise R (filter p xs)
   pairwise-filter p [] h = tt
   pairwise-filter p (x ∷ xs) h = elim (cases_Bool (p x)) [
-      | inl e ↦ rw e (all-filter (R x) p xs h.0, pairwise-filter p xs h.1)
-      | inr e ↦ rw e (pairwise-filter p xs h.1)
-    ]
+    | inl e ↦ rw e (all-filter (R x) p xs h.0, pairwise-filter p xs h.1)
+    | inr e ↦ rw e (pairwise-filter p xs h.1)
+  ]
 
   pub pairwise_right : (xs ys : List X) → Pairwise R (xs ++ ys) → Pairwise R ys
   pairwise_right [] ys h = h
@@ -104,9 +103,9 @@ Unlike a b = a ≡ b → ⊥
 pub all_unlike : (xs : List Name) (n : Name) → contains xs n ≡ false → AllByRecursion (Unlike n) xs
 all_unlike [] n e = tt
 all_unlike (x ∷ xs) n e = elim (cases_Bool (bytes_eq n x)) [
-    | inl d ↦ let bad : true ≡ false = rw d at e in absurd cc
-    | inr d ↦ ((λ same. both_ways (bytes_eq n x) d (subst (λ (y : Name). bytes_eq n y ≡ true) same (name_self n))), all_unlike xs n (rw d at e))
-  ]
+  | inl d ↦ let bad : true ≡ false = rw d at e in absurd cc
+  | inr d ↦ ((λ same. both_ways (bytes_eq n x) d (subst (λ (y : Name). bytes_eq n y ≡ true) same (name_self n))), all_unlike xs n (rw d at e))
+]
 
 pub names_differ : (xs : List Name) → Pairwise Unlike xs → NamesDiffer xs
 names_differ xs h i j n e f = places_differ Unlike (λ a b. a ≡ b) (λ a b s. sym s) (λ a b r s. r s) xs h i j n n e f refl
@@ -114,32 +113,32 @@ names_differ xs h i j n e f = places_differ Unlike (λ a b. a ≡ b) (λ a b s. 
 pub contains-filter : (p : Name → Bool) (xs : List Name) (n : Name) → contains (filter p xs) n ≡ true → contains xs n ≡ true
 contains-filter p [] n e = e
 contains-filter p (x ∷ xs) n e = elim (cases_Bool (p x)) [
-    | inl d ↦ elim (or_cases (bytes_eq n x) (contains (filter p xs) n) (rw d at e)) [
-        | inl s ↦ or_left (bytes_eq n x) (contains xs n) s
-        | inr s ↦ or_right (bytes_eq n x) (contains xs n) (contains-filter p xs n s)
-      ]
-    | inr d ↦ or_right (bytes_eq n x) (contains xs n) (contains-filter p xs n (rw d at e))
+  | inl d ↦ elim (or_cases (bytes_eq n x) (contains (filter p xs) n) (rw d at e)) [
+    | inl s ↦ or_left (bytes_eq n x) (contains xs n) s
+    | inr s ↦ or_right (bytes_eq n x) (contains xs n) (contains-filter p xs n s)
   ]
+  | inr d ↦ or_right (bytes_eq n x) (contains xs n) (contains-filter p xs n (rw d at e))
+]
 
 -- and passes the test
 pub contains_passes : (p : Name → Bool) (xs : List Name) (n : Name) → contains (filter p xs) n ≡ true → p n ≡ true
 contains_passes p [] n e = absurd cc
 contains_passes p (x ∷ xs) n e = elim (cases_Bool (p x)) [
-    | inl d ↦ elim (or_cases (bytes_eq n x) (contains (filter p xs) n) (rw d at e)) [
-        | inl s ↦ ap p (same_names n x s) ∙ d
-        | inr s ↦ contains_passes p xs n s
-      ]
-    | inr d ↦ contains_passes p xs n (rw d at e)
+  | inl d ↦ elim (or_cases (bytes_eq n x) (contains (filter p xs) n) (rw d at e)) [
+    | inl s ↦ ap p (same_names n x s) ∙ d
+    | inr s ↦ contains_passes p xs n s
   ]
+  | inr d ↦ contains_passes p xs n (rw d at e)
+]
 
 -- ---- the first that passes
 
 pub first_within : {X : Type 0} (p : X → Bool) (xs : List X) → list_any p xs ≡ true → position_or_len p xs < length xs
 first_within p [] e = absurd cc
 first_within p (x ∷ xs) e = elim (cases_Bool (p x)) [
-    | inl d ↦ rw d (omega arith)
-    | inr d ↦ let rest = first_within p xs (rw d at e) in rw d (omega (arith, rest))
-  ]
+  | inl d ↦ rw d (omega arith)
+  | inr d ↦ let rest = first_within p xs (rw d at e) in rw d (omega (arith, rest))
+]
 
 -- a list in the other order
 pub slice_get_reversed : {X : Type 0} (xs : List X) (k : ℕ) (x : X) → slice_get (reverse xs) k ≡ Some x → slice_get xs (length xs - 1 - k) ≡ Some x
@@ -149,7 +148,6 @@ slice_get_reversed xs k x e =
     slice_get-get_or xs (length xs - 1 - k) x (omega arith) ∙ ap (λ y. Some y) here
 
 -- ---- what a function gives of some elements
-
 
 given : {X Y : Type 0} (P : X → Type 0) (Q : Y → Type 0) (h : X → Option Y) → ((x : X) (y : Y) → P x → h x ≡ Some y → Q y)
     → (x : X) (xs : List X) (o : Option Y) → h x ≡ o → P x → AllByRecursion Q (filter_map h xs) → AllByRecursion Q (filter_map h (x ∷ xs))

@@ -6,11 +6,10 @@ use Rattle.mm_base.specs.declared.symbols.Label.{Label}
 use Rattle.mm_base.specs.declared.tree.Tree.{Tree}
 use Rattle.mm_base.specs.declared.kinds.Kinds.{Kinds}
 use Rattle.mm_model.specs.declared.frames.Hyp.{Hyp}
-use Rattle.mm_model.specs.declared.rows.Leaf.{Leaf}
 use Rattle.mm_model.specs.Typed.{Parses}
-use Rattle.mm_model.specs.Book.{Database, Assertion, IsDatabaseOf, IsUsable, IsRead, IsProvable, IsTreeAt, IsTheTreeAt, declared_leaf, expression_at, logic_code, symbol_of}
+use Rattle.mm_model.specs.Book.{Database, Assertion, IsDatabaseOf, IsUsable, IsRead, IsProvable, IsTreeAt, declared_leaf, expression_at, logic_code, symbol_of}
 use Rattle.mm_model.specs.Productions.{essentials}
-use Rattle.model_laws.specs.DatabaseLaws.{Agree, TextHasOneDatabase}
+use Rattle.model_laws.specs.DatabaseLaws.{TextHasOneDatabase}
 
 -- all that the usable assertions rest on
 record Alike (db other : Database) : Type 0 where

@@ -1,16 +1,15 @@
 -- The productions of a text without a fault are rows of a grammar, and are as their frames say.
-use Rattle.std.proofs.Common.{◌≡◌, ◌≢◌, ◌<◌, ◌≤◌, ◌+◌, ◌-◌, ◌==◌, ℕ, zero, suc, Bool, true, false, cond, not, ◌||◌, ◌&&◌, List, [], ◌∷◌, ◌++◌, length, map, reverse, Option, Some, None, refl, sym, ap, ◌∙◌, arith, subst, inl, inr, get_or, codes, nat_eq, nat_lt, eqb}
+use Rattle.std.proofs.Common.{◌≡◌, ◌<◌, ◌==◌, ℕ, zero, suc, Bool, true, false, cond, not, ◌||◌, ◌&&◌, List, [], ◌∷◌, length, map, reverse, Option, Some, None, refl, sym, ap, ◌∙◌, arith, subst, inl, inr, get_or, codes, nat_eq, nat_lt}
 use Rattle.std.specs.Option.{option_and_then}
 use Rattle.std.specs.List.{AllByRecursion, slice_get, filter, list_any, position, position_or_len}
 use Rattle.std.specs.Str.{bytes_eq}
-use Rattle.std.proofs.lemmas.Bool.{cases_Bool, or_cases, or_left, and_parts, both_ways, ltb-true, eqb-true, eq-eqb, not_from_false, false_from_ne_true, not-false}
+use Rattle.std.proofs.lemmas.Bool.{cases_Bool, or_cases, or_left, and_parts, both_ways, ltb-true, eqb-true, eq-eqb, not_from_false, false_from_ne_true}
 use Rattle.std.proofs.lemmas.Bool.Decides.{nat_tests}
 use Rattle.std.proofs.lemmas.List.{length-map, reverse-reverse}
 use Rattle.std.proofs.lemmas.List.Sums.{passes_at_first}
-use Rattle.std.proofs.lemmas.Option.{cond_some, slice_get-get_or, slice_get_within}
+use Rattle.std.proofs.lemmas.Option.{cond_some, slice_get-get_or}
 use Rattle.mm_base.specs.declared.symbols.Sym.{Sym}
 use Rattle.mm_base.specs.declared.symbols.Label.{Label}
-use Rattle.mm_base.specs.declared.symbols.Pair.{Pair}
 use Rattle.mm_model.specs.declared.frames.Hyp.{Hyp}
 use Rattle.mm_model.specs.declared.frames.Frame.{Frame}
 use Rattle.mm_model.specs.declared.rows.Item.{Item}
@@ -18,14 +17,14 @@ use Rattle.mm_model.specs.declared.rows.Item.TheVariants.{Const, Slot}
 use Rattle.mm_model.specs.declared.rows.Production.{Production}
 use Rattle.mm_model.specs.Names.{Name, typecode}
 use Rattle.mm_model.specs.Statements.{Statement, has_keyword, with_keyword, symbols_in, contains, variables, active, is_empty}
-use Rattle.mm_model.specs.Frames.{symbols, symbol_in, below, hypothesis_of, formula_of, mandatory_hypotheses, frame_at, frame_of}
-use Rattle.mm_model.specs.Productions.{TypedVariable, typed_variables, floats, essentials, item_of, has_repeats, row_with, row_of_frame, is_syntax, begins_with}
+use Rattle.mm_model.specs.Frames.{symbols, symbol_in, below, hypothesis_of, mandatory_hypotheses, frame_at, frame_of}
+use Rattle.mm_model.specs.Productions.{TypedVariable, typed_variables, essentials, item_of, has_repeats, row_with, row_of_frame, is_syntax, begins_with}
 use Rattle.mm_model.specs.Rows.{slot_order, place_of, EachOnce, IsRow}
-use Rattle.mm_model.specs.BookFacts.{VariablesDiffer, IsRowFrame, item_symbol, float_formula}
+use Rattle.mm_model.specs.BookFacts.{VariablesDiffer, IsRowFrame, item_symbol}
 use Rattle.model_laws.proofs.Checked.{EachBefore, IsChecked, found}
 use Rattle.model_laws.proofs.Shapes.{BeginsWithConstant, axiom_begins}
-use Rattle.model_laws.proofs.Listed.{all-reverse, all_with, all_at, same_names, name_self, contains_passes}
-use Rattle.model_laws.proofs.FrameFacts.{is_float, one_keyword, counts, floats_of, IsMandatory, floats_mandatory, hypotheses, typed_list, variable_of, filter-map, IsFrameAt, frame_known, Facts, frame_facts, mandatory_at, typed_at, typed_list-cons, facts_at, floats_differ, and_then}
+use Rattle.model_laws.proofs.Listed.{all-reverse, all_with, same_names, contains_passes}
+use Rattle.model_laws.proofs.FrameFacts.{is_float, one_keyword, counts, floats_of, IsMandatory, floats_mandatory, typed_list, variable_of, filter-map, frame_known, Facts, mandatory_at, typed_at, typed_list-cons, facts_at, and_then}
 
 -- ---- a row comes of a frame
 
@@ -82,12 +81,12 @@ mapped_empty f (x ∷ xs) e = absurd cc
 twice_empty : {X : Type 0} (r c : X → Bool) (xs : List X) → filter r (filter c xs) ≡ [] → AllByRecursion (λ x. c x ≡ true → r x ≡ true → ⊥) xs
 twice_empty r c [] e = tt
 twice_empty r c (x ∷ xs) e = elim (cases_Bool (c x)) [
-    | inl d ↦ elim (cases_Bool (r x)) [
-      | inl g ↦ let bad : ◌≡◌ {A = List _} (x ∷ filter r (filter c xs)) [] = rw (d, g) at e in absurd cc
-      | inr g ↦ ((λ p q. both_ways (r x) g q), twice_empty r c xs (rw (d, g) at e))
-    ]
-    | inr d ↦ ((λ p q. both_ways (c x) d p), twice_empty r c xs (rw d at e))
+  | inl d ↦ elim (cases_Bool (r x)) [
+    | inl g ↦ let bad : ◌≡◌ {A = List _} (x ∷ filter r (filter c xs)) [] = rw (d, g) at e in absurd cc
+    | inr g ↦ ((λ p q. both_ways (r x) g q), twice_empty r c xs (rw (d, g) at e))
   ]
+  | inr d ↦ ((λ p q. both_ways (c x) d p), twice_empty r c xs (rw d at e))
+]
 
 none_kept : {X : Type 0} (p : X → Bool) (xs : List X) → AllByRecursion (λ x. p x ≡ false) xs → filter p xs ≡ []
 none_kept p [] h = refl
@@ -99,8 +98,8 @@ no_essential names mandatory b e =
     let none = mapped_empty (hypothesis_of names) (filter (λ h. not (is_float h)) (mandatory_hypotheses mandatory b)) kept in
     let each = twice_empty (λ h. not (is_float h)) (counts mandatory) (reverse (active b)) none in
     let turned : AllByRecursion (λ h. has_keyword (codes "$e") h ≡ false) (reverse (active b)) =
-          all_with (λ h. counts mandatory h ≡ true → not (is_float h) ≡ true → ⊥) (λ h. has_keyword (codes "$e") h ≡ false)
-          (λ h c. false_from_ne_true (has_keyword (codes "$e") h) (λ is_e. c (or_left _ _ is_e) (not_from_false (is_float h) (one_keyword h (codes "$e") (codes "$f") is_e refl)))) (reverse (active b)) each in
+    all_with (λ h. counts mandatory h ≡ true → not (is_float h) ≡ true → ⊥) (λ h. has_keyword (codes "$e") h ≡ false)
+    (λ h c. false_from_ne_true (has_keyword (codes "$e") h) (λ is_e. c (or_left _ _ is_e) (not_from_false (is_float h) (one_keyword h (codes "$e") (codes "$f") is_e refl)))) (reverse (active b)) each in
     none_kept (has_keyword (codes "$e")) (active b) (subst (AllByRecursion (λ h. has_keyword (codes "$e") h ≡ false)) (reverse-reverse (active b)) (all-reverse _ (reverse (active b)) turned))
 
 -- ---- the number of a variable in the frame
@@ -130,9 +129,9 @@ first_of_two : {X : Type 0} (p : X → Bool) (xs : List X) (k : ℕ) (x : X) →
 first_of_two p [] k x e h = absurd cc
 first_of_two p (y ∷ xs) zero x e h = let same : y ≡ x = cc in let d : p y ≡ true = ap p same ∙ h in rw d (omega arith)
 first_of_two p (y ∷ xs) (suc k) x e h = elim (cases_Bool (p y)) [
-    | inl d ↦ rw d (omega arith)
-    | inr d ↦ let rest = first_of_two p xs k x e h in rw d (omega (arith, rest))
-  ]
+  | inl d ↦ rw d (omega arith)
+  | inr d ↦ let rest = first_of_two p xs k x e h in rw d (omega (arith, rest))
+]
 
 -- a variable of the frame is found at its own number
 found_at : (vars : List TypedVariable) → VariablesDiffer vars → (k : ℕ) (v : TypedVariable) → slice_get vars k ≡ Some v → position (is_of v.sym) vars ≡ Some k
@@ -190,22 +189,22 @@ order_has : (vars : List TypedVariable) (names : List Name) (k : ℕ) (n : Name)
     → list_any (nat_eq k) (order vars (map (symbol_in names) ns)) ≡ true
 order_has vars names k n [] e h = absurd cc
 order_has vars names k n (m ∷ ns) e h = elim (or_cases (bytes_eq n m) (contains ns n) h) [
-    | inl d ↦
-        let same : n ≡ m = same_names n m d in
-        let at : position (is_of (symbol_in names m)) vars ≡ Some k = subst (λ x. position (is_of (symbol_in names x)) vars ≡ Some k) same e in
-        let self : nat_eq k k ≡ true = eq-eqb k k refl in
-        ap (list_any (nat_eq k)) (order-cons vars (symbol_in names m) (map (symbol_in names) ns) (Some k) at) ∙ rw self refl
-    | inr d ↦ has_by vars k (symbol_in names m) (map (symbol_in names) ns) (position (is_of (symbol_in names m)) vars) refl (order_has vars names k n ns e d)
-  ]
+  | inl d ↦
+      let same : n ≡ m = same_names n m d in
+      let at : position (is_of (symbol_in names m)) vars ≡ Some k = subst (λ x. position (is_of (symbol_in names x)) vars ≡ Some k) same e in
+      let self : nat_eq k k ≡ true = eq-eqb k k refl in
+      ap (list_any (nat_eq k)) (order-cons vars (symbol_in names m) (map (symbol_in names) ns) (Some k) at) ∙ rw self refl
+  | inr d ↦ has_by vars k (symbol_in names m) (map (symbol_in names) ns) (position (is_of (symbol_in names m)) vars) refl (order_has vars names k n ns e d)
+]
 
 -- ---- each number once
 
 place_within : (k : ℕ) (xs : List ℕ) → list_any (nat_eq k) xs ≡ true → place_of k xs < length xs
 place_within k [] h = absurd cc
 place_within k (x ∷ xs) h = elim (cases_Bool (k == x)) [
-    | inl d ↦ rw d (omega arith)
-    | inr d ↦ let rest = place_within k xs (rw d at h) in rw d (omega (arith, rest))
-  ]
+  | inl d ↦ rw d (omega arith)
+  | inr d ↦ let rest = place_within k xs (rw d at h) in rw d (omega (arith, rest))
+]
 
 all_get : (P : ℕ → Type 0) (xs : List ℕ) → AllByRecursion P xs → (j : ℕ) → j < length xs → P (get_or xs j 0)
 all_get P [] h j l = let bad : ⊥ = omega (arith, l) in absurd bad
@@ -243,9 +242,9 @@ own_place (x ∷ xs) h (suc j) l =
 all_none : {X : Type 0} (p : X → Bool) (xs : List X) → filter (λ x. not (p x)) xs ≡ [] → filter p xs ≡ xs
 all_none p [] e = refl
 all_none p (x ∷ xs) e = elim (cases_Bool (p x)) [
-    | inl d ↦ rw d (ap (λ ys. x ∷ ys) (all_none p xs (rw d at e)))
-    | inr d ↦ let bad : ◌≡◌ {A = List _} (x ∷ filter (λ x. not (p x)) xs) [] = rw d at e in absurd cc
-  ]
+  | inl d ↦ rw d (ap (λ ys. x ∷ ys) (all_none p xs (rw d at e)))
+  | inr d ↦ let bad : ◌≡◌ {A = List _} (x ∷ filter (λ x. not (p x)) xs) [] = rw d at e in absurd cc
+]
 
 typed_from : (names mandatory : List Name) (hs : List Statement) → AllByRecursion (IsMandatory mandatory) hs → (k : ℕ) (v : TypedVariable) → slice_get (typed_list names mandatory hs) k ≡ Some v
     → (n : Name) × (contains mandatory n ≡ true) × (v.sym ≡ symbol_in names n)
@@ -301,12 +300,12 @@ pub record RowFacts (f : Frame) (r : Production) : Type 0 where
 
 abbrev made : Frame → Sym → List Sym → Production
 made f c rest = record {
-    label = f.label;
-    at = f.at;
-    gives = typecode c;
-    items = map (item_of (typed_variables f.hyps)) rest;
-    slots = map (λ (v : TypedVariable). v.code) (typed_variables f.hyps)
-  }
+  label = f.label;
+  at = f.at;
+  gives = typecode c;
+  items = map (item_of (typed_variables f.hyps)) rest;
+  slots = map (λ (v : TypedVariable). v.code) (typed_variables f.hyps);
+}
 
 row_at : (ss : List Statement) (l : Label) (at : ℕ) (s : Statement) → EachBefore IsChecked (below ss at) → IsChecked (below ss at) s → Facts ss l (frame_at ss l at s)
     → has_keyword (codes "$a") s ≡ true → IsSyntax (frame_at ss l at s) → (a n : Name) (ns : List Name) → symbols_in s ≡ a ∷ n ∷ ns
@@ -322,11 +321,11 @@ row_at ss l at s each here facts axiom_ syntax_ a n ns is repeats =
     let constant : contains (variables b) a ≡ false = subst (BeginsWithConstant b) is (axiom_begins b s here axiom_) in
     let none = no_essential names mandatory b syntax_.essentials in
     let text : IsText vars names (n ∷ ns) = record {
-          differ = facts.variables;
-          stand = λ k v e.
-              let m = typed_from names mandatory hs (floats_mandatory mandatory b each) k v (subst (λ vs. slice_get vs k ≡ Some v) (typed_at ss l at s) e) in
-              (m.0, in_formula ss at s a (n ∷ ns) is constant none m.0 m.1, m.2);
-        } in
+      differ = facts.variables;
+      stand = λ k v e.
+          let m = typed_from names mandatory hs (floats_mandatory mandatory b each) k v (subst (λ vs. slice_get vs k ≡ Some v) (typed_at ss l at s) e) in
+          (m.0, in_formula ss at s a (n ∷ ns) is constant none m.0 m.1, m.2);
+    } in
     let long : length (map (λ (v : TypedVariable). v.code) vars) ≡ length vars = length-map vars (λ (v : TypedVariable). v.code) in
     record {
       row = record {

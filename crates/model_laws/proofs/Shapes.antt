@@ -1,15 +1,14 @@
 -- The parts of a statement, and what the rules say of its labels and of its symbols.
-use Rattle.std.proofs.Common.{◌≡◌, ◌<◌, ◌≤◌, ◌+◌, ℕ, zero, suc, Bool, true, false, cond, not, ◌&&◌, ◌||◌, ◌==◌, eqb, List, [], ◌∷◌, ◌++◌, length, take, drop, map, Option, Some, None, refl, sym, ap, ◌∙◌, arith, subst, append_assoc, inl, inr, codes, nat_le, nat_lt}
-use Rattle.std.specs.List.{AllByRecursion, list_any, list_all, take_while, prefix_len}
+use Rattle.std.proofs.Common.{◌≡◌, ◌+◌, ℕ, suc, Bool, true, false, not, ◌&&◌, ◌||◌, ◌==◌, List, [], ◌∷◌, ◌++◌, take, drop, map, refl, sym, ap, ◌∙◌, arith, subst, append_assoc, inl, inr, codes, nat_le, nat_lt}
+use Rattle.std.specs.List.{AllByRecursion, list_any, take_while, prefix_len}
 use Rattle.std.specs.Str.{bytes_eq}
-use Rattle.std.proofs.lemmas.Bool.{cases_Bool, and_parts, or_parts, both_ways, not-true, not_from_false, and_from}
+use Rattle.std.proofs.lemmas.Bool.{cases_Bool, or_parts, both_ways, not-true}
 use Rattle.std.proofs.lemmas.Slice.Eq.{bytes_eq-Decides}
 use Rattle.std.proofs.lemmas.List.{append-nil}
 use Rattle.std.proofs.lemmas.List.Folds.{list_any-append}
-use Rattle.std.proofs.lemmas.List.Sums.{take_while-cons}
 use Rattle.mm_model.specs.Words.{Word}
 use Rattle.mm_model.specs.Statements.{Statement, is, is_one_of, is_word, is_empty, unended, ended, labels_in, body, has_keyword, has_one_of, symbols_in, in_proof, contains, labels, typed, variables, is_symbol_of, labelled, rank, label_taken, label_extra, bad_hypothesis, two_types, first_not_const}
-use Rattle.model_laws.proofs.Checked.{NoRule, rules_fail, At, Looked, IsChecked}
+use Rattle.model_laws.proofs.Checked.{rules_fail, At, Looked, IsChecked}
 
 -- ---- the longest front of a list that passes a test
 
@@ -35,19 +34,27 @@ prefix-no p x xs e = rw e refl
 pub parts : {X : Type 0} (p : X → Bool) (xs : List X) → Parts p xs
 parts p [] = record { front = []; rest = []; whole = refl; pass = tt; stop = tt; taken = refl; dropped = refl }
 parts p (x ∷ xs) = elim (cases_Bool (p x)) [
-    | inl e ↦
-        let r = parts p xs in
-        record {
-          front = x ∷ r.front; rest = r.rest; whole = ap (λ ys. x ∷ ys) r.whole; pass = (e, r.pass); stop = r.stop;
-          taken = ap (λ (n : ℕ). take n (x ∷ xs)) (prefix-yes p x xs e) ∙ ap (λ ys. x ∷ ys) r.taken;
-          dropped = ap (λ (n : ℕ). drop n (x ∷ xs)) (prefix-yes p x xs e) ∙ r.dropped;
-        }
-    | inr e ↦ record {
-        front = []; rest = x ∷ xs; whole = refl; pass = tt; stop = e;
-        taken = ap (λ (n : ℕ). take n (x ∷ xs)) (prefix-no p x xs e);
-        dropped = ap (λ (n : ℕ). drop n (x ∷ xs)) (prefix-no p x xs e);
+  | inl e ↦
+      let r = parts p xs in
+      record {
+        front = x ∷ r.front;
+        rest = r.rest;
+        whole = ap (λ ys. x ∷ ys) r.whole;
+        pass = (e, r.pass);
+        stop = r.stop;
+        taken = ap (λ (n : ℕ). take n (x ∷ xs)) (prefix-yes p x xs e) ∙ ap (λ ys. x ∷ ys) r.taken;
+        dropped = ap (λ (n : ℕ). drop n (x ∷ xs)) (prefix-yes p x xs e) ∙ r.dropped;
       }
-  ]
+  | inr e ↦ record {
+    front = [];
+    rest = x ∷ xs;
+    whole = refl;
+    pass = tt;
+    stop = e;
+    taken = ap (λ (n : ℕ). take n (x ∷ xs)) (prefix-no p x xs e);
+    dropped = ap (λ (n : ℕ). drop n (x ∷ xs)) (prefix-no p x xs e);
+  }
+]
 
 -- and where the parts are known
 taken-front : {X : Type 0} (p : X → Bool) (front rest : List X) → AllByRecursion (λ x. p x ≡ true) front → Stops p rest → take_while p (front ++ rest) ≡ front
@@ -90,12 +97,12 @@ one_of-begun ks f ls kw us b = ap (λ (ws : List Word). list_any (is_one_of ks) 
 -- a word is no keyword
 word_is_no : (k : List ℕ) (w : Word) → list_any (λ b. b == 36) k ≡ true → is_word w ≡ true → is k w ≡ false
 word_is_no k w d h = elim (cases_Bool (is k w)) [
-    | inl e ↦
-        let same : w.bytes ≡ k = (bytes_eq-Decides w.bytes k).0 e in
-        let plain : list_any (λ b. b == 36) w.bytes ≡ false = not-true _ h in
-        absurd (both_ways (list_any (λ b. b == 36) w.bytes) plain (ap (λ (bs : List ℕ). list_any (λ b. b == 36) bs) same ∙ d))
-    | inr e ↦ e
-  ]
+  | inl e ↦
+      let same : w.bytes ≡ k = (bytes_eq-Decides w.bytes k).0 e in
+      let plain : list_any (λ b. b == 36) w.bytes ≡ false = not-true _ h in
+      absurd (both_ways (list_any (λ b. b == 36) w.bytes) plain (ap (λ (bs : List ℕ). list_any (λ b. b == 36) bs) same ∙ d))
+  | inr e ↦ e
+]
 
 words_have_no : (k : List ℕ) (ws : List Word) → list_any (λ b. b == 36) k ≡ true → AreWords ws → list_any (is k) ws ≡ false
 words_have_no k [] d h = refl
@@ -126,9 +133,14 @@ shape_by s ls [] k whole pass stop is_body h =
 shape_by s ls (kw ∷ more) k whole pass stop is_body h =
     let p = parts is_word more in
     record {
-      ls = ls; kw = kw; us = p.front; tail = p.rest;
+      ls = ls;
+      kw = kw;
+      us = p.front;
+      tail = p.rest;
       whole = whole ∙ ap (λ (ws : List Word). ls ++ kw ∷ ws) p.whole;
-      labels_pass = pass; keyword_stops = stop; symbols_pass = p.pass;
+      labels_pass = pass;
+      keyword_stops = stop;
+      symbols_pass = p.pass;
       keyword_is = λ j. ap (λ (ws : List Word). list_any (is j) (take 1 ws)) is_body ∙ or-false (is j kw);
       symbols_are = ap (λ (ws : List Word). map (λ (w : Word). w.bytes) (take_while is_word (drop 1 ws))) is_body ∙ ap (λ (ws : List Word). map (λ (w : Word). w.bytes) ws) p.taken;
     }
@@ -210,9 +222,9 @@ at_symbol e s k c h differs us w more is_us =
     let pass : AreWords (us ++ w ∷ more) = subst AreWords is_us sh.symbols_pass in
     let words = front_words us w more pass in
     let split : s ≡ (sh.ls ++ sh.kw ∷ us) ++ w ∷ (more ++ sh.tail) =
-          sh.whole ∙ ap (λ (ws : List Word). sh.ls ++ sh.kw ∷ (ws ++ sh.tail)) is_us
-          ∙ ap (λ (ws : List Word). sh.ls ++ sh.kw ∷ ws) (append_assoc us (w ∷ more) sh.tail)
-          ∙ sym (append_assoc sh.ls (sh.kw ∷ us) (w ∷ (more ++ sh.tail))) in
+    sh.whole ∙ ap (λ (ws : List Word). sh.ls ++ sh.kw ∷ (ws ++ sh.tail)) is_us
+    ∙ ap (λ (ws : List Word). sh.ls ++ sh.kw ∷ ws) (append_assoc us (w ∷ more) sh.tail)
+    ∙ sym (append_assoc sh.ls (sh.kw ∷ us) (w ∷ (more ++ sh.tail))) in
     let front : List Word = sh.ls ++ sh.kw ∷ us in
     let begun : Begun front sh.ls sh.kw us = record { whole = refl; labels_pass = sh.labels_pass; keyword_stops = sh.keyword_stops; symbols_pass = words.0 } in
     let is_k : is k sh.kw ≡ true = sym (sh.keyword_is k) ∙ h in
@@ -247,7 +259,7 @@ no_third e a b w after f =
     let known = before_symbol e (codes "$f") (a ∷ b ∷ []) w after f in
     let bad : bad_hypothesis before w after ≡ false = (rules_fail before w after f.here.no_rule).1.1.1.1.1.1.1.1.1.1.1.1.1.1.1.0 in
     let third : (is_symbol_of (codes "$f" ∷ []) before w && nat_le 2 (rank before)) ≡ false =
-          (or_parts (is (codes "$.") w && has_keyword (codes "$f") (unended before) && nat_lt (rank before) 2) (is_symbol_of (codes "$f" ∷ []) before w && nat_le 2 (rank before)) bad).1 in
+    (or_parts (is (codes "$.") w && has_keyword (codes "$f") (unended before) && nat_lt (rank before) 2) (is_symbol_of (codes "$f" ∷ []) before w && nat_le 2 (rank before)) bad).1 in
     let clash : true ≡ false = rw (f.pass, known.keyword (codes "$f" ∷ []), known.no_proof, known.symbols) at third in
     absurd cc
 

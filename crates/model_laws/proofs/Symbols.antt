@@ -1,18 +1,13 @@
 -- What the rules say of the symbols of hypotheses and assertions: each is declared, and past the first each variable has a typecode.
-use Rattle.std.proofs.Common.{◌≡◌, ◌<◌, ◌≤◌, ◌+◌, ℕ, zero, suc, Bool, true, false, cond, not, ◌&&◌, ◌||◌, ◌==◌, List, [], ◌∷◌, ◌++◌, length, map, refl, sym, ap, ◌∙◌, arith, subst, append_assoc, inl, inr, ◌⊎◌, codes}
+use Rattle.std.proofs.Common.{◌≡◌, ℕ, Bool, true, false, not, ◌&&◌, ◌||◌, ◌==◌, List, [], ◌∷◌, ◌++◌, length, map, refl, sym, ap, ◌∙◌, subst, append_assoc, inl, inr, ◌⊎◌, codes}
 use Rattle.std.specs.List.{AllByRecursion, list_any}
 use Rattle.std.specs.Str.{bytes_eq}
-use Rattle.std.proofs.lemmas.Bool.{cases_Bool, and_parts, or_parts, or_left, or_right, and_cases, both_ways, not-false, not_from_true, not_from_false, true_from_ne_false}
-use Rattle.std.proofs.lemmas.List.Folds.{list_any-append}
-use Rattle.std.proofs.lemmas.List.{append-nil}
+use Rattle.std.proofs.lemmas.Bool.{or_parts, or_left, or_right, both_ways, not-false}
 use Rattle.mm_model.specs.Names.{Name}
 use Rattle.mm_model.specs.Words.{Word}
-use Rattle.mm_model.specs.Statements.{Statement, Rule, is, is_empty, is_first, is_symbol_of, rank, unended, ended, has_keyword, has_one_of, symbols_in, second, in_proof, contains, constants, variables, typed, active, asserting, labelled, is_constant, is_variable, is_typed, not_active, no_type, first_not_const}
-use Rattle.mm_model.proofs.Scopes.{EndsIn}
-use Rattle.mm_model.proofs.Lists.{listed, listed-append}
-use Rattle.model_laws.proofs.Checked.{EachBefore, IsChecked, rules_fail}
-use Rattle.model_laws.proofs.Shapes.{shape, Shape, AtSymbol, Before, at_symbol, before_symbol}
-use Rattle.model_laws.proofs.FrameFacts.{is_float, active_step, one_keyword}
+use Rattle.mm_model.specs.Statements.{Statement, is, is_empty, is_first, is_symbol_of, rank, has_keyword, symbols_in, contains, constants, variables, typed, asserting, labelled, is_constant, is_variable, is_typed, not_active, no_type, first_not_const}
+use Rattle.model_laws.proofs.Checked.{IsChecked, rules_fail}
+use Rattle.model_laws.proofs.Shapes.{shape, AtSymbol, Before, at_symbol, before_symbol}
 
 -- ---- one symbol
 
@@ -81,15 +76,15 @@ module _ (e : List Statement) (k : List ℕ) (us : List Word) (w : Word) (after 
 
 first_symbol : (e : List Statement) (k : List ℕ) (w : Word) (after : List Word) → (f : AtSymbol e k [] w after) → IsAsserting k → contains (constants e) w.bytes ≡ true
 first_symbol e k w after f a = elim (declared_asserting e k [] w after f a) [
-    | inl c ↦ c
-    | inr v ↦ absurd (both_ways (contains (variables e) w.bytes) (no_variable e k [] w after f a.labelled refl) v)
-  ]
+  | inl c ↦ c
+  | inr v ↦ absurd (both_ways (contains (variables e) w.bytes) (no_variable e k [] w after f a.labelled refl) v)
+]
 
 later_symbol : (e : List Statement) (k : List ℕ) (u : Word) (us : List Word) (w : Word) (after : List Word) → (f : AtSymbol e k (u ∷ us) w after) → IsAsserting k → Meant e w.bytes
 later_symbol e k u us w after f a = elim (declared_asserting e k (u ∷ us) w after f a) [
-    | inl c ↦ inl c
-    | inr v ↦ inr (v, has_type e k (u ∷ us) w after f a refl v)
-  ]
+  | inl c ↦ inl c
+  | inr v ↦ inr (v, has_type e k (u ∷ us) w after f a refl v)
+]
 
 -- ---- a formula
 
@@ -101,9 +96,10 @@ FormulaKnown e (c ∷ ns) = (contains (constants e) c ≡ true) × AllByRecursio
 module _ (e : List Statement) (s : Statement) (k : List ℕ) (c : IsChecked e s) (h : has_keyword k s ≡ true) (a : IsAsserting k) where
   later_symbols : (u : Word) (us more : List Word) → (shape s k h).us ≡ (u ∷ us) ++ more → AllByRecursion (Meant e) (map (λ (w : Word). w.bytes) more)
   later_symbols u us [] is = tt
-  later_symbols u us (w ∷ more) is =
-      (later_symbol e k u us w _ (at_symbol e s k c h a.no_proof (u ∷ us) w more is) a,
-        later_symbols u (us ++ w ∷ []) more (is ∙ ap (λ x. u ∷ x) (sym (append_assoc us (w ∷ []) more))))
+  later_symbols u us (w ∷ more) is = (
+    later_symbol e k u us w _ (at_symbol e s k c h a.no_proof (u ∷ us) w more is) a,
+    later_symbols u (us ++ w ∷ []) more (is ∙ ap (λ x. u ∷ x) (sym (append_assoc us (w ∷ []) more))),
+  )
 
   formula_by : (us : List Word) → (shape s k h).us ≡ us → FormulaKnown e (map (λ (w : Word). w.bytes) us)
   formula_by [] is = tt
@@ -124,7 +120,7 @@ float_first : (e : List Statement) (w : Word) (after : List Word) → (f : AtSym
 float_first e w after f =
     let b = f.here.before in
     let here : (is_symbol_of (codes "$f" ∷ []) b w && is_first b) ≡ true =
-          rw (symbol_of e (codes "$f") [] w after f (codes "$f" ∷ []) refl) (first_is e (codes "$f") [] w after f) in
+    rw (symbol_of e (codes "$f") [] w after f (codes "$f" ∷ []) refl) (first_is e (codes "$f") [] w after f) in
     elim (declared e (codes "$f") [] w after f (or_right _ _ here)) [
       | inl c ↦ c
       | inr v ↦ absurd (both_ways (contains (variables e) w.bytes) (no_variable e (codes "$f") [] w after f refl refl) v)
