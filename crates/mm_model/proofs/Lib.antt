@@ -4,6 +4,7 @@ pub mod Codes
 pub mod KeptLaws
 pub mod Lists
 pub mod Marks
+pub mod NameLaws
 pub mod RowLaws
 pub mod Scopes
 pub mod SizeLaws
