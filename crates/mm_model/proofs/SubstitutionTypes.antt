@@ -40,14 +40,14 @@ module _ (rows : List Production) (before : ℕ) (s : Substitution) (is : IsSubs
   pub substitute_typed : (t : Tree) → Kept t
   substitute_typed = tree_ind Kept
       (λ v c p. subst (Keeps (code_of (Var v c))) (sym (substitute-Var s v c))
-        (leaf_kept (leaf.Var v c) (code_of (Var v c)) (s (leaf.Var v c)) (Var v c) refl (λ u e. e ∙ sym (code-Var v c)) (record { code = refl; typed = p })))
+      (leaf_kept (leaf.Var v c) (code_of (Var v c)) (s (leaf.Var v c)) (Var v c) refl (λ u e. e ∙ sym (code-Var v c)) (record { code = refl; typed = p })))
       (λ c n p. subst (Keeps (code_of (Work c n))) (sym (substitute-Work s c n))
-        (leaf_kept (leaf.Work c n) (code_of (Work c n)) (s (leaf.Work c n)) (Work c n) refl (λ u e. e ∙ sym (code-Work c n)) (record { code = refl; typed = p })))
+      (leaf_kept (leaf.Work c n) (code_of (Work c n)) (s (leaf.Work c n)) (Work c n) refl (λ u e. e ∙ sym (code-Work c n)) (record { code = refl; typed = p })))
       (λ c n p. subst (Keeps (code_of (Fresh c n))) (sym (substitute-Fresh s c n)) (record { code = refl; typed = p }))
       (λ l c ts h p.
-        let here = typed_here rows before l c ts p in
-        let below = children_kept ts h (typed_held rows before l c ts p) in
-        subst (Keeps (code_of (Node l c ts))) (sym (substitute-Node s l c ts)) (record {
-          code = code-Node l c (map (substitute s) ts) ∙ sym (code-Node l c ts);
-          typed = typed-Node rows before l c (map (substitute s) ts) (here.0, here.1, here.2, here.3, below.1 ∙ here.4) below.0;
-        }))
+      let here = typed_here rows before l c ts p in
+      let below = children_kept ts h (typed_held rows before l c ts p) in
+      subst (Keeps (code_of (Node l c ts))) (sym (substitute-Node s l c ts)) (record {
+        code = code-Node l c (map (substitute s) ts) ∙ sym (code-Node l c ts);
+        typed = typed-Node rows before l c (map (substitute s) ts) (here.0, here.1, here.2, here.3, below.1 ∙ here.4) below.0;
+      }))

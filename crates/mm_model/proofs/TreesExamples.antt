@@ -1,5 +1,5 @@
 -- Trees, their texts, and an expression with two trees.
-use Rattle.std.specs.Prelude.{◌≡◌, ℕ, List, [], ◌∷◌, Option, Some, None, codes, refl}
+use Rattle.std.specs.Prelude.{◌≡◌, ℕ, List, [], ◌∷◌, Some, None, refl}
 use Rattle.std.proofs.Common.{ap, arith, lit<}
 use Rattle.mm_base.specs.declared.symbols.Label.{Label}
 use Rattle.mm_base.specs.declared.symbols.Typecode.{Typecode}
@@ -93,9 +93,13 @@ class_named n = named-Node _ _ _ (named-Var (sym n) (code 2), tt)
 pub by_sets : Parses E 9 expression (code 0) as_sets
 by_sets = record {
   code = code-Node _ _ _;
-  typed = typed-Node E 9 (label 6) (code 0) (set 5 ∷ set 6 ∷ [])
-      (weqx, refl, lit< tt, refl,
-        two_codes _ _ _ _ (code-Var (sym 5) (code 2)) (code-Var (sym 6) (code 2)))
+  typed = typed-Node E 9 (label 6) (code 0) (set 5 ∷ set 6 ∷ []) (
+    weqx,
+    refl,
+    lit< tt,
+    refl,
+    two_codes _ _ _ _ (code-Var (sym 5) (code 2)) (code-Var (sym 6) (code 2)),
+  )
       (set_typed 5, (set_typed 6, tt));
   named = named-Node _ _ _ (named-Var (sym 5) (code 2), (named-Var (sym 6) (code 2), tt));
   written = simp texts refl;
@@ -104,9 +108,13 @@ by_sets = record {
 pub by_classes : Parses E 9 expression (code 0) as_classes
 by_classes = record {
   code = code-Node _ _ _;
-  typed = typed-Node E 9 (label 5) (code 0) (class (set 5) ∷ class (set 6) ∷ [])
-      (wceq, refl, lit< tt, refl,
-        two_codes _ _ _ _ (code-Node _ _ _) (code-Node _ _ _))
+  typed = typed-Node E 9 (label 5) (code 0) (class (set 5) ∷ class (set 6) ∷ []) (
+    wceq,
+    refl,
+    lit< tt,
+    refl,
+    two_codes _ _ _ _ (code-Node _ _ _) (code-Node _ _ _),
+  )
       (class_typed 5, (class_typed 6, tt));
   named = named-Node _ _ _ (class_named 5, (class_named 6, tt));
   written = simp texts refl;

@@ -1,7 +1,6 @@
 -- A database, as the definitions on worksheets see it.
-use Rattle.std.specs.Prelude.{◌≡◌, ℕ, ◌==◌, ◌≤◌, ◌<◌, Bool, true, false, List, [], ◌∷◌, length, map, drop, find, position, unwrap_or, slice_index_or, Option, Some, None, option_map, if◌then◌else◌}
-use Rattle.std.specs.List.{AllZip, AllByRecursion, list_any, filter_map}
-use Rattle.std.specs.Str.{bytes_eq}
+use Rattle.std.specs.Prelude.{◌≡◌, ℕ, ◌==◌, ◌≤◌, Bool, List, [], ◌∷◌, length, drop, find, unwrap_or, slice_index_or, Option, Some, None, option_map, if◌then◌else◌}
+use Rattle.std.specs.List.{AllZip, list_any, filter_map}
 use Rattle.mm_base.specs.declared.symbols.Sym.{Sym}
 use Rattle.mm_base.specs.declared.symbols.Label.{Label}
 use Rattle.mm_base.specs.declared.symbols.Typecode.{Typecode}
@@ -13,10 +12,10 @@ use Rattle.mm_model.specs.declared.frames.Active.{Active}
 use Rattle.mm_model.specs.declared.rows.Leaf.{Leaf}
 use Rattle.mm_model.specs.declared.rows.Leaf.TheVariants as leaf
 use Rattle.mm_model.specs.declared.rows.Production.{Production}
-use Rattle.mm_model.specs.Names.{Name, sym, label, typecode}
+use Rattle.mm_model.specs.Names.{Name, sym, typecode, symbol_named, label_named}
 use Rattle.mm_model.specs.Statements.{statements, labels}
 use Rattle.mm_model.specs.Frames.{symbols, positions, end_of, frame_of, active_at, is_constant_at, place_after, float_codes}
-use Rattle.mm_model.specs.Productions.{Typed, essentials, typed_variables, kept_rows}
+use Rattle.mm_model.specs.Productions.{TypedVariable, essentials, typed_variables, kept_rows}
 use Rattle.mm_model.specs.Typed.{Parses}
 
 -- a usable assertion: the trees of its conclusion and of its `$e`, and its mandatory variables in the order of the frame
@@ -25,7 +24,7 @@ pub record Assertion : Type 0 where
   pub frame : Frame
   pub tree : Tree
   pub hyps : List Tree
-  pub vars : List Typed
+  pub vars : List TypedVariable
 
 -- what a database gives: the two typecodes by name, names by number, positions of labels, the count of statements,
 -- frames, what is active, the kept productions, and the usable assertions
@@ -46,17 +45,19 @@ pub record Database : Type 0 where
 
 -- the symbol, or the label, of a name
 abbrev pub symbol_of : Database → Name → Option Sym
-symbol_of db name = option_map sym (position (bytes_eq name) db.symbols)
+symbol_of db name = symbol_named db.symbols name
 
 abbrev pub label_of : Database → Name → Option Label
-label_of db name = option_map label (position (bytes_eq name) db.labels)
+label_of db name = label_named db.labels name
 
+-- the name of a symbol, and of a label
 abbrev pub symbol_name : Database → Sym → Name
 symbol_name db s = slice_index_or db.symbols s.0 []
 
 abbrev pub label_name : Database → Label → Name
 label_name db l = slice_index_or db.labels l.0 []
 
+-- the number of a label's statement
 abbrev pub position_of : Database → Label → ℕ
 position_of db l = slice_index_or db.positions l.0 0
 
@@ -68,13 +69,15 @@ logic_code db = typecode (unwrap_or (symbol_of db db.logic) (sym (length db.symb
 
 -- the typecode of a variable by these hypotheses
 abbrev pub float_of : Sym → List Hyp → Option Typecode
-float_of s hyps = option_map (λ (v : Typed). v.code) (find (λ (v : Typed). v.sym.0 == s.0) (typed_variables hyps))
+float_of s hyps = option_map (λ (v : TypedVariable). v.code) (find (λ (v : TypedVariable). v.sym.0 == s.0) (typed_variables hyps))
 
 -- what a symbol is in an expression at a place: a constant, or a variable with an active `$f`
 abbrev pub declared_leaf : Database → ℕ → Sym → Option Leaf
 declared_leaf db place s =
     if db.is_constant_at s place then Some (leaf.Const s)
-    else (if list_any (λ (v : Sym). v.0 == s.0) (db.active_at place).variables then option_map (λ c. leaf.Var s c) (float_of s (db.active_at place).hyps) else None)
+    else (if list_any (λ (v : Sym). v.0 == s.0) (db.active_at place).variables
+    then option_map (λ c. leaf.Var s c) (float_of s (db.active_at place).hyps)
+    else None)
 
 -- the expression behind the typecode of a formula
 abbrev pub expression_at : Database → ℕ → List Sym → List Leaf

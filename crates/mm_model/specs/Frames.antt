@@ -25,15 +25,16 @@ without_repeats seen (n ∷ ns) = if contains seen n then without_repeats seen n
 abbrev pub symbols : List Statement → List Name
 symbols ss = without_repeats [] (flat_map symbols_in (filter (has_one_of (codes "$c" ∷ codes "$v" ∷ [])) ss))
 
--- the symbol of a name
+-- the symbol of a name; past the last number where the name is none of them
 abbrev pub symbol_in : List Name → Name → Sym
 symbol_in names n = sym (position_or_len (bytes_eq n) names)
 
--- the labels by number are `labels ss`; the numbers of their statements, beside them
+-- the labels by number are `labels ss`, in the order of the database
 abbrev pub positions_from : ℕ → List Statement → List ℕ
 positions_from at [] = []
 positions_from at (s ∷ ss) = map (λ w. at) (labels_in s) ++ positions_from (suc at) ss
 
+-- beside each label the number of its statement
 abbrev pub positions : List Statement → List ℕ
 positions ss = positions_from 0 ss
 
@@ -63,6 +64,7 @@ label_in s = first (labels_in s)
     first [] = []
     first (w ∷ ws) = w.bytes
 
+-- a `$f` or a `$e`
 abbrev pub is_hypothesis : Statement → Bool
 is_hypothesis s = has_one_of (codes "$f" ∷ codes "$e" ∷ []) s
 
@@ -70,6 +72,7 @@ is_hypothesis s = has_one_of (codes "$f" ∷ codes "$e" ∷ []) s
 abbrev pub formula_of : List Name → Statement → List Sym
 formula_of names s = map (symbol_in names) (symbols_in s)
 
+-- the hypothesis that a `$f` or `$e` states
 abbrev pub hypothesis_of : List Name → Statement → Hyp
 hypothesis_of names s = record { name = label_in s; floating = has_keyword (codes "$f") s; formula = formula_of names s }
 
@@ -84,6 +87,7 @@ pairs_with ds (x ∷ xs) =
     map (λ y. (x, y)) (filter (λ y. list_any (λ d. contains (symbols_in d) x && contains (symbols_in d) y) ds) xs)
     ++ pairs_with ds xs
 
+-- a pair by the numbers of its variables
 abbrev pub pair_of : List Name → Name × Name → Pair
 pair_of names p = record { a = symbol_in names p.0; b = symbol_in names p.1 }
 
@@ -91,19 +95,20 @@ pair_of names p = record { a = symbol_in names p.0; b = symbol_in names p.1 }
 abbrev pub active_pairs : List Name → List Name → List Statement → List Pair
 active_pairs names vars before = map (pair_of names) (pairs_with (with_keyword (codes "$d") (active before)) vars)
 
+-- what is active at a place
 abbrev pub active_at : List Statement → ℕ → Active
 active_at ss place = record {
-    variables = map (symbol_in (symbols ss)) (active_variables (symbols ss) (below ss place));
-    hyps = map (hypothesis_of (symbols ss)) (filter is_hypothesis (reverse (active (below ss place))));
-    pairs = active_pairs (symbols ss) (active_variables (symbols ss) (below ss place)) (below ss place)
-  }
+  variables = map (symbol_in (symbols ss)) (active_variables (symbols ss) (below ss place));
+  hyps = map (hypothesis_of (symbols ss)) (filter is_hypothesis (reverse (active (below ss place))));
+  pairs = active_pairs (symbols ss) (active_variables (symbols ss) (below ss place)) (below ss place);
+}
 
 -- the typecodes of the `$f` below a place, whether active there or not
 abbrev pub float_codes : List Statement → ℕ → List Typecode
 float_codes ss place =
     map (λ n. typecode (symbol_in (symbols ss) n)) (flat_map (λ s. take 1 (symbols_in s)) (with_keyword (codes "$f") (take place ss)))
 
--- ---- frames
+-- ---- frames (Metamath book, section 4.2)
 
 -- the variables of an assertion and of the active `$e`, by symbol number
 abbrev pub mandatory_variables : List Name → List Statement → Statement → List Name
@@ -125,9 +130,10 @@ frame_at ss l at s =
       at = at;
       formula = formula_of (symbols ss) s;
       hyps = map (hypothesis_of (symbols ss)) (mandatory_hypotheses mandatory (below ss at));
-      pairs = active_pairs (symbols ss) mandatory (below ss at)
+      pairs = active_pairs (symbols ss) mandatory (below ss at);
     }
 
+-- a `$a` or a `$p`
 abbrev pub is_assertion : Statement → Bool
 is_assertion s = has_one_of (codes "$a" ∷ codes "$p" ∷ []) s
 
@@ -151,6 +157,6 @@ place_after ss l =
 abbrev pub proof_in : Statement → Option (ℕ × ℕ)
 proof_in s = option_and_then (λ (from : Word). option_map (λ (to : Word). (from.start + 2, to.start)) (find (is (codes "$.")) s)) (find (is (codes "$=")) s)
 
--- none where the label is no `$p`
+-- those of the `$p` with this label; none where it is no `$p`
 abbrev pub proof_range : List Statement → Label → Option (ℕ × ℕ)
 proof_range ss l = option_and_then (λ p. if has_keyword (codes "$p") p.1 then proof_in p.1 else None) (statement_of ss l)

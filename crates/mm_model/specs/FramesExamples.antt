@@ -1,13 +1,11 @@
 -- Frames and places of small databases, computed.
-use Rattle.std.specs.Prelude.{◌≡◌, ℕ, Bool, true, false, List, [], ◌∷◌, ◌++◌, Option, Some, None, map, codes, refl}
+use Rattle.std.specs.Prelude.{◌≡◌, ℕ, true, false, List, [], ◌∷◌, ◌++◌, Some, None, map, codes, refl}
 use Rattle.mm_base.specs.declared.symbols.Sym.{Sym}
 use Rattle.mm_base.specs.declared.symbols.Pair.{Pair}
 use Rattle.mm_model.specs.declared.frames.Hyp.{Hyp}
-use Rattle.mm_model.specs.declared.frames.Frame.{Frame}
-use Rattle.mm_model.specs.declared.frames.Active.{Active}
 use Rattle.mm_model.specs.Names.{Name, sym, label, typecode}
 use Rattle.mm_model.specs.Statements.{Statement, statements, database_fault, labels, path}
-use Rattle.mm_model.specs.Frames.{symbols, positions, position_of, end_of, below, active_at, is_constant_at, frame_of, place_after, proof_range, float_codes}
+use Rattle.mm_model.specs.Frames.{symbols, positions, end_of, below, active_at, is_constant_at, frame_of, place_after, proof_range, float_codes}
 
 abbrev syms : List ℕ → List Sym
 syms ns = map sym ns

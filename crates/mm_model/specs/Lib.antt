@@ -19,5 +19,4 @@ pub mod Texts
 pub mod Tokens
 pub mod TokensExamples
 pub mod Typed
-pub mod WholeExamples
 pub mod Words

@@ -1,5 +1,5 @@
 -- Names of symbols and labels, and the numbers that stand for them.
-use Rattle.std.specs.Prelude.{ℕ, suc, Bool, false, ◌||◌, List, [], ◌∷◌, if◌then◌else◌, Option, Some, None, option_map}
+use Rattle.std.specs.Prelude.{ℕ, suc, Bool, false, ◌||◌, List, [], ◌∷◌, if◌then◌else◌, Option, Some, None, option_map, position}
 use Rattle.std.specs.Str.{bytes_eq}
 use Rattle.std.specs.List.{list_any}
 use Rattle.mm_base.specs.declared.symbols.Sym.{Sym}
@@ -10,6 +10,7 @@ use Rattle.mm_base.specs.declared.symbols.Typecode.{Typecode}
 abbrev pub Name : Type 0
 Name = List ℕ
 
+-- the symbol, the label and the typecode with this number
 abbrev pub sym : ℕ → Sym
 sym n = record { 0 = n }
 
@@ -32,3 +33,10 @@ has_twice (n ∷ ns) = contains ns n || has_twice ns
 abbrev pub first_number : {X : Type 0} → (X → Bool) → List X → Option ℕ
 first_number test [] = None
 first_number test (x ∷ xs) = if test x then Some 0 else option_map suc (first_number test xs)
+
+-- the symbol, or the label, of a name, where these are the names by number
+abbrev pub symbol_named : List Name → Name → Option Sym
+symbol_named names name = option_map sym (position (bytes_eq name) names)
+
+abbrev pub label_named : List Name → Name → Option Label
+label_named names name = option_map label (position (bytes_eq name) names)

@@ -2,7 +2,6 @@
 use Rattle.std.specs.Prelude.{ℕ, ◌==◌, Bool, true, false, not, ◌&&◌, List, [], ◌∷◌, length, map, filter, position, option_and_then, nat_eq, Option, Some, None, if◌then◌else◌}
 use Rattle.std.specs.List.{list_any, filter_map, flat_map, range_with_len}
 use Rattle.mm_base.specs.declared.symbols.Sym.{Sym}
-use Rattle.mm_base.specs.declared.symbols.Pair.{Pair}
 use Rattle.mm_base.specs.declared.symbols.Typecode.{Typecode}
 use Rattle.mm_model.specs.declared.frames.Hyp.{Hyp}
 use Rattle.mm_model.specs.declared.frames.Frame.{Frame}
@@ -15,6 +14,7 @@ use Rattle.mm_model.specs.Frames.{symbols, symbol_in, frame_of}
 use Rattle.mm_model.specs.Chains.{kept}
 use Rattle.mm_model.specs.Rows.{slot_order}
 
+-- the `$f`, and the `$e`, among hypotheses
 abbrev pub floats : List Hyp → List Hyp
 floats hyps = filter (λ h. h.floating) hyps
 
@@ -22,28 +22,29 @@ abbrev pub essentials : List Hyp → List Hyp
 essentials hyps = filter (λ h. not h.floating) hyps
 
 -- a variable with its typecode
-pub record Typed : Type 0 where
+pub record TypedVariable : Type 0 where
   pub sym : Sym
   pub code : Typecode
 
 -- the variable of a `$f`, which has two symbols
-abbrev pub typed_by : List Sym → List Typed
+abbrev pub typed_by : List Sym → List TypedVariable
 typed_by [] = []
 typed_by (c ∷ []) = []
 typed_by (c ∷ v ∷ rest) = record { sym = v; code = typecode c } ∷ []
 
 -- the variables of the `$f` among hypotheses, in their order
-abbrev pub typed_variables : List Hyp → List Typed
+abbrev pub typed_variables : List Hyp → List TypedVariable
 typed_variables hyps = flat_map (λ h. typed_by h.formula) (floats hyps)
 
 -- a variable of the frame is the slot of its number there, any other symbol is a constant
-abbrev pub item_of : List Typed → Sym → Item
-item_of vars s = by_place (position (λ (v : Typed). v.sym.0 == s.0) vars)
+abbrev pub item_of : List TypedVariable → Sym → Item
+item_of vars s = by_place (position (λ (v : TypedVariable). v.sym.0 == s.0) vars)
   where
     by_place : Option ℕ → Item
     by_place None = Const s
     by_place (Some k) = Slot k
 
+-- a number stands twice
 abbrev pub has_repeats : List ℕ → Bool
 has_repeats [] = false
 has_repeats (n ∷ ns) = if list_any (nat_eq n) ns then true else has_repeats ns
@@ -53,12 +54,12 @@ abbrev pub row_with : Frame → List Sym → Option Production
 row_with f [] = None
 row_with f (c ∷ []) = None
 row_with f (c ∷ s ∷ rest) = Some (record {
-    label = f.label;
-    at = f.at;
-    gives = typecode c;
-    items = map (item_of (typed_variables f.hyps)) (s ∷ rest);
-    slots = map (λ (v : Typed). v.code) (typed_variables f.hyps)
-  })
+  label = f.label;
+  at = f.at;
+  gives = typecode c;
+  items = map (item_of (typed_variables f.hyps)) (s ∷ rest);
+  slots = map (λ (v : TypedVariable). v.code) (typed_variables f.hyps);
+})
 
 -- whether a symbol string begins with this symbol
 abbrev pub begins_with : Sym → List Sym → Bool
@@ -69,7 +70,7 @@ begins_with c (s ∷ rest) = s.0 == c.0
 abbrev pub is_syntax : Sym → Frame → Bool
 is_syntax provable f = f.is_axiom && not (begins_with provable f.formula) && is_empty (essentials f.hyps) && is_empty f.pairs
 
--- the production that a frame gives: no variable stands in it twice
+-- the production that a frame gives; none where it cannot be one, or a variable stands in its text twice
 abbrev pub row_of_frame : Sym → Frame → Option Production
 row_of_frame provable f =
     if is_syntax provable f then option_and_then (λ (r : Production). if has_repeats (slot_order r.items) then None else Some r) (row_with f f.formula) else None

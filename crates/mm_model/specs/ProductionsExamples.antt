@@ -4,8 +4,8 @@ use Rattle.mm_base.specs.declared.symbols.Typecode.{Typecode}
 use Rattle.mm_model.specs.declared.rows.Item.{Item}
 use Rattle.mm_model.specs.declared.rows.Item.TheVariants.{Const, Slot}
 use Rattle.mm_model.specs.declared.rows.Production.{Production}
-use Rattle.mm_model.specs.Names.{Name, sym, label, typecode}
-use Rattle.mm_model.specs.Statements.{Statement, statements, database_fault, labels}
+use Rattle.mm_model.specs.Names.{sym, label, typecode}
+use Rattle.mm_model.specs.Statements.{Statement, statements, database_fault}
 use Rattle.mm_model.specs.Chains.{leads}
 use Rattle.mm_model.specs.Productions.{rows, kept_rows}
 use Rattle.mm_model.specs.FramesExamples.{P}

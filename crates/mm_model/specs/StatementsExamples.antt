@@ -1,7 +1,7 @@
 -- Small databases, computed.
-use Rattle.std.specs.Prelude.{◌≡◌, Some, None, codes, refl}
+use Rattle.std.specs.Prelude.{◌≡◌, ℕ, List, length, Some, None, codes, refl}
 use Rattle.mm_model.specs.Faults.{fault}
-use Rattle.mm_model.specs.Statements.{database_fault}
+use Rattle.mm_model.specs.Statements.{database_fault, statements}
 
 pub redeclares : database_fault (codes "$c wff $. $v wff $.") ≡ Some (fault 13 12)
 redeclares = refl
@@ -116,3 +116,14 @@ variable_again = refl
 
 pub empty_proof : database_fault (codes "$c a $. p $p a $= $.") ≡ None
 empty_proof = refl
+
+-- ---- the first database of the Metamath book
+
+abbrev demo0 : List ℕ
+demo0 = codes "$c 0 + = -> ( ) term wff |- $. $v t r s P Q $. tt $f term t $. tr $f term r $. ts $f term s $. wp $f wff P $. wq $f wff Q $. tze $a term 0 $. tpl $a term ( t + r ) $. weq $a wff t = r $. wim $a wff ( P -> Q ) $. a1 $a |- ( t = r -> ( t = s -> r = s ) ) $. a2 $a |- ( t + 0 ) = t $. ${ min $e |- P $. maj $e |- ( P -> Q ) $. mp $a |- Q $. $} th1 $p |- t = t $= tt tze tpl tt weq tt tt weq tt a2 tt tze tpl tt weq tt tze tpl tt weq tt tt weq wim tt a2 tt tze tpl tt tt a1 mp mp $."
+
+pub demo0_statements : length (statements demo0) ≡ 19
+demo0_statements = refl
+
+pub demo0_clean : database_fault demo0 ≡ None
+demo0_clean = refl

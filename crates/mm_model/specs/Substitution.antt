@@ -22,6 +22,7 @@ Substitution = Leaf → Option Tree
 abbrev pub KeepsConstants : Substitution → Type 0
 KeepsConstants s = (c : Sym) → s (leaf.Const c) ≡ None
 
+-- one layer, where the children are replaced already
 abbrev pub layer_substitute : Substitution → Tree-F Tree → Tree
 layer_substitute s (Tree-F.Var v c) = unwrap_or (s (leaf.Var v c)) (Var v c)
 layer_substitute s (Tree-F.Work c n) = unwrap_or (s (leaf.Work c n)) (Work c n)
@@ -32,6 +33,7 @@ layer_substitute s (Tree-F.Node l c ts) = Node l c ts
 unfoldable pub substitute : Substitution → Tree → Tree
 substitute s = fold-Tree Tree (layer_substitute s)
 
+-- what stands for a leaf of a text
 abbrev pub leaf_text : List Production → Leaf → Option Tree → List Leaf
 leaf_text rows x None = x ∷ []
 leaf_text rows x (Some t) = text rows t
@@ -40,6 +42,7 @@ leaf_text rows x (Some t) = text rows t
 abbrev pub substitute_text : List Production → Substitution → List Leaf → List Leaf
 substitute_text rows s = flat_map (λ x. leaf_text rows x (s x))
 
+-- the leaf is a variable of this typecode
 abbrev pub HasCode : Leaf → Typecode → Type 0
 HasCode (leaf.Const v) d = ⊥
 HasCode (leaf.Var v c) d = d ≡ c

@@ -11,6 +11,7 @@ keywords =
     codes "$c" ∷ codes "$v" ∷ codes "$d" ∷ codes "$f" ∷ codes "$e" ∷ codes "$a" ∷ codes "$p" ∷ codes "$=" ∷ codes "$."
     ∷ codes "${" ∷ codes "$}" ∷ codes "$(" ∷ codes "$)" ∷ codes "$[" ∷ codes "$]" ∷ []
 
+-- the words that open and close a comment
 abbrev pub is_open_comment : Word → Bool
 is_open_comment w = bytes_eq w.bytes (codes "$(")
 
@@ -31,6 +32,7 @@ tokens_where in_comment [] = []
 tokens_where true (w ∷ ws) = tokens_where (not (is_close_comment w)) ws
 tokens_where false (w ∷ ws) = if is_open_comment w then tokens_where true ws else w ∷ tokens_where false ws
 
+-- the tokens of a text: its words outside comments
 abbrev pub tokens : List ℕ → List Word
 tokens text = tokens_where false (words text)
 
@@ -47,6 +49,7 @@ comment_in_comment before w = in_comment before && is_open_comment w
 abbrev pub bad_keyword : List Word → Word → Bool
 bad_keyword before w = not (in_comment before) && (is_close_comment w || is_bad_keyword w)
 
+-- the rules, the lower code first
 abbrev pub word_rules : List (ℕ × (List Word → Word → Bool))
 word_rules = (3, comment_in_comment) ∷ (4, bad_keyword) ∷ []
 

@@ -17,6 +17,7 @@ LayerIsTyped rows before (Tree-F.Fresh c n) = Unit {0}
 LayerIsTyped rows before (Tree-F.Node l c ts) =
     (r : Production) × (row_of rows l ≡ Some r) × (r.at < before) × (r.gives ≡ c) × (map code_of ts ≡ r.slots)
 
+-- a layer is no fresh leaf
 abbrev pub LayerIsNamed : Tree-F Tree → Type 0
 LayerIsNamed (Tree-F.Var s c) = Unit {0}
 LayerIsNamed (Tree-F.Work c n) = Unit {0}

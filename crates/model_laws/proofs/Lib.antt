@@ -1,1 +1,13 @@
+mod Checked
+mod DatabaseFacts
+mod FrameFacts
+mod KnownAt
+mod KnownFacts
+mod LabelFacts
+mod Listed
+mod OneDatabase
+mod Passing
 pub mod PathLaws
+mod RowFacts
+mod Shapes
+mod Symbols

@@ -1,14 +1,13 @@
 -- Chains lead where a path of them does, and a path of kept chains never comes back.
-use Rattle.std.proofs.Common.{◌≡◌, ◌<◌, ◌≤◌, ◌↔◌, ℕ, zero, suc, ◌+◌, ◌-◌, Bool, true, false, ◌&&◌, ◌||◌, List, [], ◌∷◌, ◌++◌, length, reverse, Option, Some, None, refl, sym, ap, ◌∙◌, arith, subst, get_or, inl, inr}
+use Rattle.std.proofs.Common.{◌≡◌, ◌<◌, ◌≤◌, ℕ, suc, ◌+◌, ◌-◌, Bool, true, false, ◌&&◌, List, [], ◌∷◌, ◌++◌, length, reverse, Option, Some, None, refl, sym, ap, ◌∙◌, arith, subst, get_or, inl, inr}
 use Rattle.std.specs.List.{AllByRecursion, Contains}
 use Rattle.std.proofs.lemmas.Bool.{cases_Bool}
 use Rattle.std.proofs.lemmas.Bool.Decides.{nat_tests}
-use Rattle.std.proofs.lemmas.List.{length-reverse, get_or-reverse, reverse-reverse}
+use Rattle.std.proofs.lemmas.List.{length-reverse, get_or-reverse}
 use Rattle.mm_base.specs.declared.symbols.Sym.{Sym}
 use Rattle.mm_base.specs.declared.symbols.Typecode.{Typecode}
 use Rattle.mm_model.specs.declared.rows.Production.{Production}
 use Rattle.mm_model.specs.Chains.{same_code, chain_from, joined, leads, HasNoCycle, rank, kept}
-use Rattle.mm_model.specs.Rows.{AreRows}
 use Rattle.model_laws.specs.Paths.{IsPath, IsPathOf, LeadsByPaths, KeptHaveNoCycle}
 use Rattle.mm_model.proofs.ChainLaws.{leads_self, leads_on, rank_rises}
 use Rattle.mm_model.proofs.KeptLaws.{kept_is_grammar}
@@ -49,11 +48,13 @@ both false q e = absurd cc
 
 through : (r : Production) (older : List Production) (from a b : Typecode) → chain_from r ≡ Some from → Path older a from → Path older r.gives b → Path (r ∷ older) a b
 through r older from a b is (left, l) (right, k) =
-    let here : Contains (r ∷ older) r = (0, omega arith, refl) in
-    (left ++ r ∷ right, record {
-      chains = all_append (r ∷ older) left (r ∷ right) (all_more r older left l.chains) (here, all_more r older right k.chains);
-      joined = path_append left (r ∷ right) a from b l.joined (is, k.joined);
-    })
+    let here : Contains (r ∷ older) r = (0, omega arith, refl) in (
+      left ++ r ∷ right,
+      record {
+        chains = all_append (r ∷ older) left (r ∷ right) (all_more r older left l.chains) (here, all_more r older right k.chains);
+        joined = path_append left (r ∷ right) a from b l.joined (is, k.joined);
+      },
+    )
 
 joined_path : (o : Option Typecode) (r : Production) (older : List Production) (a b : Typecode) → chain_from r ≡ o
     → ((x y : Typecode) → leads older x y ≡ true → Path older x y) → joined o r.gives (leads older) a b ≡ true → Path (r ∷ older) a b

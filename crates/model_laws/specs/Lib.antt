@@ -1,2 +1,3 @@
+pub mod DatabaseLaws
 pub mod Paths
 pub mod SubstitutedTrees

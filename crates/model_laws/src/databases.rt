@@ -1,0 +1,41 @@
+ghost use Rattle.model_laws.specs.DatabaseLaws.{FramesAreWhole, HasDatabaseFacts, LabelsAreDistinct, PositionsRise, RowsAreAGrammar, RowsAreFrames, SymbolsAreDistinct, TextHasOneDatabase};
+
+/// No two labels of a database without a fault are one.
+pub fn labels_are_distinct()
+    ensures { LabelsAreDistinct }
+{}
+
+/// No two of its symbols, by their numbers, are one.
+pub fn symbols_are_distinct()
+    ensures { SymbolsAreDistinct }
+{}
+
+/// Each of its labels has a position, and the positions rise with the labels' numbers.
+pub fn positions_rise()
+    ensures { PositionsRise }
+{}
+
+/// Each of its frames has its label and position; each `$f` in it has two symbols, and their variables differ.
+pub fn frames_are_whole()
+    ensures { FramesAreWhole }
+{}
+
+/// Its kept productions are a grammar.
+pub fn rows_are_a_grammar()
+    ensures { RowsAreAGrammar }
+{}
+
+/// Each of its kept productions is as the frame of its label says.
+pub fn rows_are_frames()
+    ensures { RowsAreFrames }
+{}
+
+/// All that worksheets rest on holds of the database of a text without a fault.
+pub fn has_database_facts()
+    ensures { HasDatabaseFacts }
+{}
+
+/// A text has one database under given kinds: two of them answer alike.
+pub fn text_has_one_database()
+    ensures { TextHasOneDatabase }
+{}
