@@ -13,3 +13,4 @@ pub mod SubstitutionTypes
 pub mod TextLaws
 mod TreesExamples
 pub mod TypedLaws
+mod BookExamples
