@@ -1,3 +1,4 @@
+mod BookExamples
 pub mod Bridge
 pub mod ChainLaws
 pub mod Codes
@@ -13,4 +14,3 @@ pub mod SubstitutionTypes
 pub mod TextLaws
 mod TreesExamples
 pub mod TypedLaws
-mod BookExamples
