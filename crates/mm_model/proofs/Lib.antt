@@ -1,3 +1,4 @@
+mod BookExamples
 pub mod Bridge
 pub mod ChainLaws
 pub mod Codes

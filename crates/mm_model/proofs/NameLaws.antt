@@ -1,6 +1,6 @@
 -- The number of a name that stands in a list of distinct names.
-use Rattle.std.proofs.Common.{◌≡◌, ◌<◌, ◌≤◌, ℕ, true, false, List, [], length, Option, Some, None, cond, option_map, refl, sym, ap, ◌∙◌, arith, get_or, nat_lt}
-use Rattle.std.specs.List.{slice_get, position, position_or_len}
+use Rattle.std.proofs.Common.{◌≡◌, ◌<◌, ℕ, List, [], length, Some, None, cond, option_map, refl, sym, ap, ◌∙◌, arith, get_or, nat_lt}
+use Rattle.std.specs.List.{position, position_or_len}
 use Rattle.std.specs.Str.{bytes_eq}
 use Rattle.std.proofs.lemmas.Bool.{lt-ltb, false_from_ne_true}
 use Rattle.std.proofs.lemmas.List.Sums.{position_or_len_is}
@@ -17,10 +17,10 @@ own_place : (names : List Name) → NamesDiffer names → (k : ℕ) → k < leng
 own_place names differ k l =
     position_or_len_is (bytes_eq (name_at names k)) names k [] (omega (arith, l))
     (λ j less. false_from_ne_true (bytes_eq (name_at names k) (name_at names j)) (λ e.
-      let same : name_at names k ≡ name_at names j = (bytes_eq-Decides (name_at names k) (name_at names j)).0 e in
-      let place : k ≡ j = differ k j (name_at names k) (slice_get-get_or names k [] l) (slice_get-get_or names j [] (omega (arith, l, less)) ∙ ap (λ n. Some n) (sym same)) in
-      let bad : ⊥ = omega (arith, place, less) in
-      bad))
+    let same : name_at names k ≡ name_at names j = (bytes_eq-Decides (name_at names k) (name_at names j)).0 e in
+    let place : k ≡ j = differ k j (name_at names k) (slice_get-get_or names k [] l) (slice_get-get_or names j [] (omega (arith, l, less)) ∙ ap (λ n. Some n) (sym same)) in
+    let bad : ⊥ = omega (arith, place, less) in
+    bad))
     (λ h. (bytes_eq-Decides (name_at names k) (name_at names k)).1 refl)
 
 own_position : (names : List Name) → NamesDiffer names → (k : ℕ) → k < length names → position (bytes_eq (name_at names k)) names ≡ Some k
