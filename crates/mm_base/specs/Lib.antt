@@ -5,5 +5,6 @@ pub mod Host
 pub mod MemSink
 pub mod MemStore
 pub mod Outside
+pub mod OutsideExamples
 pub mod Pairs
 pub mod Trees

@@ -21,6 +21,7 @@ pub use host::{HostSink, HostStore};
 pub use kinds::Kinds;
 pub use limits::{
     MOST_DATABASE_BYTES, MOST_FORMULA_TOKENS, MOST_PROOF_LABELS, MOST_SHEET_BYTES, MOST_WORK_SIZE,
+    MOST_WORK_VARIABLE,
 };
 pub use list::{Bytes, List, Name};
 pub use memory_sink::MemSink;

@@ -14,3 +14,6 @@ pub const MOST_WORK_SIZE: u64 = 1 << 24;
 
 /// The labels of a normal proof.
 pub const MOST_PROOF_LABELS: u64 = 1 << 20;
+
+/// The number of a work variable.
+pub const MOST_WORK_VARIABLE: u32 = u32::MAX;

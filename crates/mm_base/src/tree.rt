@@ -9,11 +9,11 @@ use crate::symbols::{Label, Sym, Typecode};
 pub enum Tree {
     /// A variable of the database.
     Var(Sym, Typecode),
-    /// A work variable, by its typecode and its number.
+    /// A work variable, by its typecode and its number, from 1.
     Work(Typecode, u32),
-    /// A free unknown that has no name yet, by its node in the store.
+    /// A free unknown that has no name yet, by its node in the store of terms.
     Fresh(Typecode, u32),
-    /// A production, with one tree per slot.
+    /// A production, with one tree for each of its variables, in the order of its frame.
     Node(Label, Typecode, List<Tree>),
 }
 
