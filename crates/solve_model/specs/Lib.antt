@@ -1,0 +1,10 @@
+pub mod BindFaults
+pub mod Binding
+pub mod Bound
+pub mod Firsts
+pub mod Formulas
+pub mod MostGeneral
+pub mod PairSets
+pub mod Solutions
+pub mod Trees
+pub mod Verdicts
