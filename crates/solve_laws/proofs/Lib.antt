@@ -1,0 +1,4 @@
+mod OneValuation
+pub mod ReplaceLaws
+pub mod SameTrees
+pub mod SolveLaws

@@ -1,0 +1,3 @@
+pub mod Instances
+pub mod OneValuation
+pub mod Replacements
