@@ -2,6 +2,7 @@ pub mod BindFaults
 pub mod BindFaultsExamples
 pub mod Binding
 pub mod Bound
+pub mod BoundExamples
 pub mod Example
 pub mod ExampleDatabases
 pub mod ExampleSheets
