@@ -24,9 +24,8 @@ abbrev pub HasTree : Database → ℕ → List Name → Option Tree → Type 0
 HasTree db place tokens None = tokens ≡ []
 HasTree db place tokens (Some t) = IsTheTree db place tokens t
 
--- a step as it was read, with the tree of its formula
+-- a step as it was read, with the tree of its formula; nothing rests on the number of its line
 pub record IsBoundStep (db : Database) (place : ℕ) (s : SheetStep) (b : BoundStep) : Type 0 where
-  pub line : b.line ≡ s.line
   pub hyp : b.hyp ≡ s.hyp
   pub name : b.name ≡ s.name
   pub places : b.places ≡ s.places
