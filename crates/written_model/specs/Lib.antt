@@ -1,7 +1,16 @@
+pub mod Again
+pub mod CommandWords
+pub mod FaultLines
 pub mod Filled
 pub mod Found
+pub mod Headline
 pub mod Named
+pub mod Opened
 pub mod Pairs
 pub mod ProofTrees
+pub mod ProofsPush
+pub mod ReadBack
 pub mod Report
+pub mod Written
+pub mod WrittenAgain
 pub mod WrittenSteps

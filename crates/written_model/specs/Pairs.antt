@@ -2,6 +2,7 @@
 use Rattle.std.specs.Prelude.{◌≡◌, Bool, not, ◌==◌, List, [], ◌∷◌, ◌++◌, map, filter, find, flat_map, fold, nat_lt, if◌then◌else◌, Option, Some, None}
 use Rattle.mm_base.specs.declared.symbols.Sym.{Sym}
 use Rattle.mm_base.specs.declared.symbols.Pair.{Pair}
+use Rattle.proof_model.specs.Machine.{is_shared}
 use Rattle.solve_model.specs.Trees.{variables}
 use Rattle.solve_model.specs.PairSets.{ordered, is_pair_in, pair_set}
 use Rattle.written_model.specs.declared.options.DvMode.{DvMode}
@@ -11,9 +12,6 @@ use Rattle.written_model.specs.WrittenSteps.{Use, WrittenStep, value_of}
 -- each variable of the one value of a pair with each of the other
 abbrev pub crossings : Use → Pair → List (Sym × Sym)
 crossings u p = flat_map (λ v. map (λ w. (v, w)) (variables (value_of u p.b))) (variables (value_of u p.a))
-
-abbrev pub is_shared : Sym × Sym → Bool
-is_shared p = p.0.0 == p.1.0
 
 abbrev pub lesser : Option Sym → Sym → Option Sym
 lesser None v = Some v
