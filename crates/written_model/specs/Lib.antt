@@ -1,6 +1,8 @@
 pub mod Again
 pub mod CommandWords
+pub mod CommandWordsExamples
 pub mod FaultLines
+pub mod FaultLinesExamples
 pub mod Filled
 pub mod Found
 pub mod Headline
@@ -13,4 +15,5 @@ pub mod ReadBack
 pub mod Report
 pub mod Written
 pub mod WrittenAgain
+pub mod WrittenExample
 pub mod WrittenSteps

@@ -1,5 +1,5 @@
 -- Pairs of distinct variables that a step needs, and clashes (Metamath book, section 4.1.4).
-use Rattle.std.specs.Prelude.{◌≡◌, Bool, not, ◌==◌, List, [], ◌∷◌, ◌++◌, map, filter, find, flat_map, fold, nat_lt, if◌then◌else◌, Option, Some, None}
+use Rattle.std.specs.Prelude.{◌≡◌, Bool, not, ◌==◌, List, [], ◌∷◌, ◌++◌, map, filter, filter_map, slice_get, find, flat_map, fold, nat_lt, if◌then◌else◌, Option, Some, None}
 use Rattle.mm_base.specs.declared.symbols.Sym.{Sym}
 use Rattle.mm_base.specs.declared.symbols.Pair.{Pair}
 use Rattle.proof_model.specs.Machine.{is_shared}
@@ -21,13 +21,9 @@ lesser (Some u) v = if nat_lt v.0 u.0 then Some v else Some u
 abbrev pub shared_variable : Use → Pair → Option Sym
 shared_variable u p = fold lesser None (map (λ (q : Sym × Sym). q.0) (filter is_shared (crossings u p)))
 
-abbrev pub first_shared : Use → List Pair → Option Sym
-first_shared u [] = None
-first_shared u (p ∷ ps) = elim (shared_variable u p) [ Some v ↦ Some v | None ↦ first_shared u ps ]
-
 -- the least variable that the first clashing pair of the frame shares
 abbrev pub clash_of : Use → Option Sym
-clash_of u = first_shared u u.assertion.frame.pairs
+clash_of u = slice_get (filter_map (shared_variable u) u.assertion.frame.pairs) 0
 
 -- the pairs that a use needs, by lesser and then greater symbol number
 abbrev pub needed : Use → List Pair

@@ -1,0 +1,4 @@
+mod FilledExamples
+mod FoundExamples
+mod PairsExamples
+pub mod SyntaxProofs
