@@ -1,4 +1,6 @@
 mod FilledExamples
 mod FoundExamples
 mod PairsExamples
+mod ProofTreesExamples
 pub mod SyntaxProofs
+mod WrittenExamples
