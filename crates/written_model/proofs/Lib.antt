@@ -1,5 +1,8 @@
+mod BlankExample
+mod DoublingExamples
 mod FilledExamples
 mod FoundExamples
+mod NamedExamples
 mod PairsExamples
 mod ProofTreesExamples
 pub mod SyntaxProofs
