@@ -1,6 +1,6 @@
 -- A step that is set aside between two that are accepted:
 -- `1::ax-1 |- ( ph -> &W1 )`, `2:1,1:ax-mp |- &W2`, `3::ax-1 |- ( &W2 -> ( ps -> &W2 ) )`, `qed:: |- ( ph -> ps )`.
-use Rattle.std.specs.Prelude.{◌≡◌, ◌==◌, ℕ, zero, suc, if◌then◌else◌, List, [], ◌∷◌, take, Option, Some, None, slice_get, codes, refl}
+use Rattle.std.specs.Prelude.{◌≡◌, ◌==◌, ℕ, zero, suc, if◌then◌else◌, List, [], ◌∷◌, take, map, Option, Some, None, slice_get, codes, refl}
 use Rattle.std.specs.List.{AllByRecursion}
 use Rattle.std.proofs.Common.{sym, ap, subst, ◌∙◌, inl}
 use Rattle.mm_base.specs.declared.tree.Tree.{Tree}
@@ -14,7 +14,7 @@ use Rattle.solve_model.specs.declared.bound.BoundStep.{BoundStep}
 use Rattle.solve_model.specs.declared.verdict.Verdict.TheVariants as verdict
 use Rattle.solve_model.specs.Bound.{standing}
 use Rattle.solve_model.specs.Solutions.{Unknown, named, blank, copy, Valuation, Asked, IsUnknown, IsValuation, Solves, Solvable, unknown_code}
-use Rattle.solve_model.specs.Verdicts.{Outcome, accepted, stands, asked, accepted_in, FitsIn, IsOutcome, AreJudged}
+use Rattle.solve_model.specs.Verdicts.{Outcome, accepted, stands, asked, accepted_in, verdict_of, FitsIn, IsOutcome, AreJudged}
 use Rattle.solve_model.specs.BoundExamples.{step, bound}
 use Rattle.solve_model.specs.Example.{P, wff, ph, ps, ch, wi, ax_mp, ax_1}
 use Rattle.solve_model.proofs.TreeLaws.{replaces}
@@ -105,3 +105,6 @@ each (suc (suc (suc (suc i)))) s o e f = absurd (cc)
 
 pub are_judged : AreJudged P sheet outcomes
 are_judged = record { count = refl; each = each }
+
+pub verdicts : map verdict_of outcomes ≡ verdict.Fits ∷ verdict.NoFit ∷ verdict.Fits ∷ verdict.NoRef ∷ []
+verdicts = refl

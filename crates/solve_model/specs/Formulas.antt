@@ -66,9 +66,11 @@ pub record IsTheTree (db : Database) (place : ℕ) (tokens : List Name) (t : Tre
   pub parses : IsTreeOf db place tokens t
   pub only : (u : Tree) → IsTreeOf db place tokens u → u ≡ t
 
+-- the formula has no tree
 abbrev pub HasNoTree : Database → ℕ → List Name → Type 0
 HasNoTree db place tokens = (t : Tree) → IsTreeOf db place tokens t → ⊥
 
+-- the formula has two different trees
 pub record HasTwoTrees (db : Database) (place : ℕ) (tokens : List Name) : Type 0 where
   pub one : Tree
   pub other : Tree

@@ -24,6 +24,7 @@ asked_of (stands v) = None
 abbrev pub accepted_in : List Outcome → List Asked
 accepted_in outcomes = filter_map asked_of outcomes
 
+-- the verdict of an outcome
 abbrev pub verdict_of : Outcome → Verdict
 verdict_of (accepted x) = verdict.Fits
 verdict_of (stands v) = v

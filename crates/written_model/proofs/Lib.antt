@@ -2,6 +2,7 @@ mod BlankExample
 mod DoublingExamples
 mod FilledExamples
 mod FoundExamples
+mod HeadlineExamples
 mod NamedExamples
 mod PairsExamples
 mod ProofTreesExamples

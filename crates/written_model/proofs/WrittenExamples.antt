@@ -12,6 +12,8 @@ use Rattle.sheet_text.specs.declared.sheet.Sheet.{Sheet}
 use Rattle.sheet_text.specs.Layout.{ended, layout, spaced}
 use Rattle.sheet_text.specs.Reads.{unnumbered}
 use Rattle.sheet_text.specs.ReadsExamples.{text}
+use Rattle.mm_model.proofs.SizeLaws.{node_counts}
+use Rattle.solve_model.specs.Bound.{work_size}
 use Rattle.solve_model.specs.Binding.{theorem_of}
 use Rattle.solve_model.specs.Example.{P, ph, ps, wi}
 use Rattle.solve_model.specs.ExampleSheets.{sheet, sheet_text}
@@ -20,7 +22,7 @@ use Rattle.written_model.specs.declared.options.DvMode.TheVariants as dv
 use Rattle.written_model.specs.WrittenSteps.{WrittenStep, step, steps_in}
 use Rattle.written_model.specs.ProofTrees.{Finished, is_complete}
 use Rattle.written_model.specs.Found.{is_ground}
-use Rattle.written_model.specs.Written.{written_sheet, written_log, qed_proof, proof_text, frames_of, named}
+use Rattle.written_model.specs.Written.{written_sheet, written_log, qed_proof, frames_of, named, label_count, written_bound}
 use Rattle.written_model.specs.Headline.{proof_tokens}
 use Rattle.written_model.specs.Again.{again}
 use Rattle.written_model.specs.WrittenExample.{compressed, normal, read, writing, first, found, last}
@@ -103,3 +105,12 @@ finished = record { hyps = λ i e h is. (ready i e h).0; no_work = λ i e h b. (
 
 pub nothing_made : named P compressed (again P compressed writing) ≡ (again P compressed writing).items
 nothing_made = simp replaces refl
+
+-- ---- the numbers that are looked at before it is written: labels, work size, bytes
+
+pub labels : label_count P compressed writing ≡ 9
+labels = simp (texts, syntax_proofs) refl
+
+-- 1, the 5 of the derived step and the 5 of ax-1, the 3 of the last step and the 5 of ax-mp
+pub size : work_size P (written_bound P compressed writing) ≡ 19
+size = simp node_counts refl
