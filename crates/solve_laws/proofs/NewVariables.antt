@@ -1,5 +1,5 @@
 -- A most general valuation has no variable that the worksheet lacks: with a fresh leaf in its place the valuation still solves, and would be no instance.
-use Rattle.std.specs.Prelude.{◌≡◌, ◌==◌, ◌<◌, ◌⊎◌, ℕ, zero, suc, Bool, true, false, if◌then◌else◌, Contains, List, [], ◌∷◌, ◌++◌, length, map, flat_map, slice_index_or, Option, Some, None, refl}
+use Rattle.std.specs.Prelude.{◌≡◌, ◌==◌, ℕ, zero, suc, Bool, true, false, if◌then◌else◌, Contains, List, [], ◌∷◌, map, slice_index_or, Option, Some, None, refl}
 use Rattle.std.specs.List.{AllByRecursion}
 use Rattle.std.proofs.Common.{sym, ap, subst, ◌∙◌, arith, cond, inl, inr}
 use Rattle.std.proofs.lemmas.Bool.Decides.{nat_tests}
@@ -7,17 +7,16 @@ use Rattle.std.proofs.lemmas.List.Elements.{Contains-append_left, Contains-appen
 use Rattle.mm_base.specs.declared.symbols.Sym.{Sym}
 use Rattle.mm_base.specs.declared.symbols.Typecode.{Typecode}
 use Rattle.mm_base.specs.declared.tree.Tree.{Tree}
-use Rattle.mm_base.specs.declared.tree.Tree.TheVariants.{Var, Work, Fresh, Node}
-use Rattle.mm_base.specs.Trees.{Each, code_of}
+use Rattle.mm_base.specs.declared.tree.Tree.TheVariants.{Var, Fresh, Node}
+use Rattle.mm_base.specs.Trees.{Each}
 use Rattle.mm_base.proofs.TreeInduction.{tree_ind}
 use Rattle.mm_model.specs.Book.{Database}
-use Rattle.mm_model.specs.Typed.{IsTyped}
 use Rattle.mm_model.proofs.TypedLaws.{code-Var, code-Work, typed-Var, typed-Work}
 use Rattle.sheet_text.specs.declared.sheet.Given.{Given}
 use Rattle.sheet_text.specs.declared.sheet.Given.TheVariants as given
 use Rattle.solve_model.specs.declared.bound.Bound.{Bound}
-use Rattle.solve_model.specs.Trees.{Open, work, fresh, leaf_tree, open_code, replace, open_leaves, variables, flatten, Occurs}
-use Rattle.solve_model.specs.Solutions.{Unknown, named, blank, copy, Valuation, Asked, Solves, PlacesFit, IsUnknown, IsValuation, formula_value, formula, instance, open_value, no_step, unknown_code}
+use Rattle.solve_model.specs.Trees.{Open, work, fresh, leaf_tree, open_code, replace, open_leaves, variables, flatten}
+use Rattle.solve_model.specs.Solutions.{Unknown, copy, Valuation, Asked, Solves, PlacesFit, IsUnknown, IsValuation, formula_value, formula, instance, open_value, no_step}
 use Rattle.solve_model.specs.MostGeneral.{Refinement, refine}
 use Rattle.solve_model.proofs.TreeLaws.{replace-Var, replace-Work, replace-Fresh, replace-Node, open_leaves-Work, open_leaves-Fresh, open_leaves-Node, variables-Var, variables-Work, variables-Fresh, variables-Node}
 use Rattle.solve_laws.specs.Instances.{IsClosedTree, IsClosed}
@@ -68,9 +67,9 @@ module _ (r : Refinement) (s : Sym) where
   all_stay : (ts : List Tree) → Each Stays ts → Contains (flatten (map variables ts)) s → Contains (flatten (map variables (map (refine r) ts))) s
   all_stay [] h o = o
   all_stay (t ∷ ts) h o = elim (Contains-append_cases (variables t) (flatten (map variables ts)) s o) [
-      | inl one ↦ Contains-append_left (variables (refine r t)) (flatten (map variables (map (refine r) ts))) s (h.0 one)
-      | inr later ↦ Contains-append_right (variables (refine r t)) (flatten (map variables (map (refine r) ts))) s (all_stay ts h.1 later)
-    ]
+    | inl one ↦ Contains-append_left (variables (refine r t)) (flatten (map variables (map (refine r) ts))) s (h.0 one)
+    | inr later ↦ Contains-append_right (variables (refine r t)) (flatten (map variables (map (refine r) ts))) s (all_stay ts h.1 later)
+  ]
 
   variable_stays : (t : Tree) → Stays t
   variable_stays = tree_ind Stays
@@ -141,7 +140,7 @@ module _ (s : Sym) where
     freed-instance : (i : ℕ) (t : Tree) → IsClosedTree t → freed (instance g i t) ≡ instance other i t
     freed-instance i t closed =
         replace-replace without (λ v c. g (copy i v c)) leaf_tree leaf_tree t
-          ∙ replace-agree (λ v c. freed (g (copy i v c))) (λ v c. other (copy i v c)) (λ x. freed (leaf_tree x)) leaf_tree (λ v c. refl) t (λ x o. absurd (closed x o))
+        ∙ replace-agree (λ v c. freed (g (copy i v c))) (λ v c. other (copy i v c)) (λ x. freed (leaf_tree x)) leaf_tree (λ v c. refl) t (λ x o. absurd (closed x o))
 
     at_open : (x : Open) → freed (open_value g x) ≡ open_value other x
     at_open (work c n) = refl
@@ -151,8 +150,8 @@ module _ (s : Sym) where
     freed-formula_value i None h = refl
     freed-formula_value i (Some t) h =
         replace-replace without (λ v c. Var v c) leaf_tree (open_value g) t
-          ∙ replace-agree_on (λ v c. freed (Var v c)) (λ v c. Var v c) (λ x. freed (open_value g x)) (open_value other) t
-            (λ v c o. stays_other v c (λ e. h (subst (Contains (variables t)) e o))) (λ x o. at_open x)
+        ∙ replace-agree_on (λ v c. freed (Var v c)) (λ v c. Var v c) (λ x. freed (open_value g x)) (open_value other) t
+        (λ v c o. stays_other v c (λ e. h (subst (Contains (variables t)) e o))) (λ x o. at_open x)
 
     module _ (bound : Bound) (lacks : HasNot bound s) where
       freed-formula : (i : ℕ) → freed (formula bound g i) ≡ formula bound other i
@@ -166,9 +165,9 @@ module _ (s : Sym) where
 
       solves_one : (x : Asked) → IsClosed x → Solves bound g x → Solves bound other x
       solves_one x closed h = record {
-          conclusion = sym (freed-instance x.step x.assertion.tree closed.0) ∙ ap freed h.conclusion ∙ freed-formula x.step;
-          places = places_fit x.step x.places x.assertion.hyps closed.1 h.places
-        }
+        conclusion = sym (freed-instance x.step x.assertion.tree closed.0) ∙ ap freed h.conclusion ∙ freed-formula x.step;
+        places = places_fit x.step x.places x.assertion.hyps closed.1 h.places;
+      }
 
       solves_all : (xs : List Asked) → AllByRecursion IsClosed xs → AllByRecursion (Solves bound g) xs → AllByRecursion (Solves bound other) xs
       solves_all [] closed h = h
@@ -176,9 +175,9 @@ module _ (s : Sym) where
 
     other_valuation : (db : Database) (place : ℕ) (On : Unknown → Type 0) → IsValuation db place On g → IsValuation db place On other
     other_valuation db place On h = record {
-        code = λ u on. (replaced_typed db.rows place without leaf_tree (keeps db place) (g u) (h.typed u on)).code ∙ h.code u on;
-        typed = λ u on. (replaced_typed db.rows place without leaf_tree (keeps db place) (g u) (h.typed u on)).typed
-      }
+      code = λ u on. (replaced_typed db.rows place without leaf_tree (keeps db place) (g u) (h.typed u on)).code ∙ h.code u on;
+      typed = λ u on. (replaced_typed db.rows place without leaf_tree (keeps db place) (g u) (h.typed u on)).typed;
+    }
 
 pub no_new_variable : (db : Database) (bound : Bound) (accepted : List Asked) → NoNewVariable db bound accepted
 no_new_variable db bound accepted g u s general closed on lacks o =

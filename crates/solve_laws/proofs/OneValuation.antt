@@ -1,22 +1,20 @@
 -- The most general valuation is one, up to the numbers of fresh leaves.
-use Rattle.std.specs.Prelude.{◌≡◌, ℕ, zero, suc, ◌<◌, ◌≤◌, ◌⊎◌, Contains, List, [], ◌∷◌, ◌++◌, length, map, flat_map, Option, Some, None, refl}
+use Rattle.std.specs.Prelude.{◌≡◌, ℕ, zero, suc, ◌≤◌, Contains, List, [], ◌∷◌, map, Option, Some, None, refl}
 use Rattle.std.proofs.Common.{sym, ap, subst, ◌∙◌, arith, inl, inr}
 use Rattle.std.proofs.lemmas.List.Elements.{Contains-append_left, Contains-append_right, Contains-append_cases}
-use Rattle.mm_base.specs.declared.symbols.Sym.{Sym}
-use Rattle.mm_base.specs.declared.symbols.Label.{Label}
 use Rattle.mm_base.specs.declared.symbols.Typecode.{Typecode}
 use Rattle.mm_base.specs.declared.tree.Tree.{Tree, out-Tree}
-use Rattle.mm_base.specs.declared.tree.Tree.TheVariants.{Var, Work, Fresh, Node, outs-Var, outs-Work, outs-Fresh, outs-Node}
+use Rattle.mm_base.specs.declared.tree.Tree.TheVariants.{Var, Work, Fresh, outs-Var, outs-Work, outs-Fresh, outs-Node}
 use Rattle.mm_base.specs.declared.tree.Tree.TheOpen.{Tree-F}
 use Rattle.mm_base.proofs.TreeInduction.{tree_ind}
 use Rattle.mm_base.specs.Trees.{layer_code, code_of, Each}
 use Rattle.mm_model.specs.Book.{Database}
 use Rattle.solve_model.specs.declared.bound.Bound.{Bound}
-use Rattle.solve_model.specs.Trees.{Open, work, fresh, leaf_tree, open_code, replace, open_leaves, flatten, Occurs}
+use Rattle.solve_model.specs.Trees.{Open, work, fresh, leaf_tree, open_code, open_leaves, flatten, Occurs}
 use Rattle.solve_model.proofs.TreeLaws.{replace-Var, replace-Work, replace-Fresh, replace-Node}
-use Rattle.solve_model.specs.Solutions.{Unknown, named, Valuation, IsValuation, IsUnknown, Asked, unknown_code}
+use Rattle.solve_model.specs.Solutions.{Unknown, named, Valuation, IsUnknown, Asked, unknown_code}
 use Rattle.solve_model.specs.MostGeneral.{Refinement, refine, IsInstance, IsTheValuation, IsNamedLeaf}
-use Rattle.solve_laws.specs.OneValuation.{renumbered, SameUpToFresh, MostGeneralIsOne}
+use Rattle.solve_laws.specs.OneValuation.{renumbered, MostGeneralIsOne}
 use Rattle.solve_model.proofs.TreeLaws.{open_leaves-Var, open_leaves-Work, open_leaves-Fresh, open_leaves-Node}
 use Rattle.solve_laws.proofs.ReplaceLaws.{replace-replace, replace-agree, agree-replace, replace-self}
 
@@ -68,9 +66,9 @@ module _ (r : Refinement) (x y : Open) where
   passes_all : (ts : List Tree) → Each Passes ts → Contains (flatten (map open_leaves ts)) x → Occurs y (r x) → Contains (flatten (map open_leaves (map (refine r) ts))) y
   passes_all [] h (k, l, is) o = absurd (omega (arith, l))
   passes_all (t ∷ ts) h m o = elim (Contains-append_cases (open_leaves t) (flatten (map open_leaves ts)) x m) [
-      | inl here ↦ Contains-append_left (open_leaves (refine r t)) (flatten (map open_leaves (map (refine r) ts))) y (h.0 here o)
-      | inr later ↦ Contains-append_right (open_leaves (refine r t)) (flatten (map open_leaves (map (refine r) ts))) y (passes_all ts h.1 later o)
-    ]
+    | inl here ↦ Contains-append_left (open_leaves (refine r t)) (flatten (map open_leaves (map (refine r) ts))) y (h.0 here o)
+    | inr later ↦ Contains-append_right (open_leaves (refine r t)) (flatten (map open_leaves (map (refine r) ts))) y (passes_all ts h.1 later o)
+  ]
 
   pub occurs-refine : (t : Tree) → Passes t
   occurs-refine = tree_ind Passes
@@ -113,7 +111,7 @@ module _ (db : Database) (bound : Bound) (accepted : List Asked) (g h : Valuatio
   round_trip : (u : Unknown) → On u → refine (λ x. refine s (r x)) (g u) ≡ refine leaf_tree (g u)
   round_trip u on =
       replace-agree (λ v c. Var v c) (λ v c. refine s (Var v c)) (λ x. refine s (r x)) (λ x. refine s (r x)) (λ v c. sym (replace-Var _ s v c)) (g u) (λ x o. refl)
-        ∙ sym (replace-replace (λ v c. Var v c) (λ v c. Var v c) s r (g u)) ∙ ap (refine s) (sym (there.same u on)) ∙ sym (back.same u on) ∙ sym (replace-self (g u))
+      ∙ sym (replace-replace (λ v c. Var v c) (λ v c. Var v c) s r (g u)) ∙ ap (refine s) (sym (there.same u on)) ∙ sym (back.same u on) ∙ sym (replace-self (g u))
 
   -- there and back, an open leaf of a value is itself
   pub returns : (u : Unknown) (x : Open) → On u → Occurs x (g u) → refine s (r x) ≡ leaf_tree x
@@ -181,8 +179,8 @@ module _ (db : Database) (bound : Bound) (accepted : List Asked) (g h : Valuatio
 -- there is one most general valuation, up to the numbers of fresh leaves
 pub most_general_is_one : (db : Database) (bound : Bound) (accepted : List Asked) → MostGeneralIsOne db bound accepted
 most_general_is_one db bound accepted g h one other = record {
-    renumber = numbers (r db bound accepted g h one other);
-    back = numbers (r db bound accepted h g other one);
-    there = renumbers db bound accepted g h one other;
-    again = renumbers db bound accepted h g other one
-  }
+  renumber = numbers (r db bound accepted g h one other);
+  back = numbers (r db bound accepted h g other one);
+  there = renumbers db bound accepted g h one other;
+  again = renumbers db bound accepted h g other one;
+}

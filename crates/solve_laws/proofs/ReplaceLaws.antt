@@ -1,16 +1,15 @@
 -- Laws of replaced leaves.
-use Rattle.std.specs.Prelude.{◌≡◌, ◌↔◌, ℕ, zero, suc, ◌<◌, ◌⊎◌, Contains, List, [], ◌∷◌, ◌++◌, length, map, flat_map, refl}
+use Rattle.std.specs.Prelude.{◌≡◌, ◌↔◌, zero, suc, Contains, List, [], ◌∷◌, map, refl}
 use Rattle.std.proofs.Common.{sym, ap, subst, ◌∙◌, arith, inl, inr}
 use Rattle.std.proofs.lemmas.List.Elements.{Contains-append_left, Contains-append_right, Contains-append_cases}
 use Rattle.mm_base.specs.declared.symbols.Sym.{Sym}
-use Rattle.mm_base.specs.declared.symbols.Label.{Label}
 use Rattle.mm_base.specs.declared.symbols.Typecode.{Typecode}
 use Rattle.mm_base.specs.declared.tree.Tree.{Tree}
-use Rattle.mm_base.specs.declared.tree.Tree.TheVariants.{Var, Work, Fresh, Node}
+use Rattle.mm_base.specs.declared.tree.Tree.TheVariants.{Var, Node}
 use Rattle.mm_base.specs.Trees.{Each}
 use Rattle.mm_base.proofs.TreeInduction.{tree_ind}
 use Rattle.mm_base.proofs.TreeFacts.{same_node}
-use Rattle.solve_model.specs.Trees.{Open, work, fresh, leaf_tree, replace, open_leaves, flatten, Occurs}
+use Rattle.solve_model.specs.Trees.{Open, work, fresh, leaf_tree, replace, open_leaves, flatten}
 use Rattle.solve_model.proofs.TreeLaws.{replace-Var, replace-Work, replace-Fresh, replace-Node, open_leaves-Var, open_leaves-Work, open_leaves-Fresh, open_leaves-Node}
 
 contains_one : (x y : Open) → Contains (y ∷ []) x → y ≡ x

@@ -3,8 +3,8 @@ use Rattle.std.specs.Prelude.{◌≡◌, ℕ, List, [], ◌∷◌, map, refl}
 use Rattle.std.proofs.Common.{sym, ap, subst, ◌∙◌}
 use Rattle.mm_base.specs.declared.symbols.Sym.{Sym}
 use Rattle.mm_base.specs.declared.symbols.Typecode.{Typecode}
-use Rattle.mm_base.specs.declared.tree.Tree.{Tree, out-Tree}
-use Rattle.mm_base.specs.declared.tree.Tree.TheVariants.{Var, Work, Fresh, Node, outs-Fresh, rolls-Fresh}
+use Rattle.mm_base.specs.declared.tree.Tree.{Tree}
+use Rattle.mm_base.specs.declared.tree.Tree.TheVariants.{Fresh, outs-Fresh, rolls-Fresh}
 use Rattle.mm_base.specs.declared.tree.Tree.TheOpen.{Tree-F}
 use Rattle.mm_base.specs.declared.tree.Tree.TheFolds.{every_made-Tree}
 use Rattle.mm_base.specs.Trees.{Each, layer_code, code_of}
@@ -45,9 +45,9 @@ module _ (rows : List Production) (before : ℕ) (at_var : Sym → Typecode → 
       (λ c n p. typed_as _ _ _ _ (code-Work c n) (replace-Work at_var at_open c n) (keeps.open_leaves (work c n)))
       (λ c n p. typed_as _ _ _ _ (code-Fresh c n) (replace-Fresh at_var at_open c n) (keeps.open_leaves (fresh c n)))
       (λ l c ts h p.
-        let here = typed_here rows before l c ts p in
-        let below = children_kept ts h (typed_held rows before l c ts p) in
-        typed_as _ _ _ _ (code-Node l c ts) (replace-Node at_var at_open l c ts) (record {
-          code = code-Node l c (map (replace at_var at_open) ts);
-          typed = typed-Node rows before l c (map (replace at_var at_open) ts) (here.0, here.1, here.2, here.3, below.1 ∙ here.4) below.0
-        }))
+      let here = typed_here rows before l c ts p in
+      let below = children_kept ts h (typed_held rows before l c ts p) in
+      typed_as _ _ _ _ (code-Node l c ts) (replace-Node at_var at_open l c ts) (record {
+        code = code-Node l c (map (replace at_var at_open) ts);
+        typed = typed-Node rows before l c (map (replace at_var at_open) ts) (here.0, here.1, here.2, here.3, below.1 ∙ here.4) below.0;
+      }))

@@ -88,12 +88,12 @@ at_node l c ts told = tree_ind (λ u. layer_same (Tree-F.Node l c (map same_tree
     (λ d m e. let h : false ≡ true = rw outs-Work at e in absurd (cc))
     (λ d m e. let h : false ≡ true = rw outs-Fresh at e in absurd (cc))
     (λ k d us i e.
-      let outer = both (l.0 == k.0 && same_code c d) (all_pass (map same_tree ts) us) (rw outs-Node at e) in
-      let inner = both (l.0 == k.0) (same_code c d) outer.0 in
-      let one = same_label l k inner.0 in
-      let other = codes_same c d inner.1 in
-      let rest = all_told ts us told outer.1 in
-      cc)
+    let outer = both (l.0 == k.0 && same_code c d) (all_pass (map same_tree ts) us) (rw outs-Node at e) in
+    let inner = both (l.0 == k.0) (same_code c d) outer.0 in
+    let one = same_label l k inner.0 in
+    let other = codes_same c d inner.1 in
+    let rest = all_told ts us told outer.1 in
+    cc)
 
 told_equal : (t : Tree) → IsTold t
 told_equal = tree_ind IsTold
@@ -122,7 +122,7 @@ itself = tree_ind IsItself
     (λ c n. same-Work c n (Work c n) ∙ ap (layer_same (Tree-F.Work c n)) (outs-Work c n) ∙ passed (same_code c c) (n == n) (self_number c.0.0) (self_number n))
     (λ c n. same-Fresh c n (Fresh c n) ∙ ap (layer_same (Tree-F.Fresh c n)) (outs-Fresh c n) ∙ passed (same_code c c) (n == n) (self_number c.0.0) (self_number n))
     (λ l c ts h. same-Node l c ts (Node l c ts) ∙ ap (layer_same (Tree-F.Node l c (map same_tree ts))) (outs-Node l c ts)
-      ∙ passed (l.0 == l.0 && same_code c c) (all_pass (map same_tree ts) ts) (passed (l.0 == l.0) (same_code c c) (self_number l.0) (self_number c.0.0)) (all_themselves ts h))
+    ∙ passed (l.0 == l.0 && same_code c c) (all_pass (map same_tree ts) ts) (passed (l.0 == l.0) (same_code c c) (self_number l.0) (self_number c.0.0)) (all_themselves ts h))
 
 pub same_tree-Decides : (t u : Tree) → (same_tree t u ≡ true) ↔ (t ≡ u)
 same_tree-Decides t u = (told_equal t u, λ e. subst (λ x. same_tree t x ≡ true) e (itself t))

@@ -17,36 +17,30 @@ pub fn replaced_leaves()
     ensures twice { ReplacedTwice }
     ensures by_self { ReplacedBySelf }
     ensures alike { ReplacedAlike }
-{
-}
+{}
 
 /// A typed tree whose leaves are replaced by typed trees of their typecodes is typed, with its typecode.
 pub fn replaced_is_typed()
     ensures { ReplacedIsTyped }
-{
-}
+{}
 
 /// The test of two trees says whether they are equal.
 pub fn same_trees_are_equal()
     ensures { SameTreeDecides }
-{
-}
+{}
 
 /// A valuation that is an instance of a solution solves too.
 pub fn instance_solves()
     ensures { (bound : Bound) (asked : List Asked) → InstanceSolves bound asked }
-{
-}
+{}
 
 /// There is at most one most general valuation, up to the numbers of its fresh leaves. So the written formulas are a
 /// function of the database and the worksheet.
 pub fn most_general_is_one()
     ensures { (db : Database) (bound : Bound) (accepted : List Asked) → MostGeneralIsOne db bound accepted }
-{
-}
+{}
 
 /// A most general valuation has no variable of the database that the worksheet lacks.
 pub fn no_new_variable()
     ensures { (db : Database) (bound : Bound) (accepted : List Asked) → NoNewVariable db bound accepted }
-{
-}
+{}

@@ -1,5 +1,5 @@
 -- A cycle: a step from `&W1` and `&W1` by modus ponens. No valuation solves it, in either order of its places, and so it is set aside.
-use Rattle.std.specs.Prelude.{◌≡◌, ◌+◌, List, [], ◌∷◌, sum, Some, codes}
+use Rattle.std.specs.Prelude.{◌≡◌, ◌+◌, [], ◌∷◌, sum, Some, codes}
 use Rattle.std.proofs.Common.{sym, ap, ◌∙◌, arith}
 use Rattle.mm_base.specs.declared.tree.Tree.{Tree}
 use Rattle.mm_base.specs.declared.tree.Tree.TheVariants.{Work}

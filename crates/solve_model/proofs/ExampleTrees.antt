@@ -4,7 +4,7 @@ use Rattle.std.proofs.Common.{sym, ap, arith, lit<, cond, ◌∙◌}
 use Rattle.std.proofs.lemmas.Bool.Decides.{nat_tests}
 use Rattle.mm_base.specs.declared.symbols.Typecode.{Typecode}
 use Rattle.mm_base.specs.declared.tree.Tree.{Tree}
-use Rattle.mm_base.specs.declared.tree.Tree.TheVariants.{Var, Work}
+use Rattle.mm_base.specs.declared.tree.Tree.TheVariants.{Work}
 use Rattle.mm_base.specs.Trees.{code_of}
 use Rattle.mm_model.specs.Chains.{same_code}
 use Rattle.mm_model.specs.Names.{label}
@@ -22,9 +22,9 @@ two_codes a b p q = cc
 
 pub implication : (a b : Tree) → IsFormula a → IsFormula b → IsFormula (wi a b)
 implication a b p q = record {
-    code = code-Node _ _ _;
-    typed = typed-Node P.rows 14 (label 4) wff (a ∷ b ∷ []) (_, refl, lit< tt, refl, two_codes (code_of a) (code_of b) p.code q.code) (p.typed, (q.typed, tt))
-  }
+  code = code-Node _ _ _;
+  typed = typed-Node P.rows 14 (label 4) wff (a ∷ b ∷ []) (_, refl, lit< tt, refl, two_codes (code_of a) (code_of b) p.code q.code) (p.typed, (q.typed, tt));
+}
 
 pub either : (b : Bool) (t u : Tree) → IsFormula t → IsFormula u → IsFormula (cond b t u)
 either true t u p q = p

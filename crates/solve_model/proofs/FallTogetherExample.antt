@@ -1,9 +1,9 @@
 -- Two work variables that fall together: `qed::ax-1 |- ( &W3 -> ( ps -> &W1 ) )` has both as `&W1`, the least.
-use Rattle.std.specs.Prelude.{◌≡◌, ◌==◌, ◌≤◌, ◌⊎◌, None, ℕ, zero, suc, List, [], ◌∷◌, Contains, if◌then◌else◌, Some, slice_get, codes, refl}
+use Rattle.std.specs.Prelude.{◌≡◌, ◌==◌, ◌≤◌, ◌⊎◌, None, ℕ, zero, suc, [], ◌∷◌, Contains, if◌then◌else◌, Some, slice_get, codes, refl}
 use Rattle.std.proofs.Common.{sym, ap, subst, ◌∙◌, arith, inl, inr}
 use Rattle.mm_base.specs.declared.symbols.Typecode.{Typecode}
 use Rattle.mm_base.specs.declared.tree.Tree.{Tree}
-use Rattle.mm_base.specs.declared.tree.Tree.TheVariants.{Var, Work, Fresh}
+use Rattle.mm_base.specs.declared.tree.Tree.TheVariants.{Work, Fresh}
 use Rattle.mm_base.specs.Trees.{code_of}
 use Rattle.mm_base.proofs.TreeFacts.{same_node}
 use Rattle.mm_model.specs.Names.{sym as symbol}
@@ -97,11 +97,11 @@ is_one_of (copy i s c) (in_frame x v m o) = frame_is x v (candidate_is x m) o
 -- a fact of the four is a fact of each unknown
 by_cases : (F : Unknown → Type 0) → F first → F third → F left → F right → (u : Unknown) → On u → F u
 by_cases F a b c d u on = elim (is_one_of u on) [
-    | inl (inl e) ↦ rw e a
-    | inl (inr e) ↦ rw e b
-    | inr (inl e) ↦ rw e c
-    | inr (inr e) ↦ rw e d
-  ]
+  | inl (inl e) ↦ rw e a
+  | inl (inr e) ↦ rw e b
+  | inr (inl e) ↦ rw e c
+  | inr (inr e) ↦ rw e d
+]
 
 first_is : On first
 first_is = in_formula 0 qed formula refl refl (rw leaves_of (1, omega arith, refl))
@@ -110,9 +110,9 @@ first_is = in_formula 0 qed formula refl refl (rw leaves_of (1, omega arith, ref
 
 is_valuation : IsValuation P 14 On value
 is_valuation = record {
-    code = by_cases (λ u. code_of (value u) ≡ unknown_code P u) (code-Work wff 1) (code-Work wff 1) (code-Work wff 1) (code-Var (symbol 7) wff);
-    typed = by_cases (λ u. IsTyped P.rows 14 (value u)) (typed-Work P.rows 14 wff 1) (typed-Work P.rows 14 wff 1) (typed-Work P.rows 14 wff 1) (typed-Var P.rows 14 (symbol 7) wff)
-  }
+  code = by_cases (λ u. code_of (value u) ≡ unknown_code P u) (code-Work wff 1) (code-Work wff 1) (code-Work wff 1) (code-Var (symbol 7) wff);
+  typed = by_cases (λ u. IsTyped P.rows 14 (value u)) (typed-Work P.rows 14 wff 1) (typed-Work P.rows 14 wff 1) (typed-Work P.rows 14 wff 1) (typed-Var P.rows 14 (symbol 7) wff);
+}
 
 solved : Solves sheet value candidate
 solved = record { conclusion = simp replaces refl; places = tt }
@@ -148,18 +148,18 @@ general v s =
     let h = says v s in
     record {
       by = by_first v;
-      same = by_cases (λ u. v u ≡ refine (by_first v) (value u)) (sym (refined v)) (sym h.third_is ∙ h.first_is ∙ sym (refined v)) (h.first_is ∙ sym (refined v)) (h.right_is ∙ sym (refined_ps v))
+      same = by_cases (λ u. v u ≡ refine (by_first v) (value u)) (sym (refined v)) (sym h.third_is ∙ h.first_is ∙ sym (refined v)) (h.first_is ∙ sym (refined v)) (h.right_is ∙ sym (refined_ps v));
     }
 
 -- ---- its one open leaf is `&W1`
 
 least : (n : ℕ) → On (named wff n) → 1 ≤ n
 least n on = elim (is_one_of (named wff n) on) [
-    | inl (inl e) ↦ let same : n ≡ 1 = cc in omega (arith, same)
-    | inl (inr e) ↦ let same : n ≡ 3 = cc in omega (arith, same)
-    | inr (inl e) ↦ absurd (cc)
-    | inr (inr e) ↦ absurd (cc)
-  ]
+  | inl (inl e) ↦ let same : n ≡ 1 = cc in omega (arith, same)
+  | inl (inr e) ↦ let same : n ≡ 3 = cc in omega (arith, same)
+  | inr (inl e) ↦ absurd (cc)
+  | inr (inr e) ↦ absurd (cc)
+]
 
 named_leaf : IsNamedLeaf On value (work wff 1)
 named_leaf = record { holder = first; is_unknown = first_is; holds = refl; named_least = (first_is, refl, λ n on e. least n on) }
@@ -176,10 +176,10 @@ in_ps x o = let none : Contains [] x = simp leaves at o in absurd (omega (arith,
 
 pub most_general : IsTheValuation P sheet (candidate ∷ []) value
 most_general = record {
-    most_general = record {
-      is_valuation = is_valuation;
-      solves = (solved, tt);
-      general = λ v is s. general v s.0
-    };
-    canonical = λ u x on. by_cases (λ w. Occurs x (value w) → IsNamedLeaf On value x) (in_work x) (in_work x) (in_work x) (in_ps x) u on
-  }
+  most_general = record {
+    is_valuation = is_valuation;
+    solves = (solved, tt);
+    general = λ v is s. general v s.0;
+  };
+  canonical = λ u x on. by_cases (λ w. Occurs x (value w) → IsNamedLeaf On value x) (in_work x) (in_work x) (in_work x) (in_ps x) u on;
+}

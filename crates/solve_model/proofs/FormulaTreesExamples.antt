@@ -5,19 +5,18 @@ use Rattle.std.proofs.Common.{sym, ap, ◌∙◌, arith, lit<}
 use Rattle.mm_base.specs.declared.symbols.Label.{Label}
 use Rattle.mm_base.specs.declared.symbols.Typecode.{Typecode}
 use Rattle.mm_base.specs.declared.tree.Tree.{Tree}
-use Rattle.mm_base.specs.declared.tree.Tree.TheVariants.{Var, Work, Fresh, Node}
+use Rattle.mm_base.specs.declared.tree.Tree.TheVariants.{Var, Node}
 use Rattle.mm_base.proofs.TreeFacts.{same_node}
 use Rattle.mm_base.proofs.TreeInduction.{tree_ind}
-use Rattle.mm_model.specs.declared.rows.Item.{Item}
 use Rattle.mm_model.specs.declared.rows.Item.TheVariants.{Const, Slot}
 use Rattle.mm_model.specs.declared.rows.Leaf.{Leaf}
 use Rattle.mm_model.specs.declared.rows.Leaf.TheVariants as leaf
 use Rattle.mm_model.specs.declared.rows.Production.{Production}
-use Rattle.mm_model.specs.Names.{Name, sym as symbol, label}
+use Rattle.mm_model.specs.Names.{sym as symbol, label}
 use Rattle.mm_model.specs.Typed.{IsTyped, HasNoFresh}
 use Rattle.mm_model.specs.Texts.{text}
 use Rattle.mm_model.specs.Book.{Database}
-use Rattle.mm_model.proofs.TextLaws.{texts, text-Var, text-Work, text-Fresh, text-Node}
+use Rattle.mm_model.proofs.TextLaws.{texts, text-Var, text-Work, text-Fresh}
 use Rattle.mm_model.proofs.TypedLaws.{code-Var, code-Node, typed-Node, typed-Var, typed_here, named-Node, named-Var}
 use Rattle.solve_model.specs.Formulas.{expression_of, IsTreeOf, HasNoTree, HasTwoTrees}
 use Rattle.solve_model.specs.Example.{P, Q, split, wff, setvar, class, ph, ps, x, y, cv, wi, wceq, rows}
@@ -30,12 +29,12 @@ two_codes a b c d p q = cc
 pub implication : IsTreeOf P 14 (split (codes "|- ( ph -> ps )")) (wi ph ps)
 unfolding digits
 implication = record {
-    code = code-Node _ _ _;
-    typed = typed-Node P.rows 14 (label 4) wff (ph ∷ ps ∷ []) (_, refl, lit< tt, refl, two_codes _ _ _ _ (code-Var (symbol 6) wff) (code-Var (symbol 7) wff))
+  code = code-Node _ _ _;
+  typed = typed-Node P.rows 14 (label 4) wff (ph ∷ ps ∷ []) (_, refl, lit< tt, refl, two_codes _ _ _ _ (code-Var (symbol 6) wff) (code-Var (symbol 7) wff))
       (typed-Var P.rows 14 (symbol 6) wff, (typed-Var P.rows 14 (symbol 7) wff, tt));
-    named = named-Node _ _ _ (named-Var (symbol 6) wff, (named-Var (symbol 7) wff, tt));
-    written = simp texts refl
-  }
+  named = named-Node _ _ _ (named-Var (symbol 6) wff, (named-Var (symbol 7) wff, tt));
+  written = simp texts refl;
+}
 
 -- ---- two variables beside each other, where there are no productions
 
@@ -91,19 +90,19 @@ differ e = let numbers : 29 ≡ 16 = ap (λ (l : Label). l.0) (same_node _ _ _ _
 pub with_two_trees : HasTwoTrees doubled 47 (split (codes "|- x = y"))
 unfolding digits
 with_two_trees = record {
-    one = as_sets;
-    other = as_classes;
-    one_parses = record {
-      code = code-Node _ _ _;
-      typed = typed-Node doubled.rows 47 (label 29) wff (x ∷ y ∷ []) (_, refl, lit< tt, refl, two_codes _ _ _ _ (code-Var (symbol 16) setvar) (code-Var (symbol 17) setvar)) (x_typed, (y_typed, tt));
-      named = named-Node _ _ _ (named-Var (symbol 16) setvar, (named-Var (symbol 17) setvar, tt));
-      written = simp texts refl
-    };
-    other_parses = record {
-      code = code-Node _ _ _;
-      typed = typed-Node doubled.rows 47 (label 16) wff (cv x ∷ cv y ∷ []) (_, refl, lit< tt, refl, two_codes _ _ _ _ (code-Node _ _ _) (code-Node _ _ _)) (class_typed 16, (class_typed 17, tt));
-      named = named-Node _ _ _ (class_named 16, (class_named 17, tt));
-      written = simp texts refl
-    };
-    differ = differ
-  }
+  one = as_sets;
+  other = as_classes;
+  one_parses = record {
+    code = code-Node _ _ _;
+    typed = typed-Node doubled.rows 47 (label 29) wff (x ∷ y ∷ []) (_, refl, lit< tt, refl, two_codes _ _ _ _ (code-Var (symbol 16) setvar) (code-Var (symbol 17) setvar)) (x_typed, (y_typed, tt));
+    named = named-Node _ _ _ (named-Var (symbol 16) setvar, (named-Var (symbol 17) setvar, tt));
+    written = simp texts refl;
+  };
+  other_parses = record {
+    code = code-Node _ _ _;
+    typed = typed-Node doubled.rows 47 (label 16) wff (cv x ∷ cv y ∷ []) (_, refl, lit< tt, refl, two_codes _ _ _ _ (code-Node _ _ _) (code-Node _ _ _)) (class_typed 16, (class_typed 17, tt));
+    named = named-Node _ _ _ (class_named 16, (class_named 17, tt));
+    written = simp texts refl;
+  };
+  differ = differ;
+}

@@ -1,7 +1,6 @@
 -- Hypotheses in another order: from `h1::r.1 |- ph` and `h2::r.2 |- ( ph -> ps )` the step `qed:2,1:ax-mp |- ps` is accepted as `qed:1,2`.
 use Rattle.std.specs.Prelude.{◌≡◌, ◌==◌, ℕ, if◌then◌else◌, List, [], ◌∷◌, Some, codes, refl}
-use Rattle.std.proofs.Common.{sym, ◌∙◌, inl, inr}
-use Rattle.mm_base.specs.declared.tree.Tree.{Tree}
+use Rattle.std.proofs.Common.{sym, inl, inr}
 use Rattle.mm_base.specs.declared.tree.Tree.TheVariants.{Var}
 use Rattle.mm_base.proofs.TreeFacts.{var_is_no_node}
 use Rattle.mm_model.specs.Names.{sym as symbol}
@@ -11,7 +10,7 @@ use Rattle.sheet_text.specs.declared.sheet.Given.TheVariants as given
 use Rattle.solve_model.specs.declared.bound.Bound.{Bound}
 use Rattle.solve_model.specs.declared.bound.BoundStep.{BoundStep}
 use Rattle.solve_model.specs.Bound.{candidate}
-use Rattle.solve_model.specs.Solutions.{Unknown, named, blank, copy, Valuation, IsUnknown, IsValuation, unknown_code}
+use Rattle.solve_model.specs.Solutions.{Unknown, named, blank, copy, Valuation, unknown_code}
 use Rattle.solve_model.specs.Verdicts.{accepted, asked, FitsIn, IsOutcome}
 use Rattle.solve_model.specs.BoundExamples.{hypothesis, step, bound}
 use Rattle.solve_model.specs.Example.{P, wff, ph, ps, wi, ax_mp}
@@ -53,10 +52,10 @@ value_is (copy i s c) = guarded_is c _ (either (s.0 == 6) _ _ (variable 6) (vari
 
 chosen_fits : FitsIn P sheet [] 2 ax_mp chosen
 chosen_fits = record {
-    value = value;
-    is_valuation = record { code = λ u on. (value_is u).code; typed = λ u on. (value_is u).typed };
-    solves = (record { conclusion = simp replaces refl; places = (simp replaces refl, (simp replaces refl, tt)) }, tt)
-  }
+  value = value;
+  is_valuation = record { code = λ u on. (value_is u).code; typed = λ u on. (value_is u).typed };
+  solves = (record { conclusion = simp replaces refl; places = (simp replaces refl, (simp replaces refl, tt)) }, tt);
+}
 
 pub in_other_order : IsOutcome P sheet [] 2 qed (candidate ax_mp) (accepted (asked 2 ax_mp chosen))
 in_other_order = IsOutcome.fits {a = ax_mp} (inr (listed_fits_not, inl (refl, chosen_fits)))

@@ -1,19 +1,17 @@
 -- A step that is set aside between two that are accepted:
 -- `1::ax-1 |- ( ph -> &W1 )`, `2:1,1:ax-mp |- &W2`, `3::ax-1 |- ( &W2 -> ( ps -> &W2 ) )`, `qed:: |- ( ph -> ps )`.
-use Rattle.std.specs.Prelude.{◌≡◌, ◌==◌, ℕ, zero, suc, if◌then◌else◌, List, [], ◌∷◌, take, map, Option, Some, None, slice_get, codes, refl}
-use Rattle.std.specs.List.{AllByRecursion}
-use Rattle.std.proofs.Common.{sym, ap, subst, ◌∙◌, inl}
-use Rattle.mm_base.specs.declared.tree.Tree.{Tree}
+use Rattle.std.specs.Prelude.{◌≡◌, ◌==◌, ℕ, zero, suc, if◌then◌else◌, List, [], ◌∷◌, take, map, Some, None, slice_get, codes, refl}
+use Rattle.std.proofs.Common.{sym, subst, ◌∙◌, inl}
 use Rattle.mm_base.specs.declared.tree.Tree.TheVariants.{Var, Work}
 use Rattle.mm_base.proofs.TreeFacts.{same_node, var_is_no_node}
-use Rattle.mm_model.specs.Names.{label, sym as symbol}
+use Rattle.mm_model.specs.Names.{sym as symbol}
 use Rattle.mm_model.proofs.TypedLaws.{code-Var, code-Work, typed-Var, typed-Work}
 use Rattle.sheet_text.specs.declared.sheet.Given.TheVariants as given
 use Rattle.solve_model.specs.declared.bound.Bound.{Bound}
 use Rattle.solve_model.specs.declared.bound.BoundStep.{BoundStep}
 use Rattle.solve_model.specs.declared.verdict.Verdict.TheVariants as verdict
 use Rattle.solve_model.specs.Bound.{standing}
-use Rattle.solve_model.specs.Solutions.{Unknown, named, blank, copy, Valuation, Asked, IsUnknown, IsValuation, Solves, Solvable, unknown_code}
+use Rattle.solve_model.specs.Solutions.{Unknown, named, blank, copy, Valuation, Asked, IsUnknown, IsValuation, Solves, unknown_code}
 use Rattle.solve_model.specs.Verdicts.{Outcome, accepted, stands, asked, accepted_in, verdict_of, FitsIn, IsOutcome, AreJudged}
 use Rattle.solve_model.specs.BoundExamples.{step, bound}
 use Rattle.solve_model.specs.Example.{P, wff, ph, ps, ch, wi, ax_mp, ax_1}

@@ -1,6 +1,6 @@
 -- Leaves of trees replaced, listed and compared, computed.
 use Rattle.std.specs.Prelude.{◌≡◌, true, false, [], ◌∷◌, refl}
-use Rattle.mm_base.specs.declared.tree.Tree.TheVariants.{Var, Work, Fresh}
+use Rattle.mm_base.specs.declared.tree.Tree.TheVariants.{Work, Fresh}
 use Rattle.mm_model.specs.Names.{sym}
 use Rattle.solve_model.specs.Trees.{work, fresh, replace, leaf_tree, open_leaves, variables, same_tree}
 use Rattle.solve_model.specs.Example.{wff, ph, ps, ch, wi}

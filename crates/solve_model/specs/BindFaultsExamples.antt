@@ -1,5 +1,5 @@
 -- The faults of worksheets against small databases, computed: the lines and codes of the rules that hold.
-use Rattle.std.specs.Prelude.{◌≡◌, ℕ, Bool, true, false, List, [], ◌∷◌, ◌++◌, map, length, zip, if◌then◌else◌, filter_map, flat_map, Option, Some, None, codes, refl}
+use Rattle.std.specs.Prelude.{◌≡◌, ℕ, true, false, List, [], ◌∷◌, ◌++◌, map, length, zip, if◌then◌else◌, filter_map, flat_map, Some, None, codes, refl}
 use Rattle.std.specs.List.{range_with_len, repeat}
 use Rattle.std.specs.Fmt.{digits}
 use Rattle.mm_model.specs.Book.{Database}
@@ -7,7 +7,7 @@ use Rattle.sheet_text.specs.declared.sheet.Sheet.{Sheet}
 use Rattle.sheet_text.specs.declared.sheet.SheetStep.{SheetStep}
 use Rattle.sheet_text.specs.declared.sheet.PairLine.{PairLine}
 use Rattle.sheet_text.specs.Layout.{steps}
-use Rattle.solve_model.specs.BindFaults.{header_rules, step_rules, not_variable, formula_long, is_sound}
+use Rattle.solve_model.specs.BindFaults.{header_rules, step_rules, not_variable, formula_long}
 use Rattle.solve_model.specs.Example.{P, V, E, Q}
 use Rattle.solve_model.specs.ExampleSheets.{sheet, sheet_after}
 

@@ -2,7 +2,6 @@
 use Rattle.std.specs.Prelude.{◌≡◌, true, false, List, [], ◌∷◌, Option, Some, None, codes, refl}
 use Rattle.mm_base.specs.declared.tree.Tree.{Tree}
 use Rattle.mm_model.specs.Names.{Name}
-use Rattle.mm_model.specs.Book.{Database}
 use Rattle.sheet_text.specs.declared.sheet.Given.{Given}
 use Rattle.sheet_text.specs.declared.sheet.Given.TheVariants as given
 use Rattle.solve_model.specs.declared.bound.Bound.{Bound}
@@ -10,7 +9,7 @@ use Rattle.solve_model.specs.declared.bound.BoundStep.{BoundStep}
 use Rattle.solve_model.specs.declared.verdict.Verdict.TheVariants as verdict
 use Rattle.solve_model.specs.Bound.{settled, candidate, standing}
 use Rattle.solve_model.specs.Solutions.{orders_of}
-use Rattle.solve_model.specs.Example.{P, Q, ph, ps, wi, ax_mp, ax_1}
+use Rattle.solve_model.specs.Example.{P, ph, ps, ax_mp, ax_1}
 
 abbrev pub hypothesis : Name → Name → Tree → BoundStep
 hypothesis name reference t = record { line = 0; hyp = true; name = name; places = []; reference = Some reference; tree = Some t }

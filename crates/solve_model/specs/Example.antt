@@ -1,5 +1,5 @@
 -- Small databases, for examples: implication with modus ponens, the same with a theorem, with a `$e` outside blocks, and with classes and quantifiers.
-use Rattle.std.specs.Prelude.{ℕ, Bool, true, false, ◌&&◌, ◌||◌, ◌==◌, nat_lt, nat_le, List, [], ◌∷◌, ◌++◌, map, filter, take, length, slice_index_or, unwrap_or, if◌then◌else◌, Option, Some, None, codes}
+use Rattle.std.specs.Prelude.{ℕ, true, false, ◌&&◌, ◌||◌, ◌==◌, nat_lt, nat_le, List, [], ◌∷◌, ◌++◌, map, filter, take, slice_index_or, unwrap_or, if◌then◌else◌, Option, Some, None, codes}
 use Rattle.std.specs.Str.{bytes_eq}
 use Rattle.mm_base.specs.declared.symbols.Sym.{Sym}
 use Rattle.mm_base.specs.declared.symbols.Label.{Label}
@@ -15,7 +15,7 @@ use Rattle.mm_model.specs.declared.rows.Item.TheVariants.{Const, Slot}
 use Rattle.mm_model.specs.declared.rows.Production.{Production}
 use Rattle.mm_model.specs.Names.{Name, sym, label, typecode, first_number}
 use Rattle.mm_model.specs.Words.{words}
-use Rattle.mm_model.specs.Productions.{Typed, essentials, typed_variables}
+use Rattle.mm_model.specs.Productions.{Typed, typed_variables}
 use Rattle.mm_model.specs.Book.{Assertion, Database}
 
 -- ---- the texts
@@ -248,57 +248,57 @@ places_after = 3 ∷ 4 ∷ 5 ∷ 6 ∷ 7 ∷ 12 ∷ 12 ∷ 12 ∷ 13 ∷ 14 ∷ 
 
 abbrev pub P : Database
 P = record {
-    provable = codes "|-";
-    logic = codes "wff";
-    symbols = take 9 symbol_names;
-    labels = take 10 label_names;
-    positions = 2 ∷ 3 ∷ 4 ∷ 5 ∷ 6 ∷ 8 ∷ 9 ∷ 10 ∷ 12 ∷ 13 ∷ [];
-    statement_count = 14;
-    frame = frame_of_label 10;
-    active_at = active_before;
-    is_constant_at = λ s place. nat_lt s.0 6 && nat_lt 0 place;
-    place_after = λ l. slice_index_or places_after l.0 14;
-    float_codes = λ place. map (λ (v : Typed). v.code) (typed_variables (floats_before place));
-    rows = take 2 rows;
-    usable = usable_of_label 10
-  }
+  provable = codes "|-";
+  logic = codes "wff";
+  symbols = take 9 symbol_names;
+  labels = take 10 label_names;
+  positions = 2 ∷ 3 ∷ 4 ∷ 5 ∷ 6 ∷ 8 ∷ 9 ∷ 10 ∷ 12 ∷ 13 ∷ [];
+  statement_count = 14;
+  frame = frame_of_label 10;
+  active_at = active_before;
+  is_constant_at = λ s place. nat_lt s.0 6 && nat_lt 0 place;
+  place_after = λ l. slice_index_or places_after l.0 14;
+  float_codes = λ place. map (λ (v : Typed). v.code) (typed_variables (floats_before place));
+  rows = take 2 rows;
+  usable = usable_of_label 10;
+}
 
 abbrev pub Q : Database
 Q = record {
-    provable = codes "|-";
-    logic = codes "wff";
-    symbols = symbol_names;
-    labels = label_names;
-    positions = 2 ∷ 3 ∷ 4 ∷ 5 ∷ 6 ∷ 8 ∷ 9 ∷ 10 ∷ 12 ∷ 13 ∷ 16 ∷ 17 ∷ 18 ∷ 19 ∷ 20 ∷ 21 ∷ 22 ∷ 23 ∷ 25 ∷ 26 ∷ 29 ∷ 30 ∷ 34 ∷ 36 ∷ 38 ∷ 39 ∷ 42 ∷ 43 ∷ 45 ∷ [];
-    statement_count = 46;
-    frame = frame_of_label 29;
-    active_at = active_before;
-    is_constant_at = λ s place. (nat_lt s.0 6 && nat_lt 0 place) || (nat_le 9 s.0 && nat_lt s.0 16 && nat_lt 14 place);
-    place_after = λ l. slice_index_or places_after l.0 46;
-    float_codes = λ place. map (λ (v : Typed). v.code) (typed_variables (floats_before place));
-    rows = rows;
-    usable = usable_of_label 29
-  }
+  provable = codes "|-";
+  logic = codes "wff";
+  symbols = symbol_names;
+  labels = label_names;
+  positions = 2 ∷ 3 ∷ 4 ∷ 5 ∷ 6 ∷ 8 ∷ 9 ∷ 10 ∷ 12 ∷ 13 ∷ 16 ∷ 17 ∷ 18 ∷ 19 ∷ 20 ∷ 21 ∷ 22 ∷ 23 ∷ 25 ∷ 26 ∷ 29 ∷ 30 ∷ 34 ∷ 36 ∷ 38 ∷ 39 ∷ 42 ∷ 43 ∷ 45 ∷ [];
+  statement_count = 46;
+  frame = frame_of_label 29;
+  active_at = active_before;
+  is_constant_at = λ s place. (nat_lt s.0 6 && nat_lt 0 place) || (nat_le 9 s.0 && nat_lt s.0 16 && nat_lt 14 place);
+  place_after = λ l. slice_index_or places_after l.0 46;
+  float_codes = λ place. map (λ (v : Typed). v.code) (typed_variables (floats_before place));
+  rows = rows;
+  usable = usable_of_label 29;
+}
 
 -- P with the theorem mpi
 abbrev pub mpi : Frame
 mpi = record {
-    label = label 12;
-    is_axiom = false;
-    at = 17;
-    formula = symbols (codes "|- ps");
-    hyps = wph ∷ wps ∷ essential (codes "mpi.1") (codes "|- ph") ∷ essential (codes "mpi.2") (codes "|- ( ph -> ps )") ∷ [];
-    pairs = []
-  }
+  label = label 12;
+  is_axiom = false;
+  at = 17;
+  formula = symbols (codes "|- ps");
+  hyps = wph ∷ wps ∷ essential (codes "mpi.1") (codes "|- ph") ∷ essential (codes "mpi.2") (codes "|- ( ph -> ps )") ∷ [];
+  pairs = [];
+}
 
 abbrev pub V : Database
 V = record P {
-    labels = P.labels ++ codes "mpi.1" ∷ codes "mpi.2" ∷ codes "mpi" ∷ [];
-    positions = P.positions ++ 15 ∷ 16 ∷ 17 ∷ [];
-    statement_count = 19;
-    frame = λ l. if l.0 == 12 then Some mpi else P.frame l;
-    place_after = λ l. if nat_le 10 l.0 then 19 else P.place_after l
-  }
+  labels = P.labels ++ codes "mpi.1" ∷ codes "mpi.2" ∷ codes "mpi" ∷ [];
+  positions = P.positions ++ 15 ∷ 16 ∷ 17 ∷ [];
+  statement_count = 19;
+  frame = λ l. if l.0 == 12 then Some mpi else P.frame l;
+  place_after = λ l. if nat_le 10 l.0 then 19 else P.place_after l;
+}
 
 -- P with the `$e` named out
 abbrev pub out : Hyp
@@ -306,9 +306,9 @@ out = essential (codes "out") (codes "|- ph")
 
 abbrev pub E : Database
 E = record P {
-    labels = P.labels ++ codes "out" ∷ [];
-    positions = P.positions ++ 14 ∷ [];
-    statement_count = 15;
-    active_at = λ place. if nat_lt 14 place then record { variables = variables_before place; hyps = hyps_before place ++ out ∷ []; pairs = [] } else P.active_at place;
-    place_after = λ l. if l.0 == 10 then 15 else P.place_after l
-  }
+  labels = P.labels ++ codes "out" ∷ [];
+  positions = P.positions ++ 14 ∷ [];
+  statement_count = 15;
+  active_at = λ place. if nat_lt 14 place then record { variables = variables_before place; hyps = hyps_before place ++ out ∷ []; pairs = [] } else P.active_at place;
+  place_after = λ l. if l.0 == 10 then 15 else P.place_after l;
+}

@@ -1,5 +1,5 @@
 -- The databases of the examples are those of their texts, field by field as far as the examples look at them.
-use Rattle.std.specs.Prelude.{◌≡◌, ℕ, List, [], ◌∷◌, map, length, None, codes, refl}
+use Rattle.std.specs.Prelude.{◌≡◌, List, map, None, codes, refl}
 use Rattle.std.specs.List.{range_with_len}
 use Rattle.mm_model.specs.Names.{sym, label}
 use Rattle.mm_model.specs.Statements.{Statement, statements, database_fault, labels}

@@ -1,12 +1,11 @@
 -- Tokens of formulas, computed.
-use Rattle.std.specs.Prelude.{◌≡◌, ℕ, List, [], ◌∷◌, map, Option, Some, None, codes, refl}
+use Rattle.std.specs.Prelude.{◌≡◌, [], ◌∷◌, map, Some, None, codes, refl}
 use Rattle.std.specs.Fmt.{digits}
-use Rattle.mm_model.specs.declared.rows.Leaf.{Leaf}
 use Rattle.mm_model.specs.declared.rows.Leaf.TheVariants as leaf
-use Rattle.mm_model.specs.Names.{Name, sym}
+use Rattle.mm_model.specs.Names.{sym}
 use Rattle.mm_model.specs.Book.{Database}
 use Rattle.solve_model.specs.Formulas.{spelling, leaf_of, expression_of}
-use Rattle.solve_model.specs.Example.{P, Q, split, wff, setvar, class}
+use Rattle.solve_model.specs.Example.{P, Q, split, wff, setvar}
 
 pub spellings : map (λ code. spelling code 12) (codes "wff" ∷ codes "setvar" ∷ codes "class" ∷ codes "term" ∷ []) ≡ codes "&W12" ∷ codes "&S12" ∷ codes "&C12" ∷ codes "&term.12" ∷ []
 unfolding digits

@@ -1,5 +1,5 @@
 -- A worksheet with blank formulas: `( ph -> ph )` from two copies of ax-1 and one of ax-2. One part of the formulas stays open, and is named `&W1`.
-use Rattle.std.specs.Prelude.{◌≡◌, ◌==◌, ℕ, true, false, if◌then◌else◌, List, [], ◌∷◌, Option, Some, None, codes, refl}
+use Rattle.std.specs.Prelude.{◌≡◌, ◌==◌, ℕ, false, if◌then◌else◌, List, [], ◌∷◌, Some, None, codes, refl}
 use Rattle.std.specs.List.{AllByRecursion}
 use Rattle.std.specs.Fmt.{digits}
 use Rattle.mm_base.specs.declared.tree.Tree.{Tree}
@@ -8,7 +8,6 @@ use Rattle.mm_model.specs.Names.{Name}
 use Rattle.mm_model.proofs.TextLaws.{texts}
 use Rattle.sheet_text.specs.declared.sheet.Given.{Given}
 use Rattle.sheet_text.specs.declared.sheet.Given.TheVariants as given
-use Rattle.sheet_text.specs.declared.sheet.Sheet.{Sheet}
 use Rattle.sheet_text.specs.Reads.{unnumbered}
 use Rattle.solve_model.specs.declared.bound.Bound.{Bound}
 use Rattle.solve_model.specs.Solutions.{named, blank, copy, Valuation, Asked, Solves}
@@ -16,9 +15,9 @@ use Rattle.solve_model.specs.Verdicts.{asked, accepted}
 use Rattle.solve_model.specs.BoundExamples.{step as bound_step, bound}
 use Rattle.solve_model.specs.Example.{P, wff, ph, wi, ax_mp, ax_1, ax_2}
 use Rattle.solve_model.specs.ExampleSheets.{sheet}
-use Rattle.solve_model.proofs.TreeLaws.{replaces, same_trees}
+use Rattle.solve_model.proofs.TreeLaws.{replaces}
 use Rattle.written_model.specs.Named.{Naming}
-use Rattle.written_model.specs.Written.{Writing, filled, named as named_items, written_sheet}
+use Rattle.written_model.specs.Written.{Writing, named as named_items, written_sheet}
 use Rattle.written_model.specs.WrittenExample.{compressed}
 
 abbrev first : Given
@@ -75,11 +74,19 @@ abbrev candidates : List Asked
 candidates = asked 0 ax_1 [] ∷ asked 1 ax_1 [] ∷ asked 2 ax_2 [] ∷ asked 3 ax_mp (second ∷ third ∷ []) ∷ asked 4 ax_mp (first ∷ fourth ∷ []) ∷ []
 
 pub solved : AllByRecursion (Solves trees value) candidates
-solved = (record { conclusion = simp replaces refl; places = tt },
-    (record { conclusion = simp replaces refl; places = tt },
-    (record { conclusion = simp replaces refl; places = tt },
-    (record { conclusion = simp replaces refl; places = (simp replaces refl, (simp replaces refl, tt)) },
-    (record { conclusion = simp replaces refl; places = (simp replaces refl, (simp replaces refl, tt)) }, tt)))))
+solved = (
+  record { conclusion = simp replaces refl; places = tt },
+  (
+    record { conclusion = simp replaces refl; places = tt },
+    (
+      record { conclusion = simp replaces refl; places = tt },
+      (
+        record { conclusion = simp replaces refl; places = (simp replaces refl, (simp replaces refl, tt)) },
+        (record { conclusion = simp replaces refl; places = (simp replaces refl, (simp replaces refl, tt)) }, tt),
+      ),
+    ),
+  ),
+)
 
 -- ---- what is written
 
@@ -88,14 +95,14 @@ names c n = if n == 7 then Some 1 else None
 
 abbrev before : Writing
 before = record {
-    read = unnumbered (sheet (codes "id") lines);
-    bound = trees;
-    outcomes = accepted (asked 0 ax_1 []) ∷ accepted (asked 1 ax_1 []) ∷ accepted (asked 2 ax_2 []) ∷ accepted (asked 3 ax_mp (second ∷ third ∷ [])) ∷ accepted (asked 4 ax_mp (first ∷ fourth ∷ [])) ∷ [];
-    value = value;
-    names = names;
-    items = [];
-    finished = false
-  }
+  read = unnumbered (sheet (codes "id") lines);
+  bound = trees;
+  outcomes = accepted (asked 0 ax_1 []) ∷ accepted (asked 1 ax_1 []) ∷ accepted (asked 2 ax_2 []) ∷ accepted (asked 3 ax_mp (second ∷ third ∷ [])) ∷ accepted (asked 4 ax_mp (first ∷ fourth ∷ [])) ∷ [];
+  value = value;
+  names = names;
+  items = [];
+  finished = false;
+}
 
 abbrev writing : Writing
 writing = record before { items = named_items P compressed before }

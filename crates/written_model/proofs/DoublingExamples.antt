@@ -1,5 +1,5 @@
 -- Formulas that double: from `h1::dbl.1 |- ph`, each step `k:j:pair` is an implication from the step before it to itself.
-use Rattle.std.specs.Prelude.{◌≡◌, ◌-◌, ◌*◌, ◌^◌, ℕ, zero, suc, List, [], ◌∷◌, length, map, refl}
+use Rattle.std.specs.Prelude.{◌≡◌, ◌-◌, ◌*◌, ◌^◌, ℕ, zero, suc, [], ◌∷◌, length, map, refl}
 use Rattle.mm_base.specs.declared.tree.Tree.{Tree}
 use Rattle.mm_model.proofs.TextLaws.{texts}
 use Rattle.solve_model.specs.Example.{Q, ph, wi}

@@ -1,6 +1,6 @@
 -- A step without a reference: the first assertion that fits.
-use Rattle.std.specs.Prelude.{◌≡◌, ◌⊎◌, true, false, List, [], ◌∷◌, map, length, Some, None, codes, refl}
-use Rattle.std.proofs.Common.{inl, inr, lit<, arith, sym, subst}
+use Rattle.std.specs.Prelude.{◌≡◌, true, false, List, [], ◌∷◌, map, length, Some, None, refl}
+use Rattle.std.proofs.Common.{inl, inr, lit<, sym, subst}
 use Rattle.mm_base.specs.declared.tree.Tree.{Tree}
 use Rattle.mm_base.specs.declared.tree.Tree.TheVariants.{Work}
 use Rattle.std.specs.List.{AllZip}
@@ -10,13 +10,12 @@ use Rattle.mm_model.specs.Book.{Assertion}
 use Rattle.mm_model.proofs.TypedLaws.{code-Var}
 use Rattle.sheet_text.specs.declared.sheet.Given.{Given}
 use Rattle.sheet_text.specs.declared.sheet.Given.TheVariants as given
-use Rattle.solve_model.specs.Example.{P, wff, ph, ps, wi, ax_1, ax_mp}
+use Rattle.solve_model.specs.Example.{P, wff, ph, ps, ax_1, ax_mp}
 use Rattle.solve_model.proofs.TreeLaws.{leaves, replaces}
 use Rattle.written_model.specs.declared.options.DvMode.TheVariants as dv
-use Rattle.written_model.specs.declared.report.ReportVerdict.TheVariants as report
 use Rattle.written_model.specs.WrittenSteps.{Use, WrittenStep, place_tree}
-use Rattle.written_model.specs.Found.{is_searched, search_orders, choices, Choice, Fits, FitsUse, IsFound, valued}
-use Rattle.written_model.specs.WrittenExample.{written, first, derived, found}
+use Rattle.written_model.specs.Found.{is_searched, search_orders, Choice, Fits, FitsUse, IsFound, valued}
+use Rattle.written_model.specs.WrittenExample.{first, derived}
 
 abbrev steps : List WrittenStep
 steps = first ∷ derived ∷ []
@@ -62,8 +61,28 @@ not_usable c e f = let no : None ≡ Some (f.0).assertion = cc in cc
 
 pub first_is_ax_1 : IsFound P 14 dv.Add [] steps derived (Some chosen)
 first_is_ax_1 =
-    inr (not_usable _ refl, inr (not_usable _ refl, inr (not_usable _ refl, inr (not_usable _ refl, inr (not_usable _ refl, inr (not_usable _ refl, inr (not_usable _ refl,
-      inr (not_ax_mp, inl (refl, (by_ax_1, fits))))))))))
+    inr (
+      not_usable _ refl,
+      inr (
+        not_usable _ refl,
+        inr (
+          not_usable _ refl,
+          inr (
+            not_usable _ refl,
+            inr (
+              not_usable _ refl,
+              inr (
+                not_usable _ refl,
+                inr (
+                  not_usable _ refl,
+                  inr (not_ax_mp, inl (refl, (by_ax_1, fits))),
+                ),
+              ),
+            ),
+          ),
+        ),
+      ),
+    )
   where
     not_ax_mp : Fits P 14 dv.Add [] steps derived (record { label = label 7; places = [] }) → ⊥
     not_ax_mp f = subst (λ (a : Assertion). AllZip (λ (h : Tree) (g : Given). place_tree steps g ≡ Some (valued f.0 h)) a.hyps []) (sym (some_is ax_mp (f.0).assertion f.1.is_usable)) f.1.hyps

@@ -1,5 +1,5 @@
 -- What a call gives: for words that fit no command, for a database with a fault, and what a finished text says of itself.
-use Rattle.std.specs.Prelude.{◌≡◌, ℕ, List, [], ◌∷◌, if◌then◌else◌, Option, Some, None, codes, refl}
+use Rattle.std.specs.Prelude.{◌≡◌, ℕ, List, [], ◌∷◌, if◌then◌else◌, Some, None, codes, refl}
 use Rattle.std.specs.Fmt.{digits}
 use Rattle.std.specs.Str.{bytes_eq}
 use Rattle.std.proofs.Common.{sym, ap, ◌∙◌}
@@ -13,7 +13,7 @@ use Rattle.solve_model.specs.Example.{P, split}
 use Rattle.solve_model.specs.ExampleSheets.{sheet_after, sheet_text}
 use Rattle.written_model.specs.CommandWords.{usage_line}
 use Rattle.written_model.specs.FaultLines.{database_line}
-use Rattle.written_model.specs.Headline.{Ending, Refuses, Headline, IsAnswered, ProvesItself}
+use Rattle.written_model.specs.Headline.{IsAnswered, ProvesItself}
 use Rattle.written_model.specs.WrittenExample.{normal}
 
 -- ---- words that fit no command
@@ -57,9 +57,9 @@ no_fault database named e =
 
 pub refused : IsAnswered files (codes "unify" ∷ codes "P.mm" ∷ codes "r.mmp" ∷ []) (record { out = []; log = ended line; status = status.Database })
 refused = record {
-    refused = λ database f named e. record { out = refl; log = ap ended (sym (the_line database f named e)); status = refl };
-    unified = λ database sheet named e f. absurd (no_fault database named e)
-  }
+  refused = λ database f named e. record { out = refl; log = ap ended (sym (the_line database f named e)); status = refl };
+  unified = λ database sheet named e f. absurd (no_fault database named e);
+}
 
 -- ---- a finished text gives its theorem and a proof that is accepted for it
 
@@ -71,11 +71,11 @@ tokens = split (codes "wph wps wph wi u.1 wph wps ax-1 ax-mp")
 
 pub proves_itself : ProvesItself P normal (sheet_text (codes "u") (codes "?") lines)
 proves_itself = record {
-    sheet = sheet_after (codes "u") (codes "?") lines;
-    reads = record { sound = refl; says = refl };
-    tokens = tokens;
-    has_proof = refl;
-    code = normal_code tokens;
-    is_code = refl;
-    accepted = refl
-  }
+  sheet = sheet_after (codes "u") (codes "?") lines;
+  reads = record { sound = refl; says = refl };
+  tokens = tokens;
+  has_proof = refl;
+  code = normal_code tokens;
+  is_code = refl;
+  accepted = refl;
+}

@@ -1,5 +1,5 @@
 -- Names of new work variables: the steps derived for `qed::ax-mp |- ps` share one, `&W1`.
-use Rattle.std.specs.Prelude.{◌≡◌, ◌≤◌, ◌==◌, ◌&&◌, ℕ, zero, suc, Bool, true, false, if◌then◌else◌, List, [], ◌∷◌, take, map, slice_get, Contains, Option, Some, None, codes, refl}
+use Rattle.std.specs.Prelude.{◌≡◌, ◌==◌, ◌&&◌, ℕ, zero, suc, Bool, true, false, if◌then◌else◌, List, [], ◌∷◌, take, map, slice_get, Contains, Option, Some, None, codes, refl}
 use Rattle.std.specs.Fmt.{digits}
 use Rattle.std.proofs.Common.{sym, ap, subst, ◌∙◌, arith, cond}
 use Rattle.std.proofs.lemmas.Bool.Decides.{nat_tests}
@@ -10,9 +10,9 @@ use Rattle.mm_model.specs.Chains.{same_code}
 use Rattle.mm_model.proofs.TextLaws.{texts}
 use Rattle.solve_model.specs.declared.bound.Bound.{Bound}
 use Rattle.solve_model.specs.Firsts.{IsLeast}
-use Rattle.solve_model.specs.Trees.{Open, work, fresh, open_leaves, Occurs}
+use Rattle.solve_model.specs.Trees.{fresh, Occurs}
 use Rattle.solve_model.specs.BoundExamples.{hypothesis, step, bound}
-use Rattle.solve_model.specs.Example.{P, Q, wff, ph, ps, x, wi, cab}
+use Rattle.solve_model.specs.Example.{P, Q, wff, ps, wi, cab}
 use Rattle.solve_model.proofs.TreeLaws.{replaces, leaves}
 use Rattle.written_model.specs.Named.{WorkVariable, work_variable, works_in, new_works, Naming, name_tree, IsWrittenLeaf, IsUnused, IsNaming}
 
@@ -101,15 +101,15 @@ new_works_are = simp (replaces, texts) refl
 pub naming : IsNaming P sheet trees names
 unfolding digits
 naming = record {
-    named = λ c n h. let is = leaf_of c n h.0 h.1 h.2 in (1, named_free c n is, simp texts refl);
-    others = λ c n h. none_if c n (is_free c n) refl (λ is. h (written c n is));
-    once = λ c n m k e f. (free_if c n k (is_free c n) refl e).number ∙ sym (free_if c m k (is_free c m) refl f).number;
-    least = rw new_works_are first_least
-  }
+  named = λ c n h. let is = leaf_of c n h.0 h.1 h.2 in (1, named_free c n is, simp texts refl);
+  others = λ c n h. none_if c n (is_free c n) refl (λ is. h (written c n is));
+  once = λ c n m k e f. (free_if c n k (is_free c n) refl e).number ∙ sym (free_if c m k (is_free c m) refl f).number;
+  least = rw new_works_are first_least;
+}
   where
     first_least : (k : ℕ) (w : WorkVariable) → slice_get (work_variable wff 1 ∷ []) k ≡ Some w
         → IsLeast (λ n. IsUnused P sheet (take k (work_variable wff 1 ∷ [])) (work_variable w.code n)) w.number
     first_least zero w e = let same : work_variable wff 1 ≡ w = cc in
         subst (λ (v : WorkVariable). IsLeast (λ n. IsUnused P sheet [] (work_variable v.code n)) v.number) same
-          (record { from_one = omega arith; holds = record { not_read = simp texts refl; not_declared = refl; not_taken = refl }; least = λ m low h. low })
+        (record { from_one = omega arith; holds = record { not_read = simp texts refl; not_declared = refl; not_taken = refl }; least = λ m low h. low })
     first_least (suc k) w e = absurd (cc)

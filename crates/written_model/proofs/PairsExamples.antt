@@ -1,11 +1,10 @@
 -- Needed pairs, clashes and lacks, computed: ax-5 asks that x does not stand in ph.
-use Rattle.std.specs.Prelude.{◌≡◌, List, [], ◌∷◌, Some, None, codes, refl}
-use Rattle.mm_base.specs.declared.symbols.Pair.{Pair}
+use Rattle.std.specs.Prelude.{◌≡◌, [], ◌∷◌, Some, None, refl}
 use Rattle.mm_base.specs.declared.tree.Tree.{Tree}
 use Rattle.mm_base.specs.declared.tree.Tree.TheVariants.{Work}
 use Rattle.mm_model.specs.Names.{sym}
 use Rattle.solve_model.specs.PairSets.{ordered}
-use Rattle.solve_model.specs.Example.{wff, ph, ps, x, y, wi, wal, ax_5, ph_x}
+use Rattle.solve_model.specs.Example.{wff, ph, ps, x, wi, wal, ax_5, ph_x}
 use Rattle.solve_model.proofs.TreeLaws.{leaves}
 use Rattle.written_model.specs.declared.options.DvMode.TheVariants as dv
 use Rattle.written_model.specs.WrittenSteps.{Use}

@@ -1,31 +1,25 @@
 -- Proofs of trees and steps, and the report of a clash and of a lack, computed.
-use Rattle.std.specs.Prelude.{◌≡◌, ℕ, Bool, true, false, List, [], ◌∷◌, map, Option, Some, None, codes, refl}
-use Rattle.std.specs.Fmt.{digits}
+use Rattle.std.specs.Prelude.{◌≡◌, ℕ, false, List, [], ◌∷◌, map, Some, None, codes, refl}
 use Rattle.mm_base.specs.declared.symbols.Pair.{Pair}
 use Rattle.mm_base.specs.declared.tree.Tree.{Tree}
-use Rattle.mm_base.specs.declared.tree.Tree.TheVariants.{Var, Work}
-use Rattle.mm_model.specs.declared.frames.Hyp.{Hyp}
-use Rattle.mm_model.specs.Names.{Name, sym}
-use Rattle.mm_model.specs.Book.{Assertion}
+use Rattle.mm_model.specs.Names.{Name}
 use Rattle.mm_model.proofs.TextLaws.{texts}
 use Rattle.proof_model.specs.declared.theorem.Theorem.{Theorem}
 use Rattle.proof_model.specs.Codes.{code_of_proof}
 use Rattle.proof_model.specs.Machine.{Accepts}
 use Rattle.proof_model.specs.ProofCode.{spelled}
-use Rattle.proof_model.specs.Proofs.{Proof, by, none, proofs, postorder}
-use Rattle.sheet_text.specs.declared.sheet.Given.{Given}
+use Rattle.proof_model.specs.Proofs.{Proof, by, none, proofs}
 use Rattle.sheet_text.specs.declared.sheet.Given.TheVariants as given
-use Rattle.sheet_text.specs.declared.sheet.Sheet.{Sheet}
 use Rattle.solve_model.specs.Binding.{theorem_of}
-use Rattle.solve_model.specs.Example.{Q, wff, setvar, ph, x, wi, wal, cab, wceq, wph, vx, ax_5, eqid, drop, ph_x}
+use Rattle.solve_model.specs.Example.{Q, ph, x, wi, wal, cab, wceq, ax_5, eqid, drop, ph_x}
 use Rattle.solve_model.specs.ExampleSheets.{sheet}
 use Rattle.solve_model.proofs.TreeLaws.{leaves}
 use Rattle.written_model.specs.declared.options.DvMode.{DvMode}
 use Rattle.written_model.specs.declared.options.DvMode.TheVariants as dv
 use Rattle.written_model.specs.declared.report.ReportVerdict.TheVariants as report
-use Rattle.written_model.specs.WrittenSteps.{Use, WrittenStep}
+use Rattle.written_model.specs.WrittenSteps.{WrittenStep}
 use Rattle.written_model.specs.Pairs.{pairs_of}
-use Rattle.written_model.specs.ProofTrees.{syntax_proof, is_complete}
+use Rattle.written_model.specs.ProofTrees.{is_complete}
 use Rattle.written_model.specs.Report.{report_of, report_line}
 use Rattle.written_model.specs.Written.{qed_proof, frames_of, formula_tokens}
 use Rattle.written_model.specs.WrittenExample.{written, used}

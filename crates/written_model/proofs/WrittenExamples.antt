@@ -1,7 +1,6 @@
 -- A worksheet from its written steps to the bytes, and once more, computed.
-use Rattle.std.specs.Prelude.{◌≡◌, ◌<◌, ℕ, zero, suc, true, false, List, [], ◌∷◌, ◌++◌, flat_map, Some, None, slice_get, codes, refl}
-use Rattle.std.specs.Fmt.{digits}
-use Rattle.std.proofs.Common.{ap, subst, sym, arith}
+use Rattle.std.specs.Prelude.{◌≡◌, ℕ, zero, suc, true, List, [], ◌∷◌, ◌++◌, flat_map, Some, slice_get, codes, refl}
+use Rattle.std.proofs.Common.{subst}
 use Rattle.mm_model.proofs.TextLaws.{texts}
 use Rattle.proof_model.specs.declared.theorem.Theorem.{Theorem}
 use Rattle.proof_model.specs.Codes.{normal_code, code_of_proof}
@@ -15,17 +14,17 @@ use Rattle.sheet_text.specs.ReadsExamples.{text}
 use Rattle.mm_model.proofs.SizeLaws.{node_counts}
 use Rattle.solve_model.specs.Bound.{work_size}
 use Rattle.solve_model.specs.Binding.{theorem_of}
-use Rattle.solve_model.specs.Example.{P, ph, ps, wi}
+use Rattle.solve_model.specs.Example.{P}
 use Rattle.solve_model.specs.ExampleSheets.{sheet, sheet_text}
 use Rattle.solve_model.proofs.TreeLaws.{replaces, leaves}
 use Rattle.written_model.specs.declared.options.DvMode.TheVariants as dv
-use Rattle.written_model.specs.WrittenSteps.{WrittenStep, step, steps_in}
+use Rattle.written_model.specs.WrittenSteps.{WrittenStep}
 use Rattle.written_model.specs.ProofTrees.{Finished, is_complete}
 use Rattle.written_model.specs.Found.{is_ground}
 use Rattle.written_model.specs.Written.{written_sheet, written_log, qed_proof, frames_of, named, label_count, written_bound}
 use Rattle.written_model.specs.Headline.{proof_tokens}
 use Rattle.written_model.specs.Again.{again}
-use Rattle.written_model.specs.WrittenExample.{compressed, normal, read, writing, first, found, last}
+use Rattle.written_model.specs.WrittenExample.{compressed, writing, first, found, last}
 use Rattle.written_model.proofs.SyntaxProofs.{syntax_proofs}
 
 -- what is written, without its proof

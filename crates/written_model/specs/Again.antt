@@ -59,5 +59,5 @@ again db options w =
       value = value_again (steps_in w.items);
       names = λ c n. None;
       items = map (over_step step_again) w.items;
-      finished = w.finished
+      finished = w.finished;
     }

@@ -1,5 +1,5 @@
 -- Words of the command line, computed.
-use Rattle.std.specs.Prelude.{◌≡◌, List, [], ◌∷◌, map, Option, Some, None, codes, refl, is_some, true, false, Bool}
+use Rattle.std.specs.Prelude.{◌≡◌, List, [], ◌∷◌, map, Option, Some, codes, refl, is_some, false, Bool}
 use Rattle.mm_model.specs.Names.{Name}
 use Rattle.written_model.specs.declared.options.ProofStyle.{ProofStyle}
 use Rattle.written_model.specs.declared.options.ProofStyle.TheVariants as style

@@ -1,5 +1,5 @@
 -- The lines that tell a fault.
-use Rattle.std.specs.Prelude.{ℕ, ◌==◌, List, [], ◌∷◌, ◌++◌, find, decimal, codes}
+use Rattle.std.specs.Prelude.{ℕ, ◌==◌, List, [], ◌∷◌, find, decimal, codes}
 use Rattle.std.specs.Option.{option_map_or}
 use Rattle.mm_model.specs.Names.{Name}
 use Rattle.mm_model.specs.Faults.{Fault}

@@ -1,5 +1,5 @@
 -- The places that are missing, and the new steps that fill them.
-use Rattle.std.specs.Prelude.{ℕ, zero, suc, ◌+◌, not, true, false, List, [], ◌∷◌, ◌++◌, length, map, drop, find, fold, zip, position, unwrap_or, slice_index_or, decimal, Option, Some, None, codes}
+use Rattle.std.specs.Prelude.{ℕ, zero, suc, ◌+◌, not, false, List, [], ◌∷◌, ◌++◌, length, map, drop, find, fold, zip, position, unwrap_or, slice_index_or, decimal, Option, Some, None, codes}
 use Rattle.std.specs.List.{range_with_len}
 use Rattle.mm_base.specs.declared.tree.Tree.{Tree}
 use Rattle.mm_model.specs.Names.{Name, contains}
@@ -88,7 +88,7 @@ with_step used s t g o f filled =
     let made = map made_step (zip (derived_names (length filled.made) used) filled.made) in
     record {
       items = f.items ++ map step made ++ step (filled_step f.numbers filled.places s t g o) ∷ [];
-      numbers = f.numbers ++ (length (steps_in f.items) + length filled.made) ∷ []
+      numbers = f.numbers ++ (length (steps_in f.items) + length filled.made) ∷ [];
     }
 
 module _ (names : List Name) (bound : Bound) (g : Valuation) (outcomes : List Outcome) where

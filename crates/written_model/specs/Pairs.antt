@@ -1,5 +1,5 @@
 -- Pairs of distinct variables that a step needs, and clashes (Metamath book, section 4.1.4).
-use Rattle.std.specs.Prelude.{◌≡◌, Bool, not, ◌==◌, List, [], ◌∷◌, ◌++◌, map, filter, filter_map, slice_get, find, flat_map, fold, nat_lt, if◌then◌else◌, Option, Some, None}
+use Rattle.std.specs.Prelude.{not, List, [], ◌++◌, map, filter, filter_map, slice_get, find, flat_map, fold, nat_lt, if◌then◌else◌, Option, Some, None}
 use Rattle.mm_base.specs.declared.symbols.Sym.{Sym}
 use Rattle.mm_base.specs.declared.symbols.Pair.{Pair}
 use Rattle.proof_model.specs.Machine.{is_shared}

@@ -1,5 +1,5 @@
 -- Laws: what the proof of a tree, and of a step, leaves on the stack.
-use Rattle.std.specs.Prelude.{◌≡◌, ℕ, true, None, find, List, [], ◌∷◌, ◌++◌, flat_map, slice_get, slice_index_or, Contains, Some, Ok}
+use Rattle.std.specs.Prelude.{◌≡◌, ℕ, true, None, find, List, [], ◌∷◌, flat_map, slice_get, slice_index_or, Contains, Some, Ok}
 use Rattle.std.specs.Str.{bytes_eq}
 use Rattle.mm_base.specs.declared.symbols.Sym.{Sym}
 use Rattle.mm_base.specs.declared.symbols.Typecode.{Typecode}
@@ -13,7 +13,6 @@ use Rattle.mm_model.specs.Texts.{text}
 use Rattle.mm_model.specs.Typed.{IsTyped}
 use Rattle.mm_model.specs.Book.{Database}
 use Rattle.proof_model.specs.declared.theorem.Theorem.{Theorem}
-use Rattle.proof_model.specs.declared.code.Code.{Code}
 use Rattle.proof_model.specs.Codes.{normal_code}
 use Rattle.proof_model.specs.Machine.{Formula, Frames, State, push, run_steps, is_float_of}
 use Rattle.proof_model.specs.Arities.{HasArities}

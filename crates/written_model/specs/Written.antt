@@ -164,12 +164,12 @@ module _ (db : Database) (options : Options) (w : Writing) where
   -- the written worksheet with its trees
   abbrev pub written_bound : Bound
   written_bound = record {
-      place = w.bound.place;
-      existing = w.bound.existing;
-      steps = map bound_step (steps_in w.items);
-      pairs = written_pairs db options w;
-      theorem = written_theorem db options w
-    }
+    place = w.bound.place;
+    existing = w.bound.existing;
+    steps = map bound_step (steps_in w.items);
+    pairs = written_pairs db options w;
+    theorem = written_theorem db options w;
+  }
 
   abbrev pub label_count : ℕ
   label_count = length (postorder (qed_proof db (written_theorem db options w) (steps_in w.items)))

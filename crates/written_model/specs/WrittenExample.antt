@@ -1,5 +1,5 @@
 -- A worksheet with a derived step whose reference is found, for examples: `h1::u.1 |- ph` and `qed:1:ax-mp |- ( ps -> ph )`.
-use Rattle.std.specs.Prelude.{◌≡◌, ℕ, Bool, true, false, ◌==◌, if◌then◌else◌, List, [], ◌∷◌, Option, Some, None, codes, refl}
+use Rattle.std.specs.Prelude.{Bool, true, false, ◌==◌, if◌then◌else◌, List, [], ◌∷◌, Option, Some, None, codes}
 use Rattle.mm_base.specs.declared.tree.Tree.{Tree}
 use Rattle.mm_base.specs.declared.tree.Tree.TheVariants.{Work, Fresh}
 use Rattle.mm_model.specs.Names.{Name}
@@ -10,7 +10,7 @@ use Rattle.sheet_text.specs.declared.sheet.Sheet.{Sheet}
 use Rattle.sheet_text.specs.Reads.{unnumbered}
 use Rattle.solve_model.specs.declared.bound.Bound.{Bound}
 use Rattle.solve_model.specs.declared.verdict.Verdict.TheVariants as verdict
-use Rattle.solve_model.specs.Solutions.{Unknown, named, blank, copy, Valuation, Asked}
+use Rattle.solve_model.specs.Solutions.{named, blank, copy, Valuation, Asked}
 use Rattle.solve_model.specs.Verdicts.{Outcome, asked, accepted, stands}
 use Rattle.solve_model.specs.BoundExamples.{hypothesis, step as bound_step, bound}
 use Rattle.solve_model.specs.Example.{wff, ph, ps, wi, ax_mp, ax_1}
@@ -20,7 +20,7 @@ use Rattle.written_model.specs.declared.options.Options.{Options}
 use Rattle.written_model.specs.declared.options.ProofStyle.TheVariants as style
 use Rattle.written_model.specs.declared.report.ReportVerdict.{ReportVerdict}
 use Rattle.written_model.specs.declared.report.ReportVerdict.TheVariants as report
-use Rattle.written_model.specs.WrittenSteps.{Use, WrittenStep, WrittenItem, step}
+use Rattle.written_model.specs.WrittenSteps.{Use, WrittenStep, step}
 use Rattle.written_model.specs.Written.{Writing}
 
 abbrev pub compressed : Options

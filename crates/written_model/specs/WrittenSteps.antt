@@ -1,5 +1,5 @@
 -- The steps of a worksheet that is written.
-use Rattle.std.specs.Prelude.{◌≡◌, ℕ, Bool, ◌==◌, List, [], ◌∷◌, map, find, zip, filter_map, slice_get, Option, Some, None}
+use Rattle.std.specs.Prelude.{Bool, ◌==◌, List, map, find, zip, filter_map, slice_get, Option, Some, None}
 use Rattle.std.specs.Option.{option_map_or}
 use Rattle.mm_base.specs.declared.symbols.Sym.{Sym}
 use Rattle.mm_base.specs.declared.tree.Tree.{Tree}
