@@ -1,0 +1,6 @@
+mod NewVariables
+mod OneValuation
+pub mod ReplaceLaws
+pub mod ReplacedTypes
+pub mod SameTrees
+pub mod SolveLaws

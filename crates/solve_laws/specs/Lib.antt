@@ -1,0 +1,5 @@
+pub mod Instances
+pub mod NewVariables
+pub mod OneValuation
+pub mod ReplacedTypes
+pub mod Replacements

@@ -1,0 +1,46 @@
+//! Laws of trees, solutions and the most general valuation. Each is the contract of a function that does nothing.
+#![tactic(auto)]
+
+ghost use Rattle.std.specs.Prelude.{List};
+ghost use Rattle.mm_model.specs.Book.{Database};
+ghost use Rattle.solve_model.specs.declared.bound.Bound.{Bound};
+ghost use Rattle.solve_model.specs.Solutions.{Asked};
+ghost use Rattle.solve_laws.specs.Instances.{InstanceSolves};
+ghost use Rattle.solve_laws.specs.NewVariables.{NoNewVariable};
+ghost use Rattle.solve_laws.specs.OneValuation.{MostGeneralIsOne};
+ghost use Rattle.solve_laws.specs.Replacements.{ReplacedTwice, ReplacedBySelf, ReplacedAlike, SameTreeDecides};
+ghost use Rattle.solve_laws.specs.ReplacedTypes.{ReplacedIsTyped};
+
+/// Leaves replaced twice are replaced once; replaced by themselves they stay; and two replacements give one tree
+/// exactly where they agree on its open leaves.
+pub fn replaced_leaves()
+    ensures twice { ReplacedTwice }
+    ensures by_self { ReplacedBySelf }
+    ensures alike { ReplacedAlike }
+{}
+
+/// A typed tree whose leaves are replaced by typed trees of their typecodes is typed, with its typecode.
+pub fn replaced_is_typed()
+    ensures { ReplacedIsTyped }
+{}
+
+/// The test of two trees says whether they are equal.
+pub fn same_trees_are_equal()
+    ensures { SameTreeDecides }
+{}
+
+/// A valuation that is an instance of a solution solves too.
+pub fn instance_solves()
+    ensures { (bound : Bound) (asked : List Asked) → InstanceSolves bound asked }
+{}
+
+/// There is at most one most general valuation, up to the numbers of its fresh leaves. So the written formulas are a
+/// function of the database and the worksheet.
+pub fn most_general_is_one()
+    ensures { (db : Database) (bound : Bound) (accepted : List Asked) → MostGeneralIsOne db bound accepted }
+{}
+
+/// A most general valuation has no variable of the database that the worksheet lacks.
+pub fn no_new_variable()
+    ensures { (db : Database) (bound : Bound) (accepted : List Asked) → NoNewVariable db bound accepted }
+{}

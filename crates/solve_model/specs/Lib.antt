@@ -1,0 +1,17 @@
+pub mod BindFaults
+pub mod BindFaultsExamples
+pub mod Binding
+pub mod Bound
+pub mod BoundExamples
+pub mod Example
+pub mod ExampleDatabases
+pub mod ExampleSheets
+pub mod Firsts
+pub mod FirstsExamples
+pub mod Formulas
+pub mod FormulasExamples
+pub mod MostGeneral
+pub mod PairSets
+pub mod Solutions
+pub mod Trees
+pub mod Verdicts

@@ -1,0 +1,10 @@
+mod BlankExample
+mod DoublingExamples
+mod FilledExamples
+mod FoundExamples
+mod HeadlineExamples
+mod NamedExamples
+mod PairsExamples
+mod ProofTreesExamples
+pub mod SyntaxProofs
+mod WrittenExamples

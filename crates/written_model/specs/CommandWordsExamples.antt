@@ -1,0 +1,32 @@
+-- Words of the command line, computed.
+use Rattle.std.specs.Prelude.{◌≡◌, List, [], ◌∷◌, map, Option, Some, codes, refl, is_some, false, Bool}
+use Rattle.mm_model.specs.Names.{Name}
+use Rattle.written_model.specs.declared.options.ProofStyle.{ProofStyle}
+use Rattle.written_model.specs.declared.options.ProofStyle.TheVariants as style
+use Rattle.written_model.specs.CommandWords.{Command, command_of, options_with}
+
+abbrev with : ProofStyle → Option Command
+with s = Some (record { options = options_with s; database = codes "P.mm"; sheet = codes "r.mmp" })
+
+pub plain : command_of (codes "unify" ∷ codes "P.mm" ∷ codes "r.mmp" ∷ []) ≡ with style.Compressed
+plain = refl
+
+pub normal : command_of (codes "unify" ∷ codes "--proof=normal" ∷ codes "P.mm" ∷ codes "r.mmp" ∷ []) ≡ with style.Normal
+normal = refl
+
+pub compressed : command_of (codes "unify" ∷ codes "--proof=compressed" ∷ codes "P.mm" ∷ codes "r.mmp" ∷ []) ≡ with style.Compressed
+compressed = refl
+
+abbrev is_command : List Name → Bool
+is_command words = is_some (command_of words)
+
+abbrev unify : List Name → List Name
+unify words = codes "unify" ∷ words
+
+-- no words; another command; one file; an option twice; an option behind the files; other options; an empty file; a third file
+pub none : map is_command ([] ∷ (codes "check" ∷ codes "P.mm" ∷ codes "r.mmp" ∷ []) ∷ unify (codes "P.mm" ∷ [])
+    ∷ unify (codes "--proof=normal" ∷ codes "--proof=normal" ∷ codes "P.mm" ∷ codes "r.mmp" ∷ []) ∷ unify (codes "P.mm" ∷ codes "r.mmp" ∷ codes "--proof=normal" ∷ [])
+    ∷ unify (codes "--proof=short" ∷ codes "P.mm" ∷ codes "r.mmp" ∷ []) ∷ unify (codes "--" ∷ codes "P.mm" ∷ codes "r.mmp" ∷ [])
+    ∷ unify (codes "P.mm" ∷ [] ∷ []) ∷ unify (codes "P.mm" ∷ codes "r.mmp" ∷ codes "s.mmp" ∷ []) ∷ [])
+    ≡ false ∷ false ∷ false ∷ false ∷ false ∷ false ∷ false ∷ false ∷ false ∷ []
+none = refl

@@ -1,0 +1,37 @@
+-- The lines of faults, computed.
+use Rattle.std.specs.Prelude.{◌≡◌, codes, refl}
+use Rattle.std.specs.Fmt.{digits}
+use Rattle.mm_model.specs.Faults.{fault}
+use Rattle.written_model.specs.Written.{at_line, too_much, formula_too_long, written_two_trees, too_much_written, proof_too_long, too_large}
+use Rattle.written_model.specs.FaultLines.{database_line, refusal_line}
+
+pub of_database : database_line (fault 13 12) ≡ codes "database error 12 Redeclared at byte 13"
+unfolding digits
+of_database = refl
+
+pub of_text : refusal_line (at_line (fault 6 42)) ≡ codes "sheet error 42 NoFooter at line 6"
+unfolding digits
+of_text = refl
+
+pub of_size : refusal_line (too_much 16780387) ≡ codes "sheet error 74 TooMuch size 16780387"
+unfolding digits
+of_size = refl
+
+pub of_formula : refusal_line (formula_too_long (codes "12") 8190) ≡ codes "sheet error 75 FormulaTooLong step 12 tokens 8190"
+unfolding digits
+of_formula = refl
+
+pub of_bytes : refusal_line (too_large 16777217) ≡ codes "sheet error 76 TooLarge bytes 16777217"
+unfolding digits
+of_bytes = refl
+
+pub of_written_size : refusal_line (too_much_written 16777217) ≡ codes "sheet error 77 TooMuchWritten size 16777217"
+unfolding digits
+of_written_size = refl
+
+pub of_two_trees : refusal_line (written_two_trees (codes "d1")) ≡ codes "sheet error 78 WrittenTwoTrees step d1"
+of_two_trees = refl
+
+pub of_labels : refusal_line (proof_too_long 1064935) ≡ codes "sheet error 79 ProofTooLong labels 1064935"
+unfolding digits
+of_labels = refl
