@@ -7,7 +7,7 @@ use Rattle.mm_base.specs.declared.tree.Tree.TheVariants.{Work, Fresh}
 use Rattle.mm_base.specs.Trees.{code_of}
 use Rattle.mm_base.proofs.TreeFacts.{same_node}
 use Rattle.mm_model.specs.Names.{sym as symbol}
-use Rattle.mm_model.specs.Productions.{Typed}
+use Rattle.mm_model.specs.Productions.{TypedVariable}
 use Rattle.mm_model.specs.Typed.{IsTyped}
 use Rattle.mm_model.proofs.TypedLaws.{code-Var, code-Work, typed-Var, typed-Work}
 use Rattle.solve_model.specs.declared.bound.Bound.{Bound}
@@ -69,16 +69,16 @@ leaf_is c n (suc (suc k), l, e) = absurd (omega (arith, l))
 work_is : (c : Typecode) (n : ℕ) → Occurs (work c n) formula → IsOneOf (named c n)
 work_is c n o = elim (leaf_is c n (rw leaves_of at o)) [ inl e ↦ let same : named c n ≡ first = cc in inl (inl same) | inr e ↦ let same : named c n ≡ third = cc in inl (inr same) ]
 
-variable_is : (v : Typed) → Contains ax_1.vars v → (copy 0 v.sym v.code ≡ left) ⊎ (copy 0 v.sym v.code ≡ right)
-variable_is v (zero, l, e) = inl (ap (λ (w : Typed). copy 0 w.sym w.code) (sym e))
-variable_is v (suc zero, l, e) = inr (ap (λ (w : Typed). copy 0 w.sym w.code) (sym e))
+variable_is : (v : TypedVariable) → Contains ax_1.vars v → (copy 0 v.sym v.code ≡ left) ⊎ (copy 0 v.sym v.code ≡ right)
+variable_is v (zero, l, e) = inl (ap (λ (w : TypedVariable). copy 0 w.sym w.code) (sym e))
+variable_is v (suc zero, l, e) = inr (ap (λ (w : TypedVariable). copy 0 w.sym w.code) (sym e))
 variable_is v (suc (suc k), l, e) = absurd (omega (arith, l))
 
 candidate_is : (x : Asked) → Contains (candidate ∷ []) x → x ≡ candidate
 candidate_is x (zero, l, e) = sym e
 candidate_is x (suc k, l, e) = absurd (omega (arith, l))
 
-frame_is : (x : Asked) (v : Typed) → x ≡ candidate → Contains x.assertion.vars v → IsOneOf (copy x.step v.sym v.code)
+frame_is : (x : Asked) (v : TypedVariable) → x ≡ candidate → Contains x.assertion.vars v → IsOneOf (copy x.step v.sym v.code)
 frame_is x v e m = rw e (inr (variable_is v (subst (λ (y : Asked). Contains y.assertion.vars v) e m)))
 
 formula_is : (i : ℕ) (s : BoundStep) (t : Tree) → slice_get (qed ∷ []) i ≡ Some s → s.tree ≡ Some t → t ≡ formula

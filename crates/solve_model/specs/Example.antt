@@ -15,7 +15,7 @@ use Rattle.mm_model.specs.declared.rows.Item.TheVariants.{Const, Slot}
 use Rattle.mm_model.specs.declared.rows.Production.{Production}
 use Rattle.mm_model.specs.Names.{Name, sym, label, typecode, first_number}
 use Rattle.mm_model.specs.Words.{words}
-use Rattle.mm_model.specs.Productions.{Typed, typed_variables}
+use Rattle.mm_model.specs.Productions.{TypedVariable, typed_variables}
 use Rattle.mm_model.specs.Book.{Assertion, Database}
 
 -- ---- the texts
@@ -258,7 +258,7 @@ P = record {
   active_at = active_before;
   is_constant_at = λ s place. nat_lt s.0 6 && nat_lt 0 place;
   place_after = λ l. slice_index_or places_after l.0 14;
-  float_codes = λ place. map (λ (v : Typed). v.code) (typed_variables (floats_before place));
+  float_codes = λ place. map (λ (v : TypedVariable). v.code) (typed_variables (floats_before place));
   rows = take 2 rows;
   usable = usable_of_label 10;
 }
@@ -275,7 +275,7 @@ Q = record {
   active_at = active_before;
   is_constant_at = λ s place. (nat_lt s.0 6 && nat_lt 0 place) || (nat_le 9 s.0 && nat_lt s.0 16 && nat_lt 14 place);
   place_after = λ l. slice_index_or places_after l.0 46;
-  float_codes = λ place. map (λ (v : Typed). v.code) (typed_variables (floats_before place));
+  float_codes = λ place. map (λ (v : TypedVariable). v.code) (typed_variables (floats_before place));
   rows = rows;
   usable = usable_of_label 29;
 }

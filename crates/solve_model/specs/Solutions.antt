@@ -7,7 +7,7 @@ use Rattle.mm_base.specs.declared.tree.Tree.{Tree}
 use Rattle.mm_base.specs.declared.tree.Tree.TheVariants.{Var, Fresh}
 use Rattle.mm_base.specs.Trees.{code_of}
 use Rattle.mm_model.specs.Typed.{IsTyped}
-use Rattle.mm_model.specs.Productions.{Typed}
+use Rattle.mm_model.specs.Productions.{TypedVariable}
 use Rattle.mm_model.specs.Book.{Database, Assertion, logic_code}
 use Rattle.sheet_text.specs.declared.sheet.Given.{Given}
 use Rattle.sheet_text.specs.declared.sheet.Given.TheVariants as given
@@ -36,7 +36,7 @@ pub record Asked : Type 0 where
 pub data IsUnknown (bound : Bound) (solved : List Asked) : Unknown → Type 0 where
   in_formula : (i : ℕ) (s : BoundStep) (t : Tree) {c : Typecode} {n : ℕ} → slice_get bound.steps i ≡ Some s → s.tree ≡ Some t → Occurs (work c n) t → IsUnknown bound solved (named c n)
   is_blank : (s : BoundStep) {i : ℕ} → slice_get bound.steps i ≡ Some s → s.tree ≡ None → IsUnknown bound solved (blank i)
-  in_frame : (x : Asked) (v : Typed) → Contains solved x → Contains x.assertion.vars v → IsUnknown bound solved (copy x.step v.sym v.code)
+  in_frame : (x : Asked) (v : TypedVariable) → Contains solved x → Contains x.assertion.vars v → IsUnknown bound solved (copy x.step v.sym v.code)
 
 abbrev pub unknown_code : Database → Unknown → Typecode
 unknown_code db (named c n) = c

@@ -3,7 +3,7 @@ use Rattle.std.specs.Prelude.{ℕ, zero, suc, ◌+◌, not, false, List, [], ◌
 use Rattle.std.specs.List.{range_with_len}
 use Rattle.mm_base.specs.declared.tree.Tree.{Tree}
 use Rattle.mm_model.specs.Names.{Name, contains}
-use Rattle.mm_model.specs.Productions.{Typed}
+use Rattle.mm_model.specs.Productions.{TypedVariable}
 use Rattle.sheet_text.specs.declared.sheet.Given.{Given}
 use Rattle.sheet_text.specs.declared.sheet.Given.TheVariants as given
 use Rattle.sheet_text.specs.declared.sheet.SheetItem.{SheetItem}
@@ -68,7 +68,7 @@ wanted_by g (stands v) = []
 wanted_by g (accepted x) = map (instance g x.step) (drop (length x.places) x.assertion.hyps)
 
 abbrev pub use_of : Valuation → Asked → Use
-use_of g x = record { assertion = x.assertion; values = map (λ (v : Typed). g (copy x.step v.sym v.code)) x.assertion.vars }
+use_of g x = record { assertion = x.assertion; values = map (λ (v : TypedVariable). g (copy x.step v.sym v.code)) x.assertion.vars }
 
 -- a step as it is written; an accepted one has its places in its order, and then the ones that fill
 abbrev pub filled_step : List ℕ → List ℕ → SheetStep → Tree → Valuation → Outcome → WrittenStep

@@ -7,7 +7,7 @@ use Rattle.mm_base.specs.declared.symbols.Pair.{Pair}
 use Rattle.mm_base.specs.declared.tree.Tree.{Tree}
 use Rattle.mm_base.specs.Trees.{code_of}
 use Rattle.mm_model.specs.Names.{label}
-use Rattle.mm_model.specs.Productions.{Typed}
+use Rattle.mm_model.specs.Productions.{TypedVariable}
 use Rattle.mm_model.specs.Book.{Database, label_name, position_of}
 use Rattle.sheet_text.specs.declared.sheet.Given.{Given}
 use Rattle.solve_model.specs.Trees.{open_leaves, replace, leaf_tree}
@@ -50,7 +50,7 @@ valued u t = replace (λ s c. value_of u s) leaf_tree t
 pub record FitsUse (db : Database) (place : ℕ) (mode : DvMode) (allowed : List Pair) (es : List WrittenStep) (e : WrittenStep) (c : Choice) (u : Use) : Type 0 where
   pub is_usable : db.usable c.label ≡ Some u.assertion
   pub earlier : position_of db c.label < place
-  pub codes : map code_of u.values ≡ map (λ (v : Typed). v.code) u.assertion.vars
+  pub codes : map code_of u.values ≡ map (λ (v : TypedVariable). v.code) u.assertion.vars
   pub conclusion : valued u u.assertion.tree ≡ e.tree
   pub hyps : AllZip (λ (h : Tree) (g : Given). place_tree es g ≡ Some (valued u h)) u.assertion.hyps c.places
   pub no_clash : clash_of u ≡ None

@@ -5,7 +5,7 @@ use Rattle.mm_base.specs.declared.symbols.Sym.{Sym}
 use Rattle.mm_base.specs.declared.tree.Tree.{Tree}
 use Rattle.mm_base.specs.declared.tree.Tree.TheVariants.{Work}
 use Rattle.mm_model.specs.Names.{Name, sym, typecode}
-use Rattle.mm_model.specs.Productions.{Typed}
+use Rattle.mm_model.specs.Productions.{TypedVariable}
 use Rattle.mm_model.specs.Book.{Assertion}
 use Rattle.sheet_text.specs.declared.sheet.Given.{Given}
 use Rattle.sheet_text.specs.declared.sheet.Given.TheVariants as given
@@ -55,4 +55,4 @@ no_tree = Work (typecode (sym 0)) 0
 
 -- the value of a frame's variable
 abbrev pub value_of : Use → Sym → Tree
-value_of u s = option_map_or (λ p. p.1) (find (λ (p : Typed × Tree). p.0.sym.0 == s.0) (zip u.assertion.vars u.values)) no_tree
+value_of u s = option_map_or (λ p. p.1) (find (λ (p : TypedVariable × Tree). p.0.sym.0 == s.0) (zip u.assertion.vars u.values)) no_tree
