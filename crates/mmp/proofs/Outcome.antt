@@ -1,5 +1,5 @@
 -- What the status of the program and its texts say, from the answer that it wrote.
-use Rattle.std.proofs.Common.{◌≡◌, ◌≢◌, ◌⊎◌, ℕ, List, Option, Some, None, MatchOption, IfSome, IsSomeAnd, IsNone, true, false, refl, sym, ◌∙◌, ap, subst, inl, inr}
+use Rattle.std.proofs.Common.{◌≡◌, ◌≢◌, ◌⊎◌, ℕ, List, [], Option, Some, None, MatchOption, IfSome, IsSomeAnd, IsNone, true, false, refl, sym, ◌∙◌, ap, subst, inl, inr}
 use Rattle.mm_base.specs.Outside.{Files, Rose}
 use Rattle.mm_base.specs.declared.status.Status.{Status}
 use Rattle.mm_base.specs.declared.status.Status.TheVariants.{Finished, Unfinished, Database, Sheet, Words, Read, Write, Memory, Proof}
@@ -62,21 +62,13 @@ words_not_read e = cc
 words_not_memory : Words ≡ Memory → ⊥
 words_not_memory e = cc
 
-pub read_from : (words : List (List ℕ)) (told : Option Files) (before now : List ℕ → ℕ) (answer : Answer) (status : Status) (oo on lo ln : Option (List ℕ)) → MayAnswerWords words told before now answer → Gives answer status oo on lo ln → status ≡ Read → IsSomeAnd (command_of words) (λ command. SaysReadFault command before now oo on lo ln)
+pub read_from : (words : List (List ℕ)) (told : Option Files) (before now : List ℕ → ℕ) (answer : Answer) (status : Status) (oo on lo ln : Option (List ℕ)) → MayAnswerWords words told before now answer → Gives answer status oo on lo ln → status ≡ Read → IsSomeAnd (command_of words) (λ command. SaysReadFault command before now status oo on lo ln)
 read_from words told before now answer status oo on lo ln may gives e =
     let is_read : answer.status ≡ Read = gives.status_is ∙ e in
     elim (command_of words)
-    as (λ v. MatchOption v (answer ≡ usage) (λ command. MayAnswer command told before now answer) → IsSomeAnd v (λ command. SaysReadFault command before now oo on lo ln)) [
+    as (λ v. MatchOption v (answer ≡ usage) (λ command. MayAnswer command told before now answer) → IsSomeAnd v (λ command. SaysReadFault command before now status oo on lo ln)) [
       | None ↦ λ h. absurd (words_not_read (sym (ap (λ a. a.status) h) ∙ is_read))
-      | Some command ↦ λ h.
-          let fault : IsReadFault command before now answer = h.read is_read in
-          record {
-            name = fault.name;
-            named = fault.named;
-            rose = fault.rose;
-            out = rw (ap (λ a. a.out) fault.says) at gives.out;
-            log = rw (ap (λ a. a.log) fault.says) at gives.log;
-          }
+      | Some command ↦ λ h. record { answer = answer; fault = h.read is_read; gives = gives }
     ] may.by_words
 
 pub not_memory : (words : List (List ℕ)) (told : Option Files) (before now : List ℕ → ℕ) (answer : Answer) → MayAnswerWords words told before now answer → answer.status ≢ Memory
@@ -112,8 +104,8 @@ complete_from words told before now answer status oo on lo ln ofo ofn lfo lfn ma
           inr (rw is_told at given)
       | inr (inl is_read) ↦
           let says = read_from words told before now answer status oo on lo ln may (whole (λ e. read_not_write (sym is_read ∙ e))) is_read in
-          let fault : SaysReadFault command before now oo on lo ln = rw is_command at says in
-          absurd (no_read fault.name fault.named fault.rose)
+          let fault : SaysReadFault command before now status oo on lo ln = rw is_command at says in
+          absurd (no_read fault.fault.name fault.fault.named fault.fault.rose)
       | inr (inr (inl is_write)) ↦ absurd (elim (cause is_write) [ inl e ↦ no_out e | inr e ↦ no_log e ])
       | inr (inr (inr is_memory)) ↦ inl is_memory
     ])
@@ -130,11 +122,19 @@ written status = elim (kinds status) [
 ]
 
 -- where the words fit no row: the status is that of the usage line, or a write failed
-pub words_always_from : (words : List (List ℕ)) (told : Option Files) (before now : List ℕ → ℕ) (answer : Answer) (status : Status) (oo on lo ln : Option (List ℕ)) (ofo ofn lfo lfn : ℕ)
-    → MayAnswerWords words told before now answer → (status ≢ Write → Gives answer status oo on lo ln) → (status ≡ Write → Rose ofo ofn ⊎ Rose lfo lfn)
-    → IsNone (command_of words) → (status ≡ Words) ⊎ ((status ≡ Memory) ⊎ (Rose ofo ofn ⊎ Rose lfo lfn))
-words_always_from words told before now answer status oo on lo ln ofo ofn lfo lfn may whole cause none =
+pub words_always_from : (words : List (List ℕ)) (told : Option Files) (before now : List ℕ → ℕ) (answer : Answer) (status : Status) (oo on lo ln : Option (List ℕ))
+    → MayAnswerWords words told before now answer → (status ≢ Write → Gives answer status oo on lo ln)
+    → IsNone (command_of words) → (status ≡ Words) ⊎ ((status ≡ Memory) ⊎ (status ≡ Write))
+words_always_from words told before now answer status oo on lo ln may whole none =
     elim (written status) [
-      | inl is_write ↦ inr (inr (cause is_write))
+      | inl is_write ↦ inr (inr is_write)
       | inr other ↦ inl (sym (whole other).status_is ∙ ap (λ a. a.status) (usage_from_none words told before now answer may none))
     ]
+
+-- the answers that say that words fit no row, or that a file failed to be read, have no output
+pub no_output_from : (words : List (List ℕ)) (told : Option Files) (before now : List ℕ → ℕ) (answer : Answer) → MayAnswerWords words told before now answer → (answer.status ≡ Words) ⊎ (answer.status ≡ Read) → answer.out ≡ []
+no_output_from words told before now answer may (inl e) = ap (λ (a : Answer). a.out) (none_from_words words told before now answer may e).1
+no_output_from words told before now answer may (inr e) =
+    elim (command_of words)
+    as (λ v. MatchOption v (answer ≡ usage) (λ command. MayAnswer command told before now answer) → answer.out ≡ [])
+    [ None ↦ λ h. ap (λ (a : Answer). a.out) h | Some command ↦ λ h. ap (λ (a : Answer). a.out) (h.read e).says ] may.by_words

@@ -7,7 +7,7 @@ use Rattle.mm_base.specs.declared.status.Status.{Status}
 use Rattle.mm_base.specs.declared.status.Status.TheVariants.{Finished, Unfinished, Database, Sheet, Words, Read, Write, Memory}
 use Rattle.mmp.specs.declared.answer.Answer.{Answer}
 use Rattle.mmp.specs.Command.{Command}
-use Rattle.mmp.specs.Unify.{IsDatabaseRefusal, IsUnified, IsSheetAnswer, IsTextStatus}
+use Rattle.mmp.specs.Unify.{IsAccepted, IsDatabaseRefusal, IsUnified, IsSheetAnswer, IsTextStatus}
 use Rattle.mmp.specs.Due.{IsDueTexts, IsDueSheet, MayAnswer}
 use Rattle.mmp.specs.Answer.{too_long_sheet}
 
@@ -60,17 +60,17 @@ unified : (command : Command) (database sheet : List ℕ) (answer : Answer) → 
 unfolding IsUnified
 unified command database sheet answer is = is
 
-due_sheet : (command : Command) (told : Option Files) (database sheet : List ℕ) (answer : Answer) → length database ≤ 2 ^ 28 → Has told command.database database → length sheet ≤ 2 ^ 24 → Has told command.sheet sheet → IsSheetAnswer answer → IfSome told (λ files. IsDueTexts command (files command.database) (files command.sheet) answer)
-due_sheet command None database sheet answer short has short_sheet has_sheet is = tt
-due_sheet command (Some files) database sheet answer short has short_sheet has_sheet is =
-    rw (has, has_sheet, not_longer (length database) (2 ^ 28) short, not_longer (length sheet) (2 ^ 24) short_sheet) (inr (unified command database sheet answer is))
+due_sheet : (command : Command) (told : Option Files) (database sheet : List ℕ) (answer : Answer) → length database ≤ 2 ^ 28 → Has told command.database database → IsAccepted database → length sheet ≤ 2 ^ 24 → Has told command.sheet sheet → IsSheetAnswer answer → IfSome told (λ files. IsDueTexts command (files command.database) (files command.sheet) answer)
+due_sheet command None database sheet answer short has accepted short_sheet has_sheet is = tt
+due_sheet command (Some files) database sheet answer short has accepted short_sheet has_sheet is =
+    rw (has, has_sheet, not_longer (length database) (2 ^ 28) short, not_longer (length sheet) (2 ^ 24) short_sheet) (inr (accepted, unified command database sheet answer is))
 
 pub may_answer_sheet : (command : Command) (told : Option Files) (before now : List ℕ → ℕ) (database sheet : List ℕ) (answer : Result Answer memory.Memory)
-    → length database ≤ 2 ^ 28 → Has told command.database database → length sheet ≤ 2 ^ 24 → Has told command.sheet sheet
+    → length database ≤ 2 ^ 28 → Has told command.database database → IsAccepted database → length sheet ≤ 2 ^ 24 → Has told command.sheet sheet
     → IfOk answer IsSheetAnswer → IfOk answer (λ a. IsTextStatus a.status) → IfOk answer (MayAnswer command told before now)
-may_answer_sheet command told before now database sheet (Err e) short has short_sheet has_sheet is status = tt
-may_answer_sheet command told before now database sheet (Ok answer) short has short_sheet has_sheet is status =
-    may_from_due command told before now answer (ordinary_text answer.status status) (due_sheet command told database sheet answer short has short_sheet has_sheet is)
+may_answer_sheet command told before now database sheet (Err e) short has accepted short_sheet has_sheet is status = tt
+may_answer_sheet command told before now database sheet (Ok answer) short has accepted short_sheet has_sheet is status =
+    may_from_due command told before now answer (ordinary_text answer.status status) (due_sheet command told database sheet answer short has accepted short_sheet has_sheet is)
 
 longer : (n most : ℕ) → most < n → nat_lt most n ≡ true
 longer n most h = grind (arith, nat_tests)
@@ -79,16 +79,16 @@ due_long_sheet : (command : Command) (database : List ℕ) (sheet : Option (List
 due_long_sheet command database None answer long is = absurd long
 due_long_sheet command database (Some bytes) answer long is = rw (longer (length bytes) (2 ^ 24) long) is
 
-due_long : (command : Command) (told : Option Files) (database : List ℕ) (answer : Answer) → length database ≤ 2 ^ 28 → Has told command.database database
+due_long : (command : Command) (told : Option Files) (database : List ℕ) (answer : Answer) → length database ≤ 2 ^ 28 → Has told command.database database → IsAccepted database
     → IfSome told (λ files. IsSomeAnd (files command.sheet) (λ bytes. 2 ^ 24 < length bytes)) → answer ≡ too_long_sheet
     → IfSome told (λ files. IsDueTexts command (files command.database) (files command.sheet) answer)
-due_long command None database answer short has long is = tt
-due_long command (Some files) database answer short has long is =
-    rw (has, not_longer (length database) (2 ^ 28) short) (inr (due_long_sheet command database (files command.sheet) answer long is))
+due_long command None database answer short has accepted long is = tt
+due_long command (Some files) database answer short has accepted long is =
+    rw (has, not_longer (length database) (2 ^ 28) short) (inr (accepted, due_long_sheet command database (files command.sheet) answer long is))
 
 pub may_refuse_long_sheet : (command : Command) (told : Option Files) (before now : List ℕ → ℕ) (database : List ℕ) (answer : Result Answer memory.Memory)
-    → length database ≤ 2 ^ 28 → Has told command.database database → IfSome told (λ files. IsSomeAnd (files command.sheet) (λ bytes. 2 ^ 24 < length bytes))
+    → length database ≤ 2 ^ 28 → Has told command.database database → IsAccepted database → IfSome told (λ files. IsSomeAnd (files command.sheet) (λ bytes. 2 ^ 24 < length bytes))
     → IfOk answer (λ a. a ≡ too_long_sheet) → IfOk answer (MayAnswer command told before now)
-may_refuse_long_sheet command told before now database (Err e) short has long is = tt
-may_refuse_long_sheet command told before now database (Ok answer) short has long is =
-    may_from_due command told before now answer (ordinary_text answer.status (inr (inr (inr (ap (λ (a : Answer). a.status) is))))) (due_long command told database answer short has long is)
+may_refuse_long_sheet command told before now database (Err e) short has accepted long is = tt
+may_refuse_long_sheet command told before now database (Ok answer) short has accepted long is =
+    may_from_due command told before now answer (ordinary_text answer.status (inr (inr (inr (ap (λ (a : Answer). a.status) is))))) (due_long command told database answer short has accepted long is)

@@ -1,13 +1,13 @@
 -- The answer that is due for given words and files, and what may stand in its place.
-use Rattle.std.specs.Prelude.{◌≡◌, ◌≢◌, ◌⊎◌, ◌≤◌, ◌^◌, ℕ, List, [], ◌++◌, length, take, nat_lt, codes, Option, Some, None, MatchOption, MatchBool, IfSome}
+use Rattle.std.specs.Prelude.{◌≡◌, ◌≢◌, ◌⊎◌, ◌≤◌, ◌^◌, ℕ, List, length, take, nat_lt, Option, Some, None, MatchOption, MatchBool, IfSome}
 use Rattle.std.specs.Io.KnownBytes.{Appends}
 use Rattle.mm_base.specs.Outside.{Files, Rose}
 use Rattle.mm_base.specs.declared.status.Status.{Status}
 use Rattle.mm_base.specs.declared.status.Status.TheVariants.{Words, Read, Write, Memory}
 use Rattle.mmp.specs.declared.answer.Answer.{Answer}
-use Rattle.mmp.specs.Answer.{line, usage, read_fault, too_long_database, too_long_sheet}
+use Rattle.mmp.specs.Answer.{usage, read_fault, too_long_database, too_long_sheet}
 use Rattle.mmp.specs.Command.{Command, Reads, command_of}
-use Rattle.mmp.specs.Unify.{IsDatabaseRefusal, IsUnified}
+use Rattle.mmp.specs.Unify.{IsAccepted, IsDatabaseRefusal, IsUnified}
 
 -- the answer to the file of the sheet, where the database is not refused: too many bytes first
 abbrev pub IsDueSheet : Command → List ℕ → Option (List ℕ) → Answer → Type 0
@@ -20,7 +20,7 @@ abbrev pub IsDueTexts : Command → Option (List ℕ) → Option (List ℕ) → 
 IsDueTexts command None sheet answer = ⊥
 IsDueTexts command (Some database) sheet answer =
     MatchBool (nat_lt (2 ^ 28) (length database)) (answer ≡ too_long_database)
-    (IsDatabaseRefusal database answer ⊎ IsDueSheet command database sheet answer)
+    (IsDatabaseRefusal database answer ⊎ (IsAccepted database × IsDueSheet command database sheet answer))
 
 -- the answer to these words over these files
 abbrev pub IsDue : List (List ℕ) → Files → Answer → Type 0
@@ -73,13 +73,11 @@ pub record IsGiven (words : List (List ℕ)) (files : Files) (status : Status) (
   pub due : IsDue words files answer
   pub gives : Gives answer status out_old out_new log_old log_new
 
--- The log gained exactly the line on a file that failed to be read, and the output nothing.
-pub record SaysReadFault (command : Command) (before now : List ℕ → ℕ) (out_old out_new log_old log_new : Option (List ℕ)) : Type 0 where
-  pub name : List ℕ
-  pub named : Reads command name
-  pub rose : Rose (before name) (now name)
-  pub out : Appends out_old out_new []
-  pub log : Appends log_old log_new (line (codes "read fault " ++ name))
+-- The sinks gained exactly the texts of an answer that names a file which failed to be read.
+pub record SaysReadFault (command : Command) (before now : List ℕ → ℕ) (status : Status) (out_old out_new log_old log_new : Option (List ℕ)) : Type 0 where
+  pub answer : Answer
+  pub fault : IsReadFault command before now answer
+  pub gives : Gives answer status out_old out_new log_old log_new
 
 -- The sinks gained prefixes of the texts of an answer that the call may have given.
 pub record IsCutShort (words : List (List ℕ)) (told : Option Files) (before now : List ℕ → ℕ) (out_old out_new log_old log_new : Option (List ℕ)) : Type 0 where

@@ -10,6 +10,10 @@ use Rattle.mmp.specs.Command.{Command}
 unfoldable pub IsDatabaseRefusal : List ℕ → Answer → Type 0
 IsDatabaseRefusal database answer = answer ≡ refusal Database (codes "database error 90 NotBuilt at byte 0")
 
+-- the database is not refused
+unfoldable pub IsAccepted : List ℕ → Type 0
+IsAccepted database = Unit {0}
+
 -- the refusal of a sheet
 abbrev pub IsSheetRefusal : Answer → Type 0
 IsSheetRefusal answer = answer ≡ refusal Sheet (codes "sheet error 91 NotBuilt at line 1")

@@ -3,7 +3,6 @@ ghost use Rattle.mmp.specs.Answer.{read_fault, usage};
 ghost use Rattle.mmp.specs.Due.{MayAnswer, MayAnswerWords, IsSettled, Gives, IsGiven, NoReadFault, SaysReadFault, IsCutShort};
 ghost use Rattle.mmp.specs.Command.{command_of};
 ghost use Rattle.mm_base.specs.Outside.{Rose};
-ghost use Rattle.std.specs.Io.KnownBytes.{Keeps};
 ghost use Rattle.mmp.specs.Shown.{shown};
 
 use crate::answer::{Answer, refuse};
@@ -86,7 +85,14 @@ pub fn answer_words<S: Store>(
     }
 }
 
-/// All that the program does.
+/// All that the program does for the words behind its name: it reads the files that they name, and writes one text to
+/// `out` and one to `log`, each made whole before anything is written.
+///
+/// # Statuses
+/// `Finished` and `Unfinished`: the worksheet is in `out` and the report in `log`. `Database` and `Sheet`: the file is
+/// refused, by one line in `log`. `Words`: the words fit no command, and `log` has the usage line. `Read`: a file could not
+/// be read, and `log` names it. `Write`: a sink failed; nothing is in `log` unless `out` is whole. `Memory`: memory ran
+/// out, and nothing was written.
 pub fn run<S: Store, O: Sink, L: Sink>(
     alloc: Global,
     words: &[String],
@@ -98,7 +104,8 @@ pub fn run<S: Store, O: Sink, L: Sink>(
     ensures due { IsSettled result → IfSome (S.told store.old) (λ files.
         IsGiven (map string_bytes words.now) files result (O.told out.old) (O.told out.new) (L.told log.old) (L.told log.new)) }
 
-    // Where no fault rose, an answer that is due is given, or memory is wanting.
+    // Where no fault rose, an answer that is due is given, or memory is wanting. It follows from the clauses on the
+    // single statuses, and says their sum.
     ensures complete { IfSome (command_of (map string_bytes words.now)) (λ command. IfSome (S.told store.old) (λ files.
         NoReadFault command (S.read_faults store.old) (S.read_faults store.new)
         → ¬ Rose (O.faults out.old) (O.faults out.new)
@@ -108,18 +115,19 @@ pub fn run<S: Store, O: Sink, L: Sink>(
 
     // The words, over every store.
     ensures words_only { result ≡ Status.Words → IsNone (command_of (map string_bytes words.now)) }
-    ensures words_always { IsNone (command_of (map string_bytes words.now)) → (result ≡ Status.Words) ⊎ ((result ≡ Status.Memory)
-        ⊎ (Rose (O.faults out.old) (O.faults out.new) ⊎ Rose (L.faults log.old) (L.faults log.new))) }
+    ensures words_always { IsNone (command_of (map string_bytes words.now)) → (result ≡ Status.Words) ⊎ ((result ≡ Status.Memory) ⊎ (result ≡ Status.Write)) }
     ensures words_texts { result ≡ Status.Words → Gives usage result (O.told out.old) (O.told out.new) (L.told log.old) (L.told log.new) }
+    ensures words_output { result ≡ Status.Words → out.new ≡ out.old }
     ensures not_called { IsNone (command_of (map string_bytes words.now)) → store.new ≡ store.old }
 
     // The failures, over every store.
     ensures read { result ≡ Status.Read → IsSomeAnd (command_of (map string_bytes words.now)) (λ command.
-        SaysReadFault command (S.read_faults store.old) (S.read_faults store.new) (O.told out.old) (O.told out.new) (L.told log.old) (L.told log.new)) }
+        SaysReadFault command (S.read_faults store.old) (S.read_faults store.new) result (O.told out.old) (O.told out.new) (L.told log.old) (L.told log.new)) }
+    ensures read_output { result ≡ Status.Read → out.new ≡ out.old }
     ensures write { result ≡ Status.Write → Rose (O.faults out.old) (O.faults out.new) ⊎ Rose (L.faults log.old) (L.faults log.new) }
     ensures write_part { result ≡ Status.Write → IsCutShort (map string_bytes words.now) (S.told store.old) (S.read_faults store.old)
         (S.read_faults store.new) (O.told out.old) (O.told out.new) (L.told log.old) (L.told log.new) }
-    ensures memory { result ≡ Status.Memory → Keeps (O.told out.old) (O.told out.new) × Keeps (L.told log.old) (L.told log.new) }
+    ensures memory { result ≡ Status.Memory → (out.new ≡ out.old) × (log.new ≡ log.old) }
 
     ensures same_files { S.told store.new ≡ S.told store.old }
 {

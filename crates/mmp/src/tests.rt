@@ -224,6 +224,7 @@ struct Outside<'a> {
     sheet: &'a [u8],
     store_fails: &'a [u64],
     out_room: u64,
+    out_fails: &'a [u64],
     log_fails: &'a [u64],
 }
 
@@ -233,7 +234,9 @@ fn honest<'a>(database: &'a str, sheet: &'a [u8]) -> Outside<'a> {
         sheet,
         store_fails: &[],
         out_room: 1000,
-        log_fails: &[],
+        // one write to each
+        out_fails: &[2],
+        log_fails: &[2],
     }
 }
 
@@ -257,7 +260,7 @@ fn check(
 ) -> Result<(), Fail> {
     let words = words_of(alloc, words)?;
     let mut store = store(alloc, outside)?;
-    let mut out = sink(alloc, outside.out_room, &[])?;
+    let mut out = sink(alloc, outside.out_room, outside.out_fails)?;
     let mut log = sink(alloc, 1000, outside.log_fails)?;
     let status = run(alloc, &words, &mut store, &mut out, &mut log);
     assert_eq!(rt; log.bytes(), want.2.as_bytes());
@@ -322,6 +325,7 @@ fn other_words_are_answered_by_the_usage_line(rt: HostRuntime) -> Result<(), Fai
     for words in wrong {
         let outside = Outside {
             store_fails: &[1],
+            out_fails: &[1],
             ..honest(P, b"")
         };
         check(&rt, rt.alloc(), words, outside, want)?;
@@ -333,6 +337,10 @@ fn other_words_are_answered_by_the_usage_line(rt: HostRuntime) -> Result<(), Fai
 fn each_fault_of_the_outside_has_its_status(rt: HostRuntime) -> Result<(), Fail> {
     let (sheet, finished) = sheets_of(rt.alloc(), WRITTEN[0])?;
     let honest = honest(P, &sheet);
+    let first_read = Outside {
+        store_fails: &[1],
+        ..honest
+    };
     let second_read = Outside {
         store_fails: &[2],
         ..honest
@@ -345,7 +353,19 @@ fn each_fault_of_the_outside_has_its_status(rt: HostRuntime) -> Result<(), Fail>
         out_room: 10,
         ..honest
     };
+    // the database is judged before the worksheet is read
+    let refused = Outside {
+        database: DEMO0,
+        store_fails: &[2],
+        ..honest
+    };
+    let no_database = "database error 90 NotBuilt at byte 0\n";
     for (outside, want) in [
+        (
+            first_read,
+            (Status::Read, b"".as_slice(), "read fault P.mm\n"),
+        ),
+        (refused, (Status::Database, b"".as_slice(), no_database)),
         (
             second_read,
             (Status::Read, b"".as_slice(), "read fault r.mmp\n"),

@@ -1,4 +1,6 @@
-ghost use Rattle.std.specs.Prelude.{◌≡◌, ◌++◌, IfOk};
+ghost use Rattle.std.specs.Prelude.{◌≡◌, ◌++◌, codes, IfOk};
+ghost use Rattle.std.specs.List.{flat_map};
+ghost use Rattle.mmp.specs.Answer.{line};
 ghost use Rattle.mmp.specs.Unify.{IsSheetAnswer, IsTextStatus, IsWritten, end_line, end_status};
 ghost use Rattle.mmp.specs.Opened.{IsOpened};
 
@@ -10,7 +12,9 @@ use sheet_unify::{
 use std::alloc::Global;
 
 /// The typecodes that have a meaning: `|-` and `wff`.
-pub fn usual_kinds(alloc: Global) -> Result<Kinds, Memory> {
+pub fn usual_kinds(alloc: Global) -> Result<Kinds, Memory>
+    ensures { IfOk result (λ kinds. kinds ≡ record { provable = codes "|-"; logic = codes "wff" }) }
+{
     Ok(Kinds {
         provable: List::from_vec(Vec::from_slice(alloc, b"|-")?),
         logic: List::from_vec(Vec::from_slice(alloc, b"wff")?),
@@ -18,7 +22,9 @@ pub fn usual_kinds(alloc: Global) -> Result<Kinds, Memory> {
 }
 
 // The lines of the report, each ended by a line feed.
-fn report_text(alloc: Global, lines: &[Bytes]) -> Result<Vec<u8>, Memory> {
+fn report_text(alloc: Global, lines: &[Bytes]) -> Result<Vec<u8>, Memory>
+    ensures { IfOk result (λ text. text.items ≡ flat_map line lines.now) }
+{
     let mut text = Vec::new(alloc);
     for line in lines {
         text.extend_from_slice(line.as_slice())?;
@@ -54,6 +60,8 @@ fn status_of(finished: bool) -> Status
 // The answer that writes an outcome.
 fn answer_outcome(alloc: Global, outcome: Outcome) -> Result<Answer, Memory>
     ensures written { IfOk result IsWritten }
+    ensures text { IfOk result (λ answer. answer.out ≡ outcome.text) }
+    ensures end { IfOk result (λ answer. answer.status ≡ end_status outcome.finished) }
     ensures status { IfOk result (λ answer. IsTextStatus answer.status) }
 {
     let lines = report_lines(alloc, &outcome.report)?;
@@ -74,7 +82,7 @@ pub enum Opened {
 }
 
 /// Opens the text of a database.
-#[tactic(auto, unfolding(crate::specs::Unify::IsDatabaseRefusal))]
+#[tactic(auto, unfolding(crate::specs::Unify::IsDatabaseRefusal, crate::specs::Unify::IsAccepted))]
 pub fn open(alloc: Global, text: &[u8], kinds: &Kinds) -> Result<Opened, Memory>
     ensures { IfOk result (IsOpened text.now) }
 {

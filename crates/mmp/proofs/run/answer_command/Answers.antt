@@ -9,11 +9,13 @@ returns-in-Refused-clause-answer g c =
 pub returns-clause-answer : goal.returns-clause-answer
 returns-clause-answer g c =
     let found = rw c.in-Text.is at c.in_ok-text.ensures.found in
+    let accepted = rw (c.in-Database.is, c.as_slice.ensures) at c.in_ok-database.ensures in
     let sheet = rw (c.in-Text-2.is, c.in_ok-text.ensures.same_files) at c.in_ok-text-2.ensures.found in
-    may_answer_sheet _ _ _ _ c.in-Text.text c.in-Text-2.text c.answer_sheet.result found.0 found.1 sheet.0 sheet.1 c.answer_sheet.ensures.answer c.answer_sheet.ensures.status
+    may_answer_sheet _ _ _ _ c.in-Text.text c.in-Text-2.text c.answer_sheet.result found.0 found.1 accepted sheet.0 sheet.1 c.answer_sheet.ensures.answer c.answer_sheet.ensures.status
 
 pub returns-in-TooBig-2-clause-answer : goal.returns-in-TooBig-2-clause-answer
 returns-in-TooBig-2-clause-answer g c =
     let found = rw c.in-Text.is at c.in_ok-text.ensures.found in
+    let accepted = rw (c.in-Database.is, c.as_slice.ensures) at c.in_ok-database.ensures in
     let long = rw (c.in-TooBig-2.is, c.in_ok-text.ensures.same_files) at c.in_ok-text-2.ensures.found in
-    may_refuse_long_sheet _ _ _ _ c.in-Text.text c.refuse-in-TooBig-2.result found.0 found.1 long c.refuse-in-TooBig-2.ensures
+    may_refuse_long_sheet _ _ _ _ c.in-Text.text c.refuse-in-TooBig-2.result found.0 found.1 accepted long c.refuse-in-TooBig-2.ensures
