@@ -1,0 +1,21 @@
+//! Reading the statements of a Metamath database (Metamath book, section 4.2): symbols, labels and frames by number,
+//! or the first fault with its byte.
+#![tactic(auto)]
+
+mod fault;
+mod frames;
+mod keywords;
+mod reader;
+mod reading;
+mod scopes;
+mod stack;
+mod step;
+mod words;
+
+pub use fault::ReadFault;
+pub use frames::Frames;
+pub use mm_model::{Active, Frame, Hyp};
+pub use reading::read;
+
+#[cfg(test)]
+mod tests;

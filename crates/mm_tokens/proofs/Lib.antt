@@ -1,0 +1,5 @@
+pub mod NextWord
+pub mod ScanLaw
+pub mod ScanSteps
+pub mod Sets
+pub mod WordLaws

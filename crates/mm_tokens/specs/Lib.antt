@@ -1,0 +1,3 @@
+pub mod Kinds
+pub mod Scan
+pub mod Tokens

@@ -1,0 +1,14 @@
+//! The tokens of a Metamath database outside its comments, and the walk from word to word that the readers of all
+//! texts share.
+#![tactic(auto)]
+
+mod scan;
+mod token;
+mod words;
+
+pub use scan::tokens;
+pub use token::{Token, TokenFault, TokenKind};
+pub use words::{is_white, next_word};
+
+#[cfg(test)]
+mod tests;
