@@ -6,7 +6,7 @@ use Rattle.std.proofs.lemmas.Bool.{cases_Bool, or_parts}
 use Rattle.std.proofs.lemmas.Bool.Decides.{nat_tests}
 use Rattle.std.proofs.lemmas.List.Folds.{list_any-append}
 use Rattle.mm_base.specs.declared.symbols.Sym.{Sym}
-use Rattle.mm_model.specs.Names.{is_label_byte}
+use Rattle.mm_model.specs.Labels.{is_label_byte}
 use Rattle.mm_model.specs.Words.{Word, word}
 use Rattle.mm_model.specs.Statements.{Statement, is_word, is_one_of, is_empty, is_first, is_typed, labelled, ended, unended, has_keyword, symbols_in, second, contains, constants, variables, variables_ever, typed, labels, path}
 use Rattle.mm_tokens.specs.declared.token.TokenKind.{TokenKind}

@@ -3,7 +3,7 @@ use Rattle.std.proofs.Common.{◌≡◌, ℕ, zero, suc, Bool, true, false, cond
 use Rattle.std.specs.List.{list_any, list_all, take_while}
 use Rattle.std.specs.Str.{bytes_eq}
 use Rattle.std.proofs.lemmas.Bool.Decides.{nat_tests}
-use Rattle.mm_model.specs.Names.{is_label_byte}
+use Rattle.mm_model.specs.Labels.{is_label_byte}
 use Rattle.mm_model.specs.Faults.{first_code_within}
 use Rattle.mm_model.specs.Words.{Word, word}
 use Rattle.mm_model.specs.Statements.{Statement, token_rules, is_one_of, is_word, is_empty, labelled, unended, ended, contains, labels, path, is_constant, is_variable, is_typed, variables_ever}

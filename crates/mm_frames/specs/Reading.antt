@@ -3,7 +3,8 @@ use Rattle.std.specs.Prelude.{◌≡◌, ℕ, ◌+◌, ◌<◌, ◌^◌, ◌==�
 use Rattle.std.specs.List.{list_any, list_all}
 use Rattle.std.specs.Str.{bytes_eq}
 use Rattle.mm_base.specs.declared.symbols.Sym.{Sym}
-use Rattle.mm_model.specs.Names.{Name, sym, is_label_byte}
+use Rattle.mm_model.specs.Names.{Name, sym}
+use Rattle.mm_model.specs.Labels.{is_label_byte}
 use Rattle.mm_model.specs.Statements.{is_empty}
 use Rattle.mm_tokens.specs.declared.token.TokenKind.{TokenKind}
 use Rattle.mm_tokens.specs.declared.token.TokenKind.TheVariants as token

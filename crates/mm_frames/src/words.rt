@@ -2,7 +2,7 @@
 
 ghost use Rattle.std.specs.Prelude.{◌≡◌, slice_get, unwrap_or, false};
 ghost use Rattle.std.specs.List.{list_all};
-ghost use Rattle.mm_model.specs.Names.{is_label_byte};
+ghost use Rattle.mm_model.specs.Labels.{is_label_byte};
 ghost use Rattle.mm_frames.specs.Kinds.{wants_label, is_extra};
 
 use crate::fault::ReadFault;

@@ -1,10 +1,7 @@
 mod BookExamples
-pub mod Bridge
 pub mod ChainLaws
-pub mod Codes
 pub mod KeptLaws
 pub mod Lists
-pub mod Marks
 pub mod NameLaws
 pub mod RowLaws
 pub mod Scopes
