@@ -1,13 +1,11 @@
 -- The database of the whole example is that of its text.
-use Rattle.std.specs.Prelude.{◌≡◌, ◌==◌, ◌≤◌, ℕ, zero, suc, Bool, true, false, List, [], ◌∷◌, length, Option, Some, None, codes, refl}
+use Rattle.std.specs.Prelude.{◌≡◌, ◌==◌, ℕ, zero, suc, Bool, true, false, List, [], ◌∷◌, Option, Some, None, refl}
 use Rattle.std.specs.List.{AllZip}
 use Rattle.std.proofs.Common.{sym, ap, subst, ◌∙◌, arith, cond}
 use Rattle.std.proofs.lemmas.Bool.Decides.{nat_tests}
 use Rattle.mm_base.specs.declared.symbols.Label.{Label}
-use Rattle.mm_base.specs.declared.symbols.Sym.{Sym}
-use Rattle.mm_base.specs.declared.symbols.Typecode.{Typecode}
 use Rattle.mm_base.specs.declared.tree.Tree.{Tree}
-use Rattle.mm_base.specs.declared.tree.Tree.TheVariants.{Var, Work, Fresh, Node}
+use Rattle.mm_base.specs.declared.tree.Tree.TheVariants.{Var}
 use Rattle.mm_base.proofs.TreeInduction.{tree_ind}
 use Rattle.mm_model.specs.declared.frames.Hyp.{Hyp}
 use Rattle.mm_model.specs.declared.frames.Frame.{Frame}
@@ -48,12 +46,12 @@ the_tree = record { parses = parses_variable 4 2; only = λ u p. parses_only 4 2
 
 any_is_usable : IsUsable db (label 2) any
 any_is_usable = record {
-    frame = refl;
-    label = refl;
-    conclusion = record { provable = record { begins = (symbol 0, symbol 2 ∷ [], refl, refl); short = omega arith }; tree = the_tree };
-    hyps = tt;
-    vars = refl
-  }
+  frame = refl;
+  label = refl;
+  conclusion = record { provable = record { begins = (symbol 0, symbol 2 ∷ [], refl, refl); short = omega arith }; tree = the_tree };
+  hyps = tt;
+  vars = refl;
+}
 
 same_label : (n m : ℕ) → (n == m) ≡ true → label n ≡ label m
 same_label n m e = let is : n ≡ m = grind (arith, nat_tests) in ap label is
@@ -95,18 +93,18 @@ all_by (suc (suc (suc n))) a h = let none : None ≡ Some a.frame = h.frame in a
 
 pub is_database : IsDatabaseOf options.kinds database_text db
 is_database = record {
-    provable = refl;
-    logic = refl;
-    symbols = refl;
-    labels = refl;
-    positions = refl;
-    statement_count = refl;
-    frame = λ l. refl;
-    active_at = λ place. refl;
-    is_constant_at = λ s place. refl;
-    place_after = λ l. refl;
-    float_codes = λ place. refl;
-    rows = refl;
-    usable_is = λ l a e. usable_by l a (l.0 == 2) refl e;
-    usable_all = λ l a h. all_by l.0 a h
-  }
+  provable = refl;
+  logic = refl;
+  symbols = refl;
+  labels = refl;
+  positions = refl;
+  statement_count = refl;
+  frame = λ l. refl;
+  active_at = λ place. refl;
+  is_constant_at = λ s place. refl;
+  place_after = λ l. refl;
+  float_codes = λ place. refl;
+  rows = refl;
+  usable_is = λ l a e. usable_by l a (l.0 == 2) refl e;
+  usable_all = λ l a h. all_by l.0 a h;
+}

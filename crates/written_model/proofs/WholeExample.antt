@@ -1,12 +1,11 @@
 -- A whole call: the words `unify --proof=normal a.mm t.mmp` over the small database and its worksheet end with status 0,
 -- the worksheet with its proof, and the report. Each part of the main theorem holds of it.
-use Rattle.std.specs.Prelude.{◌≡◌, ◌<◌, ◌≤◌, ◌^◌, ◌↔◌, ℕ, zero, suc, Bool, true, false, IsTrue, List, [], ◌∷◌, length, map, take, Contains, slice_get, Option, Some, None, codes, refl}
+use Rattle.std.specs.Prelude.{◌≡◌, ◌<◌, ◌≤◌, ◌^◌, ℕ, zero, suc, Bool, true, false, List, [], ◌∷◌, length, map, take, Contains, slice_get, Option, Some, None, codes, refl}
 use Rattle.std.specs.List.{AllByRecursion, AllZip}
 use Rattle.std.specs.Fmt.{digits}
 use Rattle.std.proofs.Common.{sym, ap, subst, ◌∙◌, arith, inl, inr}
 use Rattle.mm_base.specs.declared.symbols.Typecode.{Typecode}
 use Rattle.mm_base.specs.declared.tree.Tree.{Tree}
-use Rattle.mm_base.specs.declared.tree.Tree.TheVariants.{Var, Work}
 use Rattle.mm_base.specs.declared.status.Status.TheVariants as status
 use Rattle.mm_base.specs.Trees.{code_of}
 use Rattle.mm_model.specs.Faults.{Fault}
@@ -24,29 +23,28 @@ use Rattle.proof_model.specs.Proofs.{by, none, proofs, postorder}
 use Rattle.sheet_text.specs.declared.sheet.Sheet.{Sheet}
 use Rattle.sheet_text.specs.declared.sheet.SheetStep.{SheetStep}
 use Rattle.sheet_text.specs.Layout.{layout, steps, spaced}
-use Rattle.sheet_text.specs.Reads.{Reads, ReadsAs, unnumbered}
+use Rattle.sheet_text.specs.Reads.{Reads, unnumbered}
 use Rattle.sheet_text.specs.ReadsExamples.{text}
 use Rattle.solve_model.specs.declared.bound.BoundStep.{BoundStep}
 use Rattle.solve_model.specs.BindFaults.{BindFaultAt, at_header, at_step, at_pairs, no_tree, two_trees}
 use Rattle.solve_model.specs.Binding.{theorem_of}
-use Rattle.solve_model.specs.Bound.{Binds, IsBoundStep, standing, work_size}
-use Rattle.solve_model.specs.Example.{split}
-use Rattle.solve_model.specs.Formulas.{IsTreeOf, IsTheTree, HasNoTree, HasTwoTrees}
-use Rattle.solve_model.specs.MostGeneral.{Refinement, refine, IsInstance, IsTheValuation, IsNamedLeaf}
-use Rattle.solve_model.specs.Solutions.{Unknown, named, blank, copy, Valuation, Asked, IsUnknown, in_formula, is_blank, in_frame, IsValuation, Solves, Solvable, unknown_code}
+use Rattle.solve_model.specs.Bound.{Binds, standing, work_size}
+use Rattle.solve_model.specs.Formulas.{IsTheTree, HasNoTree, HasTwoTrees}
+use Rattle.solve_model.specs.MostGeneral.{refine, IsInstance, IsTheValuation}
+use Rattle.solve_model.specs.Solutions.{Unknown, named, blank, copy, Valuation, Asked, IsUnknown, in_formula, is_blank, in_frame, IsValuation, Solves, unknown_code}
 use Rattle.solve_model.specs.Trees.{Open, work, fresh, leaf_tree, Occurs}
-use Rattle.solve_model.specs.Verdicts.{Outcome, accepted, accepted_in, IsOutcome, AreJudged}
-use Rattle.solve_model.proofs.TreeLaws.{replaces, leaves, same_trees}
+use Rattle.solve_model.specs.Verdicts.{Judgement, accepted, accepted_in, IsJudgement, AreJudged}
+use Rattle.solve_model.proofs.TreeLaws.{replaces, leaves}
 use Rattle.written_model.specs.declared.options.DvMode.TheVariants as dv
 use Rattle.written_model.specs.declared.options.ProofStyle.TheVariants as style
 use Rattle.written_model.specs.Found.{IsSearched}
-use Rattle.written_model.specs.Headline.{Ending, Refuses, Headline, IsAnswered, Unifies, Shows, ProvesItself, IsFixed}
+use Rattle.written_model.specs.Headline.{Ending, IsAnswered, Unifies, ProvesItself}
 use Rattle.written_model.specs.Named.{IsNaming, IsWrittenLeaf, WorkVariable, new_works, name_tree}
 use Rattle.written_model.specs.ProofTrees.{Finished, is_complete}
 use Rattle.written_model.specs.Found.{is_ground}
-use Rattle.written_model.specs.WholeExample.{database_text, S, wff, ph, ps, variable, any, db, words, options, read_text, written_text_is, files, numbered, qed, trees, candidate, value, fitting, writing}
+use Rattle.written_model.specs.WholeExample.{database_text, wff, ps, variable, any, db, words, options, read_text, written_text_is, files, numbered, qed, trees, candidate, value, fitting, writing}
 use Rattle.written_model.specs.WrittenSteps.{WrittenStep, step, steps_in, trees as trees_of}
-use Rattle.written_model.specs.Written.{Writing, Writes, HasNoLateFault, LateFault, Refusal, Answers, wrote, filled, named as named_items, ItemIsSearched, written_sheet, written_text, written_bound, qed_proof, proof_text, step_tokens, formula_tokens}
+use Rattle.written_model.specs.Written.{Writing, Writes, HasNoLateFault, LateFault, Answers, wrote, after_filling, after_naming, ItemIsSearched, written_sheet, written_text, written_bound, qed_proof, proof_text, step_tokens, formula_tokens}
 use Rattle.written_model.proofs.SyntaxProofs.{syntax_proofs}
 use Rattle.written_model.proofs.WholeDatabase.{parses_variable, parses_only, is_database}
 
@@ -107,13 +105,13 @@ sound line code (two_trees zero s h n) = one_tree (subst (λ (t : SheetStep). Ha
 
 binds : Binds db numbered trees
 binds = record {
-    sound = sound;
-    place = refl;
-    existing = refl;
-    steps = (record { hyp = refl; name = refl; places = refl; reference = refl; tree = the_tree }, tt);
-    pairs = refl;
-    theorem = refl
-  }
+  sound = sound;
+  place = refl;
+  existing = refl;
+  steps = (record { hyp = refl; name = refl; places = refl; reference = refl; tree = the_tree }, tt);
+  pairs = refl;
+  theorem = refl;
+}
 
 -- ---- the step fits, and its most general valuation
 
@@ -172,20 +170,20 @@ general v s = record { by = leaf_tree; same = λ u on. subst (λ w. v w ≡ refi
 
 most_general : IsTheValuation db trees (candidate ∷ []) value
 most_general = record {
-    most_general = record { is_valuation = is_valuation; solves = (solves, tt); general = λ v is s. general v s };
-    canonical = λ u x on o. absurd (no_leaf x (subst (λ w. Occurs x (value w)) (only_unknown u on) o))
-  }
+  most_general = record { is_valuation = is_valuation; solves = (solves, tt); general = λ v is s. general v s };
+  canonical = λ u x on o. absurd (no_leaf x (subst (λ w. Occurs x (value w)) (only_unknown u on) o));
+}
 
-outcome : IsOutcome db trees [] 0 qed (standing db 5 qed) (accepted candidate)
-outcome = IsOutcome.fits {a = any} (inl (refl, record { value = value; is_valuation = is_valuation; solves = (solves, tt) }))
+judgement : IsJudgement db trees [] 0 qed (standing db 5 qed) (accepted candidate)
+judgement = IsJudgement.fits {a = any} (inl (refl, record { value = value; is_valuation = is_valuation; solves = (solves, tt) }))
 
 judged : AreJudged db trees (accepted candidate ∷ [])
 judged = record { count = refl; each = each }
   where
-    each : (i : ℕ) (s : BoundStep) (o : Outcome) → slice_get (qed ∷ []) i ≡ Some s → slice_get (accepted candidate ∷ []) i ≡ Some o
-        → IsOutcome db trees (accepted_in (take i (accepted candidate ∷ []))) i s (standing db 5 s) o
+    each : (i : ℕ) (s : BoundStep) (o : Judgement) → slice_get (qed ∷ []) i ≡ Some s → slice_get (accepted candidate ∷ []) i ≡ Some o
+        → IsJudgement db trees (accepted_in (take i (accepted candidate ∷ []))) i s (standing db 5 s) o
     each zero s o e f = let a : qed ≡ s = cc in let b : accepted candidate ≡ o = cc in
-        subst (λ t. IsOutcome db trees [] 0 t (standing db 5 t) o) a (subst (λ q. IsOutcome db trees [] 0 qed (standing db 5 qed) q) b outcome)
+        subst (λ t. IsJudgement db trees [] 0 t (standing db 5 t) o) a (subst (λ q. IsJudgement db trees [] 0 qed (standing db 5 qed) q) b judgement)
     each (suc i) s o e f = absurd (cc)
 
 size : work_size db trees ≡ 2
@@ -196,11 +194,11 @@ size_fits = let is = size in omega (arith, is)
 
 -- ---- what is written
 
-filled_is : filled db options writing ≡ step fitting ∷ []
+filled_is : after_filling db options writing ≡ step fitting ∷ []
 unfolding digits
 filled_is = simp replaces refl
 
-named_is : named_items db options writing ≡ step fitting ∷ []
+named_is : after_naming db options writing ≡ step fitting ∷ []
 unfolding digits
 named_is = simp replaces refl
 
@@ -210,11 +208,11 @@ no_fresh c n (t, (suc k, l, e), o) = omega (arith, l)
 
 naming_of : IsNaming db trees (ps ∷ []) (λ c n. None)
 naming_of = record {
-    named = λ c n h. absurd (no_fresh c n h);
-    others = λ c n h. refl;
-    once = λ c n m k e f. absurd (cc);
-    least = rw no_works (λ k w e. absurd (none k w e))
-  }
+  named = λ c n h. absurd (no_fresh c n h);
+  others = λ c n h. refl;
+  once = λ c n m k e f. absurd (cc);
+  least = rw no_works (λ k w e. absurd (none k w e));
+}
   where
     no_works : new_works db trees (map (name_tree (λ c n. None)) (ps ∷ [])) ≡ []
     no_works = simp (replaces, texts) refl
@@ -223,7 +221,7 @@ naming_of = record {
     none zero w e = cc
     none (suc k) w e = cc
 
-naming : IsNaming db trees (trees_of (steps_in (filled db options writing))) (λ c n. None)
+naming : IsNaming db trees (trees_of (steps_in (after_filling db options writing))) (λ c n. None)
 naming = subst (λ items. IsNaming db trees (trees_of (steps_in items)) (λ c n. None)) (sym filled_is) naming_of
 
 ready : (i : ℕ) (e : WrittenStep) → slice_get (fitting ∷ []) i ≡ Some e → (is_ground e.tree ≡ true) × (is_complete dv.Add [] e ≡ true)
@@ -233,21 +231,21 @@ ready (suc i) e h = absurd (cc)
 finished : Finished dv.Add [] (fitting ∷ [])
 finished = record { hyps = λ i e h is. (ready i e h).0; no_work = λ i e h b. (ready i e h).0; complete = λ i e h b. (ready i e h).1 }
 
-searched : AllZip (ItemIsSearched db options writing) (named_items db options writing) (step fitting ∷ [])
+searched : AllZip (ItemIsSearched db options writing) (after_naming db options writing) (step fitting ∷ [])
 searched = subst (λ items. AllZip (ItemIsSearched db options writing) items (step fitting ∷ [])) (sym named_is) ((fitting, refl, IsSearched.not_searched refl), tt)
 
 -- each text that says this worksheet becomes this
 writes : (t : List ℕ) → Reads t numbered → Writes db t options writing
 writes t says = record {
-    reads = record { read = numbered; reads = says; same = refl };
-    binds = binds;
-    fits = size_fits;
-    judged = judged;
-    most_general = most_general;
-    naming = naming;
-    searched = searched;
-    finished = (λ is. finished, λ is. refl)
-  }
+  reads = record { read = numbered; reads = says; same = refl };
+  binds = binds;
+  fits = size_fits;
+  judged = judged;
+  most_general = most_general;
+  naming = naming;
+  searched = searched;
+  finished = (λ is. finished, λ is. refl);
+}
 
 as_read : Reads read_text numbered
 as_read = record { sound = refl; says = refl }
@@ -315,13 +313,13 @@ ending = record { out = written_text_is; log = text (codes "qed fits any" ∷ co
 
 unifies : Unifies db options read_text ending
 unifies = record {
-    answer = wrote writing;
-    answers = Answers.written (writes read_text as_read) no_late_fault;
-    gives = record { out = sym text_is; log = refl; status = refl };
-    proves = λ e. proves;
-    no_proof = λ e. absurd (cc);
-    again = λ w e. record { writing = writing; answers = Answers.written (writes written_text_is as_written) no_late_fault; same_text = text_is; same_end = finishes w e }
-  }
+  answer = wrote writing;
+  answers = Answers.written (writes read_text as_read) no_late_fault;
+  gives = record { out = sym text_is; log = refl; status = refl };
+  proves = λ e. proves;
+  no_proof = λ e. absurd (cc);
+  again = λ w e. record { writing = writing; answers = Answers.written (writes written_text_is as_written) no_late_fault; same_text = text_is; same_end = finishes w e };
+}
   where
     finishes : (w : Writing) → wrote writing ≡ wrote w → true ≡ w.finished
     finishes w e = let same : writing ≡ w = cc in ap (λ (v : Writing). v.finished) same
@@ -336,9 +334,9 @@ over database sheet e f =
 
 pub is_answered : IsAnswered files words ending
 is_answered = record {
-    refused = λ database f e h. absurd (refusal database f e h);
-    unified = λ database sheet e h f. over database sheet e f
-  }
+  refused = λ database f e h. absurd (refusal database f e h);
+  unified = λ database sheet e h f. over database sheet e f;
+}
   where
     refusal : (database : List ℕ) (f : Fault) → Some database_text ≡ Some database → database_fault database ≡ Some f → ⊥
     refusal database f e h = let text_same : database_text ≡ database = some_is database_text database e in let no : None ≡ Some f = sym no_fault ∙ ap database_fault text_same ∙ h in cc

@@ -1,14 +1,11 @@
 -- The smallest finished worksheet, for an example of a whole call: over a database with one assertion, `any $a |- ph $.`, the step `qed::any |- ps`.
-use Rattle.std.specs.Prelude.{ℕ, true, false, ◌==◌, if◌then◌else◌, List, [], ◌∷◌, Option, Some, None, unwrap_or, codes}
+use Rattle.std.specs.Prelude.{ℕ, true, false, ◌==◌, if◌then◌else◌, List, [], ◌∷◌, Option, Some, None, codes}
 use Rattle.std.specs.Str.{bytes_eq}
-use Rattle.mm_base.specs.declared.symbols.Sym.{Sym}
 use Rattle.mm_base.specs.declared.symbols.Label.{Label}
 use Rattle.mm_base.specs.declared.symbols.Typecode.{Typecode}
-use Rattle.mm_base.specs.declared.kinds.Kinds.{Kinds}
 use Rattle.mm_base.specs.declared.tree.Tree.{Tree}
 use Rattle.mm_base.specs.declared.tree.Tree.TheVariants.{Var, Work}
 use Rattle.mm_base.specs.Outside.{Files}
-use Rattle.mm_model.specs.declared.frames.Hyp.{Hyp}
 use Rattle.mm_model.specs.declared.frames.Frame.{Frame}
 use Rattle.mm_model.specs.Names.{Name, sym, label, typecode}
 use Rattle.mm_model.specs.Statements.{Statement, statements}
@@ -126,4 +123,4 @@ abbrev pub fitting : WrittenStep
 fitting = written false (codes "qed") [] (Some (codes "any")) ps report.Fits (used any (ps ∷ []))
 
 abbrev pub writing : Writing
-writing = record { read = unnumbered numbered; bound = trees; outcomes = accepted candidate ∷ []; value = value; names = λ c n. None; items = step fitting ∷ []; finished = true }
+writing = record { read = unnumbered numbered; bound = trees; judgements = accepted candidate ∷ []; value = value; names = λ c n. None; items = step fitting ∷ []; finished = true }
