@@ -10,7 +10,7 @@ CRATES = os.path.join(HERE, "..", "crates")
 ORDER = [
     ("mm_base", "What every other definition speaks of: trees, files, faults of devices.", [
         ("Trees", "trees in general", ""),
-        ("Pairs", "pairs of distinct variables", "book 4.2.6"),
+        ("Pairs", "pairs of distinct variables", "book 4.2.4"),
         ("Outside", "what a store and a sink tell, and the causes of their faults", ""),
         ("Files", "files as a list of names and bytes", ""),
         ("MemStore", "what a store in memory tells", ""),
@@ -22,7 +22,7 @@ ORDER = [
         ("Labels", "labels", "book 4.1.1"),
         ("Names", "names and numbers of symbols and labels", ""),
         ("Tokens", "tokens, comments, and the faults 1 to 4", "book 4.1.1, 4.1.2; FORMAT, Faults of a database"),
-        ("Statements", "statements, scopes, and the faults 10 to 30", "book 4.2; FORMAT, Faults of a database"),
+        ("Statements", "statements, scopes, and the faults 10 to 30", "book 4.1.3, 4.2; FORMAT, Faults of a database"),
         ("Frames", "what is active at a place, frames, the place behind an assertion", "book 4.2.7, 4.2.8; FORMAT, Databases"),
         ("Rows", "what is asked of productions", ""),
         ("Chains", "chains of productions, and which productions are kept", "FORMAT, Databases"),
@@ -30,7 +30,7 @@ ORDER = [
         ("Texts", "the text of a tree", "FORMAT, What a formula says"),
         ("Typed", "typed trees, and the trees of an expression", "FORMAT, What a formula says"),
         ("Sizes", "the nodes of a tree", "FORMAT, Faults of a worksheet"),
-        ("Substitution", "substitution on trees and on texts", "book 4.1.3"),
+        ("Substitution", "substitution on trees and on texts", "book 4.1.4"),
         ("Book", "a database as worksheets see it, and its usable assertions", "FORMAT, Databases"),
         ("BookFacts", "facts of a database without a fault", ""),
     ]),

@@ -1,4 +1,5 @@
 mod NewVariables
+pub mod OneJudgement
 mod OneValuation
 pub mod ReplaceLaws
 pub mod ReplacedTypes

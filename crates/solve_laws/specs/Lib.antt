@@ -1,5 +1,6 @@
 pub mod Instances
 pub mod NewVariables
+pub mod OneJudgement
 pub mod OneValuation
 pub mod ReplacedTypes
 pub mod Replacements

@@ -7,6 +7,7 @@ ghost use Rattle.solve_model.specs.declared.bound.Bound.{Bound};
 ghost use Rattle.solve_model.specs.Solutions.{Asked};
 ghost use Rattle.solve_laws.specs.Instances.{InstanceSolves};
 ghost use Rattle.solve_laws.specs.NewVariables.{NoNewVariable};
+ghost use Rattle.solve_laws.specs.OneJudgement.{JudgementsAreOne};
 ghost use Rattle.solve_laws.specs.OneValuation.{MostGeneralIsOne};
 ghost use Rattle.solve_laws.specs.Replacements.{ReplacedTwice, ReplacedBySelf, ReplacedAlike, SameTreeDecides};
 ghost use Rattle.solve_laws.specs.ReplacedTypes.{ReplacedIsTyped};
@@ -32,6 +33,11 @@ pub fn same_trees_are_equal()
 /// A valuation that is an instance of a solution solves too.
 pub fn instance_solves()
     ensures { (bound : Bound) (asked : List Asked) → InstanceSolves bound asked }
+{}
+
+/// The judgements of a worksheet's steps are one: each step has one verdict, and an accepted one has one order.
+pub fn judgements_are_one()
+    ensures { (db : Database) (bound : Bound) → JudgementsAreOne db bound }
 {}
 
 /// There is at most one most general valuation, up to the numbers of its fresh leaves. So the written formulas are a

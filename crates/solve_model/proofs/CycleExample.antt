@@ -12,7 +12,7 @@ use Rattle.solve_model.specs.declared.bound.BoundStep.{BoundStep}
 use Rattle.solve_model.specs.declared.verdict.Verdict.TheVariants as verdict
 use Rattle.solve_model.specs.Bound.{candidate}
 use Rattle.solve_model.specs.Solutions.{named, copy}
-use Rattle.solve_model.specs.Verdicts.{FitsIn, IsOutcome, stands}
+use Rattle.solve_model.specs.Verdicts.{FitsIn, IsJudgement, stands}
 use Rattle.solve_model.specs.BoundExamples.{hypothesis, step, bound}
 use Rattle.solve_model.specs.Example.{P, wff, ps, wi, ax_mp}
 use Rattle.solve_model.proofs.TreeLaws.{replaces}
@@ -37,5 +37,5 @@ fits_not s =
     let maj : wi (v (copy 1 (symbol 6) wff)) (v (copy 1 (symbol 7) wff)) ≡ v (named wff 1) = simp replaces at places.1.0 in
     no_cycle (v (copy 1 (symbol 6) wff)) (v (copy 1 (symbol 7) wff)) (min ∙ sym maj)
 
-pub set_aside : IsOutcome P cycle [] 1 qed (candidate ax_mp) (stands verdict.NoFit)
-set_aside = IsOutcome.no_fit {a = ax_mp} (fits_not, (fits_not, tt))
+pub set_aside : IsJudgement P cycle [] 1 qed (candidate ax_mp) (stands verdict.NoFit)
+set_aside = IsJudgement.no_fit {a = ax_mp} (fits_not, (fits_not, tt))

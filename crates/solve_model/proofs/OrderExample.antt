@@ -11,7 +11,7 @@ use Rattle.solve_model.specs.declared.bound.Bound.{Bound}
 use Rattle.solve_model.specs.declared.bound.BoundStep.{BoundStep}
 use Rattle.solve_model.specs.Bound.{candidate}
 use Rattle.solve_model.specs.Solutions.{Unknown, named, blank, copy, Valuation, unknown_code}
-use Rattle.solve_model.specs.Verdicts.{accepted, asked, FitsIn, IsOutcome}
+use Rattle.solve_model.specs.Verdicts.{accepted, asked, FitsIn, IsJudgement}
 use Rattle.solve_model.specs.BoundExamples.{hypothesis, step, bound}
 use Rattle.solve_model.specs.Example.{P, wff, ph, ps, wi, ax_mp}
 use Rattle.solve_model.proofs.TreeLaws.{replaces}
@@ -57,5 +57,5 @@ chosen_fits = record {
   solves = (record { conclusion = simp replaces refl; places = (simp replaces refl, (simp replaces refl, tt)) }, tt);
 }
 
-pub in_other_order : IsOutcome P sheet [] 2 qed (candidate ax_mp) (accepted (asked 2 ax_mp chosen))
-in_other_order = IsOutcome.fits {a = ax_mp} (inr (listed_fits_not, inl (refl, chosen_fits)))
+pub in_other_order : IsJudgement P sheet [] 2 qed (candidate ax_mp) (accepted (asked 2 ax_mp chosen))
+in_other_order = IsJudgement.fits {a = ax_mp} (inr (listed_fits_not, inl (refl, chosen_fits)))

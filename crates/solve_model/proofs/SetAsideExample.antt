@@ -12,7 +12,7 @@ use Rattle.solve_model.specs.declared.bound.BoundStep.{BoundStep}
 use Rattle.solve_model.specs.declared.verdict.Verdict.TheVariants as verdict
 use Rattle.solve_model.specs.Bound.{standing}
 use Rattle.solve_model.specs.Solutions.{Unknown, named, blank, copy, Valuation, Asked, IsUnknown, IsValuation, Solves, unknown_code}
-use Rattle.solve_model.specs.Verdicts.{Outcome, accepted, stands, asked, accepted_in, verdict_of, FitsIn, IsOutcome, AreJudged}
+use Rattle.solve_model.specs.Verdicts.{Judgement, accepted, stands, asked, accepted_in, verdict_of, FitsIn, IsJudgement, AreJudged}
 use Rattle.solve_model.specs.BoundExamples.{step, bound}
 use Rattle.solve_model.specs.Example.{P, wff, ph, ps, ch, wi, ax_mp, ax_1}
 use Rattle.solve_model.proofs.TreeLaws.{replaces}
@@ -39,8 +39,8 @@ one = asked 0 ax_1 []
 abbrev other : Asked
 other = asked 2 ax_1 []
 
-abbrev outcomes : List Outcome
-outcomes = accepted one ∷ stands verdict.NoFit ∷ accepted other ∷ stands verdict.NoRef ∷ []
+abbrev judgements : List Judgement
+judgements = accepted one ∷ stands verdict.NoFit ∷ accepted other ∷ stands verdict.NoRef ∷ []
 
 -- ---- the first and the third are solved by `&W1` as ( ch -> ph ) and `&W2` as itself
 
@@ -87,22 +87,22 @@ second_fits_not s =
     let left : v (copy 1 (symbol 6) wff) ≡ ph = cc in
     var_is_no_node _ _ _ _ _ (sym left ∙ min)
 
--- ---- the four outcomes
+-- ---- the four judgements
 
-each : (i : ℕ) (s : BoundStep) (o : Outcome) → slice_get sheet.steps i ≡ Some s → slice_get outcomes i ≡ Some o
-    → IsOutcome P sheet (accepted_in (take i outcomes)) i s (standing P 14 s) o
+each : (i : ℕ) (s : BoundStep) (o : Judgement) → slice_get sheet.steps i ≡ Some s → slice_get judgements i ≡ Some o
+    → IsJudgement P sheet (accepted_in (take i judgements)) i s (standing P 14 s) o
 each zero s o e f = let a : first ≡ s = cc in let b : accepted one ≡ o = cc in
-    subst (λ t. IsOutcome P sheet [] 0 t (standing P 14 t) o) a (subst (λ q. IsOutcome P sheet [] 0 first (standing P 14 first) q) b (IsOutcome.fits {a = ax_1} (inl (refl, one_fits))))
+    subst (λ t. IsJudgement P sheet [] 0 t (standing P 14 t) o) a (subst (λ q. IsJudgement P sheet [] 0 first (standing P 14 first) q) b (IsJudgement.fits {a = ax_1} (inl (refl, one_fits))))
 each (suc zero) s o e f = let a : second ≡ s = cc in let b : stands verdict.NoFit ≡ o = cc in
-    subst (λ t. IsOutcome P sheet (one ∷ []) 1 t (standing P 14 t) o) a (subst (λ q. IsOutcome P sheet (one ∷ []) 1 second (standing P 14 second) q) b (IsOutcome.no_fit {a = ax_mp} (second_fits_not, (second_fits_not, tt))))
+    subst (λ t. IsJudgement P sheet (one ∷ []) 1 t (standing P 14 t) o) a (subst (λ q. IsJudgement P sheet (one ∷ []) 1 second (standing P 14 second) q) b (IsJudgement.no_fit {a = ax_mp} (second_fits_not, (second_fits_not, tt))))
 each (suc (suc zero)) s o e f = let a : third ≡ s = cc in let b : accepted other ≡ o = cc in
-    subst (λ t. IsOutcome P sheet (one ∷ []) 2 t (standing P 14 t) o) a (subst (λ q. IsOutcome P sheet (one ∷ []) 2 third (standing P 14 third) q) b (IsOutcome.fits {a = ax_1} (inl (refl, other_fits))))
+    subst (λ t. IsJudgement P sheet (one ∷ []) 2 t (standing P 14 t) o) a (subst (λ q. IsJudgement P sheet (one ∷ []) 2 third (standing P 14 third) q) b (IsJudgement.fits {a = ax_1} (inl (refl, other_fits))))
 each (suc (suc (suc zero))) s o e f = let a : last ≡ s = cc in let b : stands verdict.NoRef ≡ o = cc in
-    subst (λ t. IsOutcome P sheet (one ∷ other ∷ []) 3 t (standing P 14 t) o) a (subst (λ q. IsOutcome P sheet (one ∷ other ∷ []) 3 last (standing P 14 last) q) b IsOutcome.other)
+    subst (λ t. IsJudgement P sheet (one ∷ other ∷ []) 3 t (standing P 14 t) o) a (subst (λ q. IsJudgement P sheet (one ∷ other ∷ []) 3 last (standing P 14 last) q) b IsJudgement.other)
 each (suc (suc (suc (suc i)))) s o e f = absurd (cc)
 
-pub are_judged : AreJudged P sheet outcomes
+pub are_judged : AreJudged P sheet judgements
 are_judged = record { count = refl; each = each }
 
-pub verdicts : map verdict_of outcomes ≡ verdict.Fits ∷ verdict.NoFit ∷ verdict.Fits ∷ verdict.NoRef ∷ []
+pub verdicts : map verdict_of judgements ≡ verdict.Fits ∷ verdict.NoFit ∷ verdict.Fits ∷ verdict.NoRef ∷ []
 verdicts = refl

@@ -11,21 +11,21 @@ use Rattle.solve_model.specs.Bound.{Standing, settled, candidate, standing}
 use Rattle.solve_model.specs.Solutions.{Asked, Solvable, orders_of}
 use Rattle.solve_model.specs.Firsts.{IsFirstIn}
 
--- the outcome of a step: it is accepted in an order, or it stands with another verdict
-pub data Outcome : Type 0 where
-  accepted : Asked → Outcome
-  stands : Verdict → Outcome
+-- what is judged of a step: it is accepted in an order, or it stands with another verdict
+pub data Judgement : Type 0 where
+  accepted : Asked → Judgement
+  stands : Verdict → Judgement
 
-abbrev pub asked_of : Outcome → Option Asked
+abbrev pub asked_of : Judgement → Option Asked
 asked_of (accepted x) = Some x
 asked_of (stands v) = None
 
 -- what is accepted
-abbrev pub accepted_in : List Outcome → List Asked
-accepted_in outcomes = filter_map asked_of outcomes
+abbrev pub accepted_in : List Judgement → List Asked
+accepted_in judgements = filter_map asked_of judgements
 
--- the verdict of an outcome
-abbrev pub verdict_of : Outcome → Verdict
+-- the verdict of a judgement
+abbrev pub verdict_of : Judgement → Verdict
 verdict_of (accepted x) = verdict.Fits
 verdict_of (stands v) = v
 
@@ -37,13 +37,13 @@ abbrev pub FitsIn : Database → Bound → List Asked → ℕ → Assertion → 
 FitsIn db bound before i a places = Solvable db bound (before ++ asked i a places ∷ [])
 
 -- a candidate is accepted in the first order in which it can be solved; where there is none it does not fit
-pub data IsOutcome (db : Database) (bound : Bound) (before : List Asked) (i : ℕ) (s : BoundStep) : Standing → Outcome → Type 0 where
-  other : {v : Verdict} → IsOutcome db bound before i s (settled v) (stands v)
-  fits : {a : Assertion} {places : List Given} → IsFirstIn (FitsIn db bound before i a) (orders_of s a) places → IsOutcome db bound before i s (candidate a) (accepted (asked i a places))
-  no_fit : {a : Assertion} → AllByRecursion (λ places. FitsIn db bound before i a places → ⊥) (orders_of s a) → IsOutcome db bound before i s (candidate a) (stands verdict.NoFit)
+pub data IsJudgement (db : Database) (bound : Bound) (before : List Asked) (i : ℕ) (s : BoundStep) : Standing → Judgement → Type 0 where
+  other : {v : Verdict} → IsJudgement db bound before i s (settled v) (stands v)
+  fits : {a : Assertion} {places : List Given} → IsFirstIn (FitsIn db bound before i a) (orders_of s a) places → IsJudgement db bound before i s (candidate a) (accepted (asked i a places))
+  no_fit : {a : Assertion} → AllByRecursion (λ places. FitsIn db bound before i a places → ⊥) (orders_of s a) → IsJudgement db bound before i s (candidate a) (stands verdict.NoFit)
 
--- each step's outcome is judged by those accepted before it
-pub record AreJudged (db : Database) (bound : Bound) (outcomes : List Outcome) : Type 0 where
-  pub count : length outcomes ≡ length bound.steps
-  pub each : (i : ℕ) (s : BoundStep) (o : Outcome) → slice_get bound.steps i ≡ Some s → slice_get outcomes i ≡ Some o
-      → IsOutcome db bound (accepted_in (take i outcomes)) i s (standing db bound.place s) o
+-- each step is judged by those accepted before it
+pub record AreJudged (db : Database) (bound : Bound) (judgements : List Judgement) : Type 0 where
+  pub count : length judgements ≡ length bound.steps
+  pub each : (i : ℕ) (s : BoundStep) (o : Judgement) → slice_get bound.steps i ≡ Some s → slice_get judgements i ≡ Some o
+      → IsJudgement db bound (accepted_in (take i judgements)) i s (standing db bound.place s) o

@@ -17,7 +17,7 @@ use Rattle.solve_model.specs.Example.{P, wff, ph, wi, ax_mp, ax_1, ax_2}
 use Rattle.solve_model.specs.ExampleSheets.{sheet}
 use Rattle.solve_model.proofs.TreeLaws.{replaces}
 use Rattle.written_model.specs.Named.{Naming}
-use Rattle.written_model.specs.Written.{Writing, named as named_items, written_sheet}
+use Rattle.written_model.specs.Written.{Writing, after_naming, written_sheet}
 use Rattle.written_model.specs.WrittenExample.{compressed}
 
 abbrev first : Given
@@ -97,7 +97,7 @@ abbrev before : Writing
 before = record {
   read = unnumbered (sheet (codes "id") lines);
   bound = trees;
-  outcomes = accepted (asked 0 ax_1 []) ∷ accepted (asked 1 ax_1 []) ∷ accepted (asked 2 ax_2 []) ∷ accepted (asked 3 ax_mp (second ∷ third ∷ [])) ∷ accepted (asked 4 ax_mp (first ∷ fourth ∷ [])) ∷ [];
+  judgements = accepted (asked 0 ax_1 []) ∷ accepted (asked 1 ax_1 []) ∷ accepted (asked 2 ax_2 []) ∷ accepted (asked 3 ax_mp (second ∷ third ∷ [])) ∷ accepted (asked 4 ax_mp (first ∷ fourth ∷ [])) ∷ [];
   value = value;
   names = names;
   items = [];
@@ -105,7 +105,7 @@ before = record {
 }
 
 abbrev writing : Writing
-writing = record before { items = named_items P compressed before }
+writing = record before { items = after_naming P compressed before }
 
 abbrev written_lines : List Name
 written_lines = codes "1::ax-1 |- ( ph -> ( &W1 -> ph ) )" ∷ codes "2::ax-1 |- ( ph -> ( ( &W1 -> ph ) -> ph ) )"

@@ -12,7 +12,7 @@ use Rattle.solve_model.specs.Example.{wff, ph, ps, wi, ax_mp}
 use Rattle.solve_model.proofs.TreeLaws.{replaces, same_trees}
 use Rattle.written_model.specs.WrittenSteps.{WrittenStep, WrittenItem, step, steps_in}
 use Rattle.written_model.specs.Filled.{fill, derived_names, filled_items}
-use Rattle.written_model.specs.WrittenExample.{trees, candidate, outcomes, value, read, first, derived, last}
+use Rattle.written_model.specs.WrittenExample.{trees, candidate, judgements, value, read, first, derived, last}
 
 -- a wanted tree that an earlier step has, one that is new, and the new one again
 pub choices : fill (ph ∷ wi ph ps ∷ ph ∷ []) (ph ∷ wi ps ph ∷ wi ps ph ∷ []) ≡ record { made = wi ps ph ∷ []; places = 0 ∷ 3 ∷ 3 ∷ [] }
@@ -27,7 +27,7 @@ names = refl
 pub solved : Solves trees value candidate
 solved = record { conclusion = simp replaces refl; places = (simp replaces refl, tt) }
 
-pub filled : filled_items (codes "1" ∷ codes "qed" ∷ []) trees value outcomes read.items ≡ step first ∷ step derived ∷ step last ∷ []
+pub filled : filled_items (codes "1" ∷ codes "qed" ∷ []) trees value judgements read.items ≡ step first ∷ step derived ∷ step last ∷ []
 unfolding digits
 filled = simp (replaces, same_trees) refl
 

@@ -8,3 +8,5 @@ mod PairsExamples
 mod ProofTreesExamples
 pub mod SyntaxProofs
 mod WrittenExamples
+mod WholeDatabase
+mod WholeExample

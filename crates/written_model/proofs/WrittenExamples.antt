@@ -21,7 +21,7 @@ use Rattle.written_model.specs.declared.options.DvMode.TheVariants as dv
 use Rattle.written_model.specs.WrittenSteps.{WrittenStep}
 use Rattle.written_model.specs.ProofTrees.{Finished, is_complete}
 use Rattle.written_model.specs.Found.{is_ground}
-use Rattle.written_model.specs.Written.{written_sheet, written_log, qed_proof, frames_of, named, label_count, written_bound}
+use Rattle.written_model.specs.Written.{written_sheet, written_log, qed_proof, frames_of, after_naming, label_count, written_bound}
 use Rattle.written_model.specs.Headline.{proof_tokens}
 use Rattle.written_model.specs.Again.{again}
 use Rattle.written_model.specs.WrittenExample.{compressed, writing, first, found, last}
@@ -102,7 +102,7 @@ finished = record { hyps = λ i e h is. (ready i e h).0; no_work = λ i e h b. (
 
 -- ---- once more nothing is filled and nothing named
 
-pub nothing_made : named P compressed (again P compressed writing) ≡ (again P compressed writing).items
+pub nothing_made : after_naming P compressed (again P compressed writing) ≡ (again P compressed writing).items
 nothing_made = simp replaces refl
 
 -- ---- the numbers that are looked at before it is written: labels, work size, bytes

@@ -6,7 +6,7 @@ use Rattle.mm_model.specs.Book.{Database}
 use Rattle.solve_model.specs.declared.verdict.Verdict.{Verdict}
 use Rattle.solve_model.specs.declared.verdict.Verdict.TheVariants as verdict
 use Rattle.solve_model.specs.Solutions.{named, blank, copy, Valuation}
-use Rattle.solve_model.specs.Verdicts.{Outcome, accepted, stands, asked}
+use Rattle.solve_model.specs.Verdicts.{Judgement, accepted, stands, asked}
 use Rattle.written_model.specs.declared.options.Options.{Options}
 use Rattle.written_model.specs.declared.report.ReportVerdict.{ReportVerdict}
 use Rattle.written_model.specs.declared.report.ReportVerdict.TheVariants as report
@@ -31,14 +31,14 @@ unreported report.TooManyHyps = verdict.TooManyHyps
 unreported report.NoRef = verdict.NoRef
 unreported report.Hyp = verdict.Hyp
 
-abbrev pub outcome_by : ℕ → WrittenStep → Option Use → Outcome
-outcome_by i e None = stands (unreported e.verdict)
-outcome_by i e (Some u) = accepted (asked i u.assertion e.places)
+abbrev pub judgement_by : ℕ → WrittenStep → Option Use → Judgement
+judgement_by i e None = stands (unreported e.verdict)
+judgement_by i e (Some u) = accepted (asked i u.assertion e.places)
 
--- the outcomes of the written steps: those that fit or are found are accepted, with their places as written
-abbrev pub outcomes_from : ℕ → List WrittenStep → List Outcome
-outcomes_from i [] = []
-outcomes_from i (e ∷ es) = outcome_by i e e.by ∷ outcomes_from (i + 1) es
+-- the judgements of the written steps: those that fit or are found are accepted, with their places as written
+abbrev pub judgements_from : ℕ → List WrittenStep → List Judgement
+judgements_from i [] = []
+judgements_from i (e ∷ es) = judgement_by i e e.by ∷ judgements_from (i + 1) es
 
 abbrev pub use_at : List WrittenStep → ℕ → Option Use
 use_at es i = unwrap_or (option_map (λ (e : WrittenStep). e.by) (slice_get es i)) None
@@ -55,7 +55,7 @@ again db options w =
     record {
       read = written_sheet db options w;
       bound = written_bound db options w;
-      outcomes = outcomes_from 0 (steps_in w.items);
+      judgements = judgements_from 0 (steps_in w.items);
       value = value_again (steps_in w.items);
       names = λ c n. None;
       items = map (over_step step_again) w.items;

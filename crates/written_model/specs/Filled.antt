@@ -14,26 +14,22 @@ use Rattle.solve_model.specs.declared.verdict.Verdict.{Verdict}
 use Rattle.solve_model.specs.declared.verdict.Verdict.TheVariants as verdict
 use Rattle.solve_model.specs.Trees.{same_tree}
 use Rattle.solve_model.specs.Solutions.{Valuation, copy, formula, instance, Asked}
-use Rattle.solve_model.specs.Verdicts.{Outcome, accepted, stands}
+use Rattle.solve_model.specs.Verdicts.{Judgement, accepted, stands}
+use Rattle.written_model.specs.declared.filled.Filled.{Filled}
 use Rattle.written_model.specs.declared.report.ReportVerdict.{ReportVerdict}
 use Rattle.written_model.specs.declared.report.ReportVerdict.TheVariants as report
 use Rattle.written_model.specs.WrittenSteps.{Use, WrittenStep, WrittenItem, comment, step, steps_in, trees}
 
--- the trees of the steps that are made, and the number of each wanted tree's step
-pub record Fill : Type 0 where
-  pub made : List Tree
-  pub places : List ℕ
-
-abbrev pub fill_first : List Tree → Tree → Option ℕ → (List Tree → Fill) → Fill
+abbrev pub fill_first : List Tree → Tree → Option ℕ → (List Tree → Filled) → Filled
 fill_first earlier w (Some k) rest = record { made = (rest earlier).made; places = k ∷ (rest earlier).places }
 fill_first earlier w None rest = record { made = w ∷ (rest (earlier ++ w ∷ [])).made; places = length earlier ∷ (rest (earlier ++ w ∷ [])).places }
 
-abbrev pub fill_from : List Tree → List Tree → Fill
+abbrev pub fill_from : List Tree → List Tree → Filled
 fill_from [] earlier = record { made = []; places = [] }
 fill_from (w ∷ ws) earlier = fill_first earlier w (position (same_tree w) earlier) (fill_from ws)
 
 -- each wanted tree is that of the first earlier step that has it, else of a new step behind the earlier ones
-abbrev pub fill : List Tree → List Tree → Fill
+abbrev pub fill : List Tree → List Tree → Filled
 fill earlier wanted = fill_from wanted earlier
 
 -- `d` and the least number from 1 that makes a name not used
@@ -63,7 +59,7 @@ reported verdict.NoRef = report.NoRef
 reported verdict.Hyp = report.Hyp
 
 -- the trees of the `$e` for which an accepted step lists no place
-abbrev pub wanted_by : Valuation → Outcome → List Tree
+abbrev pub wanted_by : Valuation → Judgement → List Tree
 wanted_by g (stands v) = []
 wanted_by g (accepted x) = map (instance g x.step) (drop (length x.places) x.assertion.hyps)
 
@@ -71,7 +67,7 @@ abbrev pub use_of : Valuation → Asked → Use
 use_of g x = record { assertion = x.assertion; values = map (λ (v : TypedVariable). g (copy x.step v.sym v.code)) x.assertion.vars }
 
 -- a step as it is written; an accepted one has its places in its order, and then the ones that fill
-abbrev pub filled_step : List ℕ → List ℕ → SheetStep → Tree → Valuation → Outcome → WrittenStep
+abbrev pub filled_step : List ℕ → List ℕ → SheetStep → Tree → Valuation → Judgement → WrittenStep
 filled_step numbers more s t g (stands v) =
     record { hyp = s.hyp; name = s.name; places = map (written_place numbers) s.places; reference = s.reference; tree = t; verdict = reported v; by = None }
 filled_step numbers more s t g (accepted x) =
@@ -83,7 +79,7 @@ pub record Filling : Type 0 where
   pub numbers : List ℕ
 
 -- the new steps, with names that are not used, and the step behind them
-abbrev pub with_step : List Name → SheetStep → Tree → Valuation → Outcome → Filling → Fill → Filling
+abbrev pub with_step : List Name → SheetStep → Tree → Valuation → Judgement → Filling → Filled → Filling
 with_step used s t g o f filled =
     let made = map made_step (zip (derived_names (length filled.made) used) filled.made) in
     record {
@@ -91,12 +87,12 @@ with_step used s t g o f filled =
       numbers = f.numbers ++ (length (steps_in f.items) + length filled.made) ∷ [];
     }
 
-module _ (names : List Name) (bound : Bound) (g : Valuation) (outcomes : List Outcome) where
+module _ (names : List Name) (bound : Bound) (g : Valuation) (judgements : List Judgement) where
   abbrev pub fill_item : Filling → SheetItem → Filling
   fill_item f (item.Comment lines) = record { items = f.items ++ comment lines ∷ []; numbers = f.numbers }
   fill_item f (item.Step s) =
       let i = length f.numbers in
-      let o = slice_index_or outcomes i (stands verdict.NoRef) in
+      let o = slice_index_or judgements i (stands verdict.NoRef) in
       with_step (names ++ map (λ (e : WrittenStep). e.name) (steps_in f.items)) s (formula bound g i) g o f (fill (trees (steps_in f.items)) (wanted_by g o))
 
   -- the filled worksheet, whose own steps have these names: each missing place of an accepted step names the first earlier step of its tree, else a new step just before it

@@ -13,6 +13,7 @@ pub mod ProofTrees
 pub mod ProofsPush
 pub mod ReadBack
 pub mod Report
+pub mod WholeExample
 pub mod Written
 pub mod WrittenAgain
 pub mod WrittenExample

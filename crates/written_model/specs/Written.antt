@@ -30,7 +30,7 @@ use Rattle.solve_model.specs.Binding.{theorem_of}
 use Rattle.solve_model.specs.BindFaults.{IsBindFault}
 use Rattle.solve_model.specs.Bound.{Binds, work_size}
 use Rattle.solve_model.specs.Solutions.{Valuation}
-use Rattle.solve_model.specs.Verdicts.{Outcome, AreJudged, accepted_in}
+use Rattle.solve_model.specs.Verdicts.{Judgement, AreJudged, accepted_in}
 use Rattle.solve_model.specs.MostGeneral.{IsTheValuation}
 use Rattle.written_model.specs.declared.options.Options.{Options}
 use Rattle.written_model.specs.declared.options.ProofStyle.{ProofStyle}
@@ -77,24 +77,24 @@ abbrev pub proof_text : Database → ProofStyle → Theorem → List WrittenStep
 proof_text db style.Normal theorem es = spaced (postorder (qed_proof db theorem es))
 proof_text db style.Compressed theorem es = spelled (length theorem.mandatory) (code_of_proof theorem.mandatory (qed_proof db theorem es))
 
--- what a worksheet becomes: what was read, with 0 for each line number; its place and trees; the outcomes of its steps;
+-- what a worksheet becomes: what was read, with 0 for each line number; its place and trees; the judgements of its steps;
 -- the most general valuation; the names of new work variables; what is written; and whether it is finished
 pub record Writing : Type 0 where
   pub read : Sheet
   pub bound : Bound
-  pub outcomes : List Outcome
+  pub judgements : List Judgement
   pub value : Valuation
   pub names : Naming
   pub items : List WrittenItem
   pub finished : Bool
 
 module _ (db : Database) (options : Options) (w : Writing) where
-  -- the worksheet before the search: filled, and then named
-  abbrev pub filled : List WrittenItem
-  filled = filled_items (step_names w.read) w.bound w.value w.outcomes w.read.items
+  -- the worksheet before the search: its places are filled, and then its work variables named
+  abbrev pub after_filling : List WrittenItem
+  after_filling = filled_items (step_names w.read) w.bound w.value w.judgements w.read.items
 
-  abbrev pub named : List WrittenItem
-  named = name_items w.names filled
+  abbrev pub after_naming : List WrittenItem
+  after_naming = name_items w.names after_filling
 
   abbrev pub written_pairs : List Pair
   written_pairs = pairs_of options.dv w.bound.pairs (steps_in w.items)
@@ -120,17 +120,17 @@ module _ (db : Database) (options : Options) (w : Writing) where
   -- a comment stays, and a step is searched
   abbrev pub ItemIsSearched : WrittenItem → WrittenItem → Type 0
   ItemIsSearched (comment lines) i = i ≡ comment lines
-  ItemIsSearched (step e) i = (f : WrittenStep) × (i ≡ step f) × IsSearched db w.bound.place options.dv w.bound.pairs (steps_in named) e f
+  ItemIsSearched (step e) i = (f : WrittenStep) × (i ≡ step f) × IsSearched db w.bound.place options.dv w.bound.pairs (steps_in after_naming) e f
 
 -- the text has no fault of 40 to 74, and this is what it becomes
 pub record Writes (db : Database) (text : List ℕ) (options : Options) (w : Writing) : Type 0 where
   pub reads : ReadsAs text w.read
   pub binds : Binds db reads.read w.bound
   pub fits : work_size db w.bound ≤ 2 ^ 24
-  pub judged : AreJudged db w.bound w.outcomes
-  pub most_general : IsTheValuation db w.bound (accepted_in w.outcomes) w.value
-  pub naming : IsNaming db w.bound (trees (steps_in (filled db options w))) w.names
-  pub searched : AllZip (ItemIsSearched db options w) (named db options w) w.items
+  pub judged : AreJudged db w.bound w.judgements
+  pub most_general : IsTheValuation db w.bound (accepted_in w.judgements) w.value
+  pub naming : IsNaming db w.bound (trees (steps_in (after_filling db options w))) w.names
+  pub searched : AllZip (ItemIsSearched db options w) (after_naming db options w) w.items
   pub finished : IsTrue w.finished ↔ Finished options.dv w.bound.pairs (steps_in w.items)
 
 -- ---- the answer

@@ -8,23 +8,23 @@ use Rattle.written_model.specs.declared.options.Options.{Options}
 use Rattle.written_model.specs.WrittenSteps.{steps_in}
 use Rattle.written_model.specs.ProofTrees.{Finished}
 use Rattle.written_model.specs.Opened.{IsOpened}
-use Rattle.written_model.specs.Written.{Writing, Answer, Answers, wrote, refused, Writes, HasNoLateFault, ItemIsSearched, named, written_bound, written_pairs, written_text, written_log}
-use Rattle.written_model.specs.Again.{again, outcomes_from, value_again}
+use Rattle.written_model.specs.Written.{Writing, Answer, Answers, wrote, refused, Writes, HasNoLateFault, ItemIsSearched, after_naming, written_bound, written_pairs, written_text, written_log}
+use Rattle.written_model.specs.Again.{again, judgements_from, value_again}
 
 module _ (db : Database) (text : List ℕ) (options : Options) (w : Writing) where
   -- of the steps that fit or are found, read as named steps, the written values are most general
   abbrev pub ValuesStay : Type 0
   ValuesStay = IsOpened options.kinds db → Writes db text options w → HasNoLateFault db options w
-      → IsTheValuation db (written_bound db options w) (accepted_in (outcomes_from 0 (steps_in w.items))) (value_again (steps_in w.items))
+      → IsTheValuation db (written_bound db options w) (accepted_in (judgements_from 0 (steps_in w.items))) (value_again (steps_in w.items))
 
   -- a step that was set aside is set aside again, and one that was accepted or found is accepted in the order that is written
   abbrev pub VerdictsStay : Type 0
   VerdictsStay = IsOpened options.kinds db → Writes db text options w → HasNoLateFault db options w
-      → AreJudged db (written_bound db options w) (outcomes_from 0 (steps_in w.items))
+      → AreJudged db (written_bound db options w) (judgements_from 0 (steps_in w.items))
 
   -- no place is missing and no leaf is fresh, so that nothing is filled and nothing named
   abbrev pub NothingIsMade : Type 0
-  NothingIsMade = Writes db text options w → named db options (again db options w) ≡ (again db options w).items
+  NothingIsMade = Writes db text options w → after_naming db options (again db options w) ≡ (again db options w).items
 
   -- nothing further is found; the pairs and the end stay
   pub record EndStays : Type 0 where

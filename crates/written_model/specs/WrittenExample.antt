@@ -11,7 +11,7 @@ use Rattle.sheet_text.specs.Reads.{unnumbered}
 use Rattle.solve_model.specs.declared.bound.Bound.{Bound}
 use Rattle.solve_model.specs.declared.verdict.Verdict.TheVariants as verdict
 use Rattle.solve_model.specs.Solutions.{named, blank, copy, Valuation, Asked}
-use Rattle.solve_model.specs.Verdicts.{Outcome, asked, accepted, stands}
+use Rattle.solve_model.specs.Verdicts.{Judgement, asked, accepted, stands}
 use Rattle.solve_model.specs.BoundExamples.{hypothesis, step as bound_step, bound}
 use Rattle.solve_model.specs.Example.{wff, ph, ps, wi, ax_mp, ax_1}
 use Rattle.solve_model.specs.ExampleSheets.{sheet}
@@ -38,8 +38,8 @@ trees = bound (hypothesis (codes "1") (codes "u.1") ph ∷ bound_step (codes "qe
 abbrev pub candidate : Asked
 candidate = asked 1 ax_mp (given.Step 0 ∷ [])
 
-abbrev pub outcomes : List Outcome
-outcomes = stands verdict.Hyp ∷ accepted candidate ∷ []
+abbrev pub judgements : List Judgement
+judgements = stands verdict.Hyp ∷ accepted candidate ∷ []
 
 -- ph is ph, and ps is ( ps -> ph )
 abbrev pub value : Valuation
@@ -67,4 +67,4 @@ abbrev pub last : WrittenStep
 last = written false (codes "qed") (given.Step 0 ∷ given.Step 1 ∷ []) (Some (codes "ax-mp")) (wi ps ph) report.Fits (used ax_mp (ph ∷ wi ps ph ∷ []))
 
 abbrev pub writing : Writing
-writing = record { read = read; bound = trees; outcomes = outcomes; value = value; names = λ c n. None; items = step first ∷ step found ∷ step last ∷ []; finished = true }
+writing = record { read = read; bound = trees; judgements = judgements; value = value; names = λ c n. None; items = step first ∷ step found ∷ step last ∷ []; finished = true }

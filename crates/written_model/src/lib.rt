@@ -3,8 +3,10 @@
 //! types that they speak of, and no code of its own.
 #![tactic(auto)]
 
+mod filled;
 mod options;
 mod report;
 
+pub use filled::Filled;
 pub use options::{DvMode, Options, ProofStyle};
 pub use report::{ReportLine, ReportVerdict};
