@@ -56,17 +56,13 @@ pub not-empty-more : (u : Statement) (w : Word) → is_empty (u ++ w ∷ []) ≡
 not-empty-more [] w = refl
 not-empty-more (x ∷ u) w = refl
 
-and_off : (b : Bool) → (b && false) ≡ false
-and_off true = refl
-and_off false = refl
-
 pub not-label-more : (u : Statement) (w : Word) → is_empty u ≡ false → is_label_alone (u ++ w ∷ []) ≡ false
 not-label-more [] w h = absurd (clash h)
   where
     clash : true ≡ false → ⊥
     clash e = cc
-not-label-more (x ∷ []) w h = and_off (is_word x)
-not-label-more (x ∷ y ∷ u) w h = and_off (is_word x)
+not-label-more (x ∷ []) w h = refl
+not-label-more (x ∷ y ∷ u) w h = refl
 
 unfoldable pub begun-more : (u : Statement) (k : List ℕ) (w : Word) → IsBegun u k → IsBegun (u ++ w ∷ []) k
 begun-more u k w o = record {

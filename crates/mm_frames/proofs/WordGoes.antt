@@ -82,7 +82,7 @@ label-goes : (e : List Statement) (at b : ℕ) (bs : List ℕ) (after : List Wor
     → IsReaderAt (word at (b ∷ bs) ∷ []) e after (with_label r (b ∷ bs))
 label-goes e at b bs after r next d ds x st clear f l none =
     let n = b ∷ bs in
-    let extra = (none-below (is_extra next) 19 (cond (not (list_all Rattle.mm_model.specs.Names.is_label_byte n)) (Some 20) None) (none-below (list_any (bytes_eq n) r.labels) 17 (cond (is_extra next) (Some 19) (cond (not (list_all Rattle.mm_model.specs.Names.is_label_byte n)) (Some 20) None)) none).1).0 in
+    let extra = (none-below (is_extra next) 19 (cond (not (list_all Rattle.mm_model.specs.Labels.is_label_byte n)) (Some 20) None) (none-below (list_any (bytes_eq n) r.labels) 17 (cond (is_extra next) (Some 19) (cond (not (list_all Rattle.mm_model.specs.Labels.is_label_byte n)) (Some 20) None)) none).1).0 in
     record {
       state = label-more [] (word at n ∷ []) e r.symbols r.constants r.variables r.typed r.labels (variable_marks r.scopes) (typed_marks r.scopes) n (label-grows at b bs d ds) st;
       stage = (record { label = word at n; is = refl; is_name = name-is-word at b bs d ds; next = sym x ∙ extra }, record { formula = clear.formula; listed = clear.listed });

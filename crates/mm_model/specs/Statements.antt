@@ -204,7 +204,8 @@ label_taken before w after = is_label before w && contains (labels (ended before
 -- the tokens of a statement so far are its label
 abbrev pub is_label_alone : Statement → Bool
 is_label_alone [] = false
-is_label_alone (w ∷ ws) = is_word w && is_empty ws
+is_label_alone (w ∷ []) = is_word w
+is_label_alone (w ∷ v ∷ ws) = false
 
 -- 18: `$f $e $a $p` without a label just before
 abbrev pub label_missing : Rule

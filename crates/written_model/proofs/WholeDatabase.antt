@@ -15,7 +15,7 @@ use Rattle.mm_model.specs.declared.rows.Production.{Production}
 use Rattle.mm_model.specs.Names.{sym as symbol, label}
 use Rattle.mm_model.specs.Typed.{IsTyped, Parses}
 use Rattle.mm_model.specs.Texts.{text}
-use Rattle.mm_model.specs.Productions.{Typed, essentials, typed_variables}
+use Rattle.mm_model.specs.Productions.{TypedVariable, essentials, typed_variables}
 use Rattle.mm_model.specs.Book.{Assertion, IsUsable, IsRead, IsTheTreeAt, IsDatabaseOf}
 use Rattle.mm_model.proofs.TextLaws.{text-Var, text-Work, text-Fresh}
 use Rattle.mm_model.proofs.TypedLaws.{code-Var, typed-Var, typed_here, named-Var}
@@ -60,7 +60,7 @@ usable_by : (l : Label) (a : Assertion) (b : Bool) → (l.0 == 2) ≡ b → cond
 usable_by l a true e h = let one : label 2 ≡ l = sym (same_label l.0 2 e) in let other : any ≡ a = cc in subst (λ k. IsUsable db k a) one (subst (IsUsable db (label 2)) other any_is_usable)
 usable_by l a false e h = absurd (cc)
 
-make : Label → Frame → Tree → List Tree → List Typed → Assertion
+make : Label → Frame → Tree → List Tree → List TypedVariable → Assertion
 make l f t hs vs = record { label = l; frame = f; tree = t; hyps = hs; vars = vs }
 
 no_hyps : (hs : List Tree) (P : Hyp → Tree → Type 0) → AllZip P [] hs → hs ≡ []
@@ -81,7 +81,7 @@ is_any a h =
     some_is : (f g : Frame) → Some f ≡ Some g → f ≡ g
     some_is f g e = cc
 
-    join : (l : Label) (f : Frame) (t : Tree) (hs : List Tree) (vs : List Typed) → label 2 ≡ l → frame ≡ f → ph ≡ t → [] ≡ hs → variable ∷ [] ≡ vs
+    join : (l : Label) (f : Frame) (t : Tree) (hs : List Tree) (vs : List TypedVariable) → label 2 ≡ l → frame ≡ f → ph ≡ t → [] ≡ hs → variable ∷ [] ≡ vs
         → make (label 2) frame ph [] (variable ∷ []) ≡ make l f t hs vs
     join l f t hs vs p q r s u = cc
 

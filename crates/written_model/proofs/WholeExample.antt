@@ -11,7 +11,7 @@ use Rattle.mm_base.specs.Trees.{code_of}
 use Rattle.mm_model.specs.Faults.{Fault}
 use Rattle.mm_model.specs.Names.{sym as symbol}
 use Rattle.mm_model.specs.Statements.{database_fault}
-use Rattle.mm_model.specs.Productions.{Typed}
+use Rattle.mm_model.specs.Productions.{TypedVariable}
 use Rattle.mm_model.specs.Book.{Database, IsDatabaseOf}
 use Rattle.mm_model.specs.Typed.{IsTyped}
 use Rattle.mm_model.proofs.SizeLaws.{node_counts}
@@ -149,7 +149,7 @@ candidate_is : (x : Asked) → Contains (candidate ∷ []) x → x ≡ candidate
 candidate_is x (zero, l, e) = sym e
 candidate_is x (suc k, l, e) = absurd (omega (arith, l))
 
-variable_is : (v : Typed) → Contains (variable ∷ []) v → v ≡ variable
+variable_is : (v : TypedVariable) → Contains (variable ∷ []) v → v ≡ variable
 variable_is v (zero, l, e) = sym e
 variable_is v (suc k, l, e) = absurd (omega (arith, l))
 
@@ -160,7 +160,7 @@ only_unknown (blank i) (is_blank s e f) = absurd (no_blank i s e f)
 only_unknown (copy i s c) (in_frame x v m o) =
     let step_is = candidate_is x m in
     let var_is = variable_is v (subst (λ (y : Asked). Contains y.assertion.vars v) step_is o) in
-    ap (λ (y : Asked). copy y.step v.sym v.code) step_is ∙ ap (λ (w : Typed). copy 0 w.sym w.code) var_is
+    ap (λ (y : Asked). copy y.step v.sym v.code) step_is ∙ ap (λ (w : TypedVariable). copy 0 w.sym w.code) var_is
 
 general : (v : Valuation) → AllByRecursion (Solves trees v) (candidate ∷ []) → IsInstance On value v
 general v s = record { by = leaf_tree; same = λ u on. subst (λ w. v w ≡ refine leaf_tree (value w)) (sym (only_unknown u on)) at_copy }

@@ -10,7 +10,7 @@ use Rattle.mm_model.specs.declared.frames.Frame.{Frame}
 use Rattle.mm_model.specs.Names.{Name, sym, label, typecode}
 use Rattle.mm_model.specs.Statements.{Statement, statements}
 use Rattle.mm_model.specs.Frames.{frame_of, active_at, is_constant_at, place_after, float_codes}
-use Rattle.mm_model.specs.Productions.{Typed}
+use Rattle.mm_model.specs.Productions.{TypedVariable}
 use Rattle.mm_model.specs.Book.{Assertion, Database}
 use Rattle.sheet_text.specs.declared.sheet.Sheet.{Sheet}
 use Rattle.sheet_text.specs.Reads.{unnumbered}
@@ -56,7 +56,7 @@ frame = record {
   pairs = [];
 }
 
-abbrev pub variable : Typed
+abbrev pub variable : TypedVariable
 variable = record { sym = sym 2; code = wff }
 
 abbrev pub any : Assertion
