@@ -1,5 +1,5 @@
 -- What a call may answer, from what was found under the two names and what the texts gave.
-use Rattle.std.proofs.Common.{◌≡◌, ◌≢◌, ◌⊎◌, ◌≤◌, ◌<◌, ◌^◌, ℕ, List, length, nat_lt, Option, Some, None, Result, Ok, Err, IfSome, IsSomeAnd, IfOk, MatchBool, true, false, refl, sym, ap, ◌∙◌, inl, inr, arith}
+use Rattle.std.proofs.Common.{◌≡◌, ◌≢◌, ◌⊎◌, ◌≤◌, ◌<◌, ◌^◌, ℕ, List, length, nat_lt, Option, Some, None, Result, Ok, Err, IfSome, IsSomeAnd, IfOk, MatchBool, MatchOption, true, false, refl, sym, ap, subst, codes, ◌∙◌, inl, inr, arith}
 use Rattle.std.proofs.lemmas.Bool.Decides.{nat_tests}
 use Rattle.mm_base.specs.Outside.{Files}
 use Rattle.mm_base.specs.declared.errors.Memory as memory
@@ -9,7 +9,10 @@ use Rattle.mmp.specs.declared.answer.Answer.{Answer}
 use Rattle.mmp.specs.Command.{Command}
 use Rattle.mmp.specs.Unify.{IsAccepted, IsDatabaseRefusal, IsUnified, IsSheetAnswer, IsTextStatus}
 use Rattle.mmp.specs.Due.{IsDueTexts, IsDueSheet, MayAnswer}
-use Rattle.mmp.specs.Answer.{too_long_sheet}
+use Rattle.mm_model.specs.Faults.{Fault}
+use Rattle.mm_model.specs.Statements.{database_fault}
+use Rattle.written_model.specs.FaultLines.{database_line}
+use Rattle.mmp.specs.Answer.{refusal, too_long_sheet}
 
 not_longer : (n most : ℕ) → n ≤ most → nat_lt most n ≡ false
 not_longer n most h = grind (arith, nat_tests)
@@ -20,7 +23,22 @@ Has told name bytes = IfSome told (λ files. files name ≡ Some bytes)
 
 refusal_status : (database : List ℕ) (answer : Answer) → IsDatabaseRefusal database answer → answer.status ≡ Database
 unfolding IsDatabaseRefusal
-refusal_status database answer is = ap (λ (a : Answer). a.status) is
+refusal_status database answer is =
+    elim (database_fault database)
+    as (λ v. MatchOption v (answer ≡ (refusal Database (codes "database error 90 NotBuilt at byte 0"))) (λ fault. answer ≡ refusal Database (database_line fault)) → answer.status ≡ Database)
+    [ None ↦ λ is. ap (λ (a : Answer). a.status) is | Some fault ↦ λ is. ap (λ (a : Answer). a.status) is ] is
+
+pub refused_by : (database : List ℕ) (answer : Answer) (f : Fault) → Some f ≡ database_fault database → answer ≡ refusal Database (database_line f) → IsDatabaseRefusal database answer
+unfolding IsDatabaseRefusal
+refused_by database answer f is says = subst (λ (v : Option Fault). MatchOption v (answer ≡ (refusal Database (codes "database error 90 NotBuilt at byte 0"))) (λ fault. answer ≡ refusal Database (database_line fault))) is says
+
+pub refused_yet : (database : List ℕ) (answer : Answer) → None ≡ database_fault database → answer ≡ (refusal Database (codes "database error 90 NotBuilt at byte 0")) → IsDatabaseRefusal database answer
+unfolding IsDatabaseRefusal
+refused_yet database answer is says = subst (λ (v : Option Fault). MatchOption v (answer ≡ (refusal Database (codes "database error 90 NotBuilt at byte 0"))) (λ fault. answer ≡ refusal Database (database_line fault))) is says
+
+pub accepted_by : (database : List ℕ) → None ≡ database_fault database → IsAccepted database
+unfolding IsAccepted
+accepted_by database is = sym is
 
 -- a status of the texts is none of the failures and not that of the words
 pub record IsOrdinary (status : Status) : Type 0 where

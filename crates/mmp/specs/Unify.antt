@@ -1,18 +1,22 @@
--- What the texts of a database and of a sheet give. Of the sheet that is written nothing is said here yet but its status and the end of its report.
-use Rattle.std.specs.Prelude.{◌≡◌, ◌⊎◌, ℕ, Bool, List, ◌++◌, codes, if◌then◌else◌}
+-- What the texts of a database and of a sheet give. Of a written sheet nothing is said here yet but its status and the end of its report.
+use Rattle.std.specs.Prelude.{◌≡◌, ◌⊎◌, ℕ, Bool, List, ◌++◌, codes, if◌then◌else◌, None, MatchOption}
+use Rattle.mm_model.specs.Statements.{database_fault}
+use Rattle.written_model.specs.FaultLines.{database_line}
 use Rattle.mm_base.specs.declared.status.Status.{Status}
 use Rattle.mm_base.specs.declared.status.Status.TheVariants.{Finished, Unfinished, Database, Sheet}
 use Rattle.mmp.specs.declared.answer.Answer.{Answer}
 use Rattle.mmp.specs.Answer.{line, refusal}
 use Rattle.mmp.specs.Command.{Command}
 
--- the refusal of a database
+-- the refusal of a database of at most 2^28 bytes: the line on its first fault; where it has none, that it is not handled yet
 unfoldable pub IsDatabaseRefusal : List ℕ → Answer → Type 0
-IsDatabaseRefusal database answer = answer ≡ refusal Database (codes "database error 90 NotBuilt at byte 0")
+IsDatabaseRefusal database answer =
+    MatchOption (database_fault database) (answer ≡ refusal Database (codes "database error 90 NotBuilt at byte 0"))
+    (λ fault. answer ≡ refusal Database (database_line fault))
 
--- the database is not refused
+-- the database has no fault
 unfoldable pub IsAccepted : List ℕ → Type 0
-IsAccepted database = Unit {0}
+IsAccepted database = database_fault database ≡ None
 
 -- the refusal of a sheet
 abbrev pub IsSheetRefusal : Answer → Type 0

@@ -156,29 +156,83 @@ const REFUSED: [&str; 30] = [
     "$( <MM> <PROOF_ASST> THEOREM=r\nqed::nosuch:x |- ph\n$)\n",
 ];
 
-// Databases that have a fault, or something that is not built.
-const UNREAD: [&str; 21] = [
-    DEMO0,
-    "$c wff $. $( text $)",
-    "$c wff $. $v x $. ${ $d x x $. $}",
-    "$c |- $. t $p |- $= $.",
-    "$c wff $. $c wff $.",
-    "$c $.",
-    "$c a$b $.",
-    "$c wff",
-    "$c wff $. ${",
-    "$c wff $. $}",
-    "$c wff $. ${ $v x $. $}",
-    "$c wff $. $v x $. wx $f wff x x $.",
-    "$c wff $. $v x $. wx $f wff x $. wy $f wff x $.",
-    "$c wff a $. $v x $. e $a wff a x $.",
-    "$c wff a $. e $a wff b $.",
-    "$c wff a $. e $a wff a $. f $a wff a a $.",
-    "$c wff a b $. e $a wff a $. e $a wff b $.",
-    "$c wff a $. e/f $a wff a $.",
-    "$c wff a $. $a wff a $.",
-    "$c wff a $. $v x $. wx $f wff x $. e $a wff x $.",
-    "$c wff a $. $v x $. wx $f wff x $. e $a wff a x x $.",
+// Databases that are refused, and the line of each: with a fault, or with something that is not built.
+const UNREAD: [(&str, &str); 24] = [
+    (DEMO0, "database error 90 NotBuilt at byte 0\n"),
+    (
+        "$c wff $. $( text $)",
+        "database error 90 NotBuilt at byte 0\n",
+    ),
+    (
+        "$c wff $. $v x $. ${ $d x x $. $}",
+        "database error 25 DistinctTwice at byte 26\n",
+    ),
+    (
+        "$c |- $. t $p |- $= $.",
+        "database error 90 NotBuilt at byte 0\n",
+    ),
+    (
+        "$c wff $. $c wff $.",
+        "database error 12 Redeclared at byte 13\n",
+    ),
+    ("$c $.", "database error 26 EmptyFormula at byte 3\n"),
+    ("$c a$b $.", "database error 4 BadKeyword at byte 3\n"),
+    ("$c wff", "database error 21 Unended at byte 6\n"),
+    ("$c wff $. ${", "database error 22 BlockOpen at byte 12\n"),
+    (
+        "$c wff $. $}",
+        "database error 23 BlockUnopened at byte 10\n",
+    ),
+    (
+        "$c wff $. ${ $v x $. $}",
+        "database error 90 NotBuilt at byte 0\n",
+    ),
+    (
+        "$c wff $. $v x $. wx $f wff x x $.",
+        "database error 27 BadHypothesis at byte 30\n",
+    ),
+    (
+        "$c wff $. $v x $. wx $f wff x $. wy $f wff x $.",
+        "database error 15 TwoTypes at byte 43\n",
+    ),
+    (
+        "$c wff a $. $v x $. e $a wff a x $.",
+        "database error 14 NoType at byte 31\n",
+    ),
+    (
+        "$c wff a $. e $a wff b $.",
+        "database error 13 NotActive at byte 21\n",
+    ),
+    (
+        "$c wff a $. e $a wff a $. f $a wff a a $.",
+        "database error 90 NotBuilt at byte 0\n",
+    ),
+    (
+        "$c wff a b $. e $a wff a $. e $a wff b $.",
+        "database error 17 LabelTaken at byte 28\n",
+    ),
+    (
+        "$c wff a $. e/f $a wff a $.",
+        "database error 20 BadLabel at byte 12\n",
+    ),
+    (
+        "$c wff a $. $a wff a $.",
+        "database error 18 LabelMissing at byte 12\n",
+    ),
+    (
+        "$c wff a $. $v x $. wx $f wff x $. e $a wff x $.",
+        "database error 90 NotBuilt at byte 0\n",
+    ),
+    (
+        "$c wff a $. $v x $. wx $f wff x $. e $a wff a x x $.",
+        "database error 90 NotBuilt at byte 0\n",
+    ),
+    ("$( a", "database error 2 OpenComment at byte 4\n"),
+    ("$[ x $]", "database error 10 Include at byte 0\n"),
+    (
+        "$c a $. ${ $c b $. $}",
+        "database error 11 ConstInBlock at byte 11\n",
+    ),
 ];
 
 const USAGE: &str = "usage: mmp unify [--proof=normal|compressed] DB SHEET\n";
@@ -303,9 +357,8 @@ fn sheets_are_unified_or_refused(rt: HostRuntime) -> Result<(), Fail> {
             want,
         )?;
     }
-    let no_database = "database error 90 NotBuilt at byte 0\n";
-    let want = (Status::Database, b"".as_slice(), no_database);
-    for database in UNREAD {
+    for (database, line) in UNREAD {
+        let want = (Status::Database, b"".as_slice(), line);
         check(&rt, rt.alloc(), &NORMAL, honest(database, &sheet), want)?;
     }
     Ok(())

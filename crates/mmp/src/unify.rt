@@ -1,10 +1,14 @@
-ghost use Rattle.std.specs.Prelude.{◌≡◌, ◌++◌, codes, IfOk};
+ghost use Rattle.std.specs.Prelude.{◌≡◌, ◌≤◌, ◌^◌, ◌++◌, codes, length, None, IfOk};
 ghost use Rattle.std.specs.List.{flat_map};
-ghost use Rattle.mmp.specs.Answer.{line};
+ghost use Rattle.mmp.specs.Answer.{line, refusal};
+ghost use Rattle.mmp.specs.DatabaseFaults.{told, IsNamed};
+ghost use Rattle.written_model.specs.FaultLines.{database_line};
 ghost use Rattle.mmp.specs.Unify.{IsSheetAnswer, IsTextStatus, IsWritten, end_line, end_status};
 ghost use Rattle.mmp.specs.Opened.{IsOpened};
+ghost use Rattle.mm_model.specs.Statements.{database_fault};
 
 use crate::answer::{Answer, refuse};
+use crate::database::{DatabaseFault, fault_line, find_fault};
 use mm_base::{Bytes, Kinds, List, Memory, Status};
 use sheet_unify::{
     Database, OpenFault, Options, Outcome, UnifyFault, open_database, report_lines, unify_sheet,
@@ -74,6 +78,15 @@ fn answer_outcome(alloc: Global, outcome: Outcome) -> Result<Answer, Memory>
     })
 }
 
+// The answer that tells a fault of a database.
+fn refuse_database(alloc: Global, fault: DatabaseFault) -> Result<Answer, Memory>
+    requires { IsNamed fault }
+    ensures { IfOk result (λ answer. answer ≡ refusal Status.Database (database_line (told fault))) }
+{
+    let line = fault_line(alloc, fault)?;
+    refuse(alloc, Status::Database, line.as_str())
+}
+
 /// A database that was opened, or the answer that refuses it.
 #[derive(Drop)]
 pub enum Opened {
@@ -81,9 +94,23 @@ pub enum Opened {
     Refused(Answer),
 }
 
-/// Opens the text of a database.
-#[tactic(auto, unfolding(crate::specs::Unify::IsDatabaseRefusal, crate::specs::Unify::IsAccepted))]
+/// Opens the text of a database of at most 2^28 bytes, or refuses it by its first fault.
 pub fn open(alloc: Global, text: &[u8], kinds: &Kinds) -> Result<Opened, Memory>
+    requires { length text.now ≤ 2 ^ 28 }
+    ensures { IfOk result (IsOpened text.now) }
+{
+    match find_fault(alloc, text)? {
+        Some(fault) => {
+            let answer = refuse_database(alloc, fault)?;
+            Ok(Opened::Refused(answer))
+        }
+        None => open_faultless(alloc, text, kinds),
+    }
+}
+
+// Opens the text of a database without a fault, where it is handled.
+fn open_faultless(alloc: Global, text: &[u8], kinds: &Kinds) -> Result<Opened, Memory>
+    requires { database_fault text.now ≡ None }
     ensures { IfOk result (IsOpened text.now) }
 {
     match open_database(alloc, text, kinds) {
