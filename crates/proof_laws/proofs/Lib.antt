@@ -1,6 +1,7 @@
 mod AcceptedLaw
 pub mod CodeEndsLaw
 mod CodeLaws
+mod LabelLaws
 mod LetterLaws
 pub mod NormalLaws
 pub mod NumberLaws

@@ -9,8 +9,8 @@ use Rattle.proof_model.specs.Proofs.{Proof, postorder}
 -- the compressed code of a proof ends with the stack that its labels end with
 abbrev pub CodeEndsAlike : Frames → Theorem → Type 0
 CodeEndsAlike frames theorem = (p : Proof) (stack : List Formula) → HasArities frames theorem p
-    → stack_after frames theorem (normal_code (postorder p)) ≡ Ok stack → stack_after frames theorem (code_of_proof theorem.mandatory p) ≡ Ok stack
+    → stack_after frames theorem (normal_code theorem.mandatory (postorder p)) ≡ Ok stack → stack_after frames theorem (code_of_proof theorem.mandatory p) ≡ Ok stack
 
 -- so it is accepted where the labels are
 abbrev pub CodeIsAccepted : Frames → Theorem → Type 0
-CodeIsAccepted frames theorem = (p : Proof) → HasArities frames theorem p → Accepts frames theorem (normal_code (postorder p)) → Accepts frames theorem (code_of_proof theorem.mandatory p)
+CodeIsAccepted frames theorem = (p : Proof) → HasArities frames theorem p → Accepts frames theorem (normal_code theorem.mandatory (postorder p)) → Accepts frames theorem (code_of_proof theorem.mandatory p)
