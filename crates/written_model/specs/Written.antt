@@ -122,7 +122,7 @@ module _ (db : Database) (options : Options) (w : Writing) where
   ItemIsSearched (comment lines) i = i ≡ comment lines
   ItemIsSearched (step e) i = (f : WrittenStep) × (i ≡ step f) × IsSearched db w.bound.place options.dv w.bound.pairs (steps_in named) e f
 
--- the text has no fault of 40 to 74, and this is what it becomes
+-- the text, however long, has no fault of 40 to 49 and of 60 to 74, and this is what it becomes
 pub record Writes (db : Database) (text : List ℕ) (options : Options) (w : Writing) : Type 0 where
   pub reads : ReadsAs text w.read
   pub binds : Binds db reads.read w.bound
@@ -196,10 +196,11 @@ pub data Answer : Type 0 where
   refused : Refusal → Answer
   wrote : Writing → Answer
 
--- the first fault in this order: of the text, against the database, the work size, and of what is to be written
+-- the first fault in this order: of the text, where 50 (more than 2^24 bytes) goes before all others; against the database;
+-- the work size; and of what is to be written
 pub data Answers (db : Database) (text : List ℕ) (options : Options) : Answer → Type 0 where
   bad_text : {f : Fault} → text_fault text ≡ Some f → Answers db text options (refused (at_line f))
-  unbound : {s : Sheet} {f : Fault} → Reads text s → IsBindFault db s f → Answers db text options (refused (at_line f))
-  much : {s : Sheet} {bound : Bound} → Reads text s → Binds db s bound → 2 ^ 24 < work_size db bound → Answers db text options (refused (too_much (told_number (work_size db bound))))
-  late : {w : Writing} {r : Refusal} → Writes db text options w → IsLate db options w r → Answers db text options (refused r)
-  written : {w : Writing} → Writes db text options w → HasNoLateFault db options w → Answers db text options (wrote w)
+  unbound : {s : Sheet} {f : Fault} → text_fault text ≡ None → Reads text s → IsBindFault db s f → Answers db text options (refused (at_line f))
+  much : {s : Sheet} {bound : Bound} → text_fault text ≡ None → Reads text s → Binds db s bound → 2 ^ 24 < work_size db bound → Answers db text options (refused (too_much (told_number (work_size db bound))))
+  late : {w : Writing} {r : Refusal} → text_fault text ≡ None → Writes db text options w → IsLate db options w r → Answers db text options (refused r)
+  written : {w : Writing} → text_fault text ≡ None → Writes db text options w → HasNoLateFault db options w → Answers db text options (wrote w)
