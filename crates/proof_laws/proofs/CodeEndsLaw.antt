@@ -9,9 +9,9 @@ use Rattle.proof_model.specs.declared.code.What.TheVariants as what
 use Rattle.proof_model.specs.declared.code.Code.{Code}
 use Rattle.proof_model.specs.declared.theorem.Theorem.{Theorem}
 use Rattle.proof_model.specs.Proofs.{Proof, Proofs, by, none, next, postorder, postorders}
-use Rattle.proof_model.specs.Codes.{number_in, distinct_names, listed_labels, argument_places, normal_code, code_of_proof}
+use Rattle.proof_model.specs.Codes.{listed_labels, argument_places, normal_code, code_of_proof}
 use Rattle.proof_model.specs.Machine.{Formula, Frames, State, MachineFault, start, and_then, use_label, use_what, run_steps, end_fault, ended_fault, Accepts, stack_after}
-use Rattle.proof_laws.specs.CodeEnds.{CodeEndsAlike, CodeIsAccepted}
+use Rattle.proof_laws.specs.CodeEnds.{CodeEndsAsLabels, CodeIsAccepted}
 use Rattle.proof_laws.proofs.RunLaws.{state}
 use Rattle.proof_laws.proofs.LabelLaws.{Covers, covered, map_all, spelled}
 use Rattle.proof_laws.proofs.CodeLaws.{gives_pushes, gives_from}
@@ -37,8 +37,8 @@ module _ (frames : Frames) (thm : Theorem) where
     spelleds_from labels (next p ps) h =
         (spelled_from labels p (all_left (Spelled frames thm labels) (postorder p) (postorders ps) h), spelleds_from labels ps (all_right (Spelled frames thm labels) (postorder p) (postorders ps) h))
 
-  pub code_ends_alike : CodeEndsAlike frames thm
-  code_ends_alike p stack a e =
+  pub code_ends_as_labels : CodeEndsAsLabels frames thm
+  code_ends_as_labels p stack a e =
       let labels = listed_labels thm.mandatory p in
       let ended = stack_of (run_normal frames thm (postorder p) start) stack e in
       let run = normal_labels frames thm (postorder p) start ended.0 ended.1 in
@@ -74,4 +74,4 @@ module _ (frames : Frames) (thm : Theorem) where
       ends_so (run_steps frames thm d.labels 0 d.steps start) (length d.steps) ended.0 (h ended.0 ended.1) (no_fault (end_fault thm ended.0) (length c.steps) (length d.steps) ended.2)
 
   pub code_is_accepted : CodeIsAccepted frames thm
-  code_is_accepted p a e = accepted_alike (normal_code thm.mandatory (postorder p)) (code_of_proof thm.mandatory p) (λ stack r. code_ends_alike p stack a r) e
+  code_is_accepted p a e = accepted_alike (normal_code thm.mandatory (postorder p)) (code_of_proof thm.mandatory p) (λ stack r. code_ends_as_labels p stack a r) e

@@ -4,10 +4,11 @@ use Rattle.std.specs.Str.{bytes_eq}
 use Rattle.std.specs.List.{AllByRecursion, list_any}
 use Rattle.std.proofs.Common.{sym, ap, ◌∙◌, cond}
 use Rattle.std.proofs.lemmas.Slice.Eq.{bytes_eq-Decides}
+use Rattle.mm_model.specs.Frames.{without_repeats}
 use Rattle.mm_model.specs.Names.{contains, first_number}
 use Rattle.proof_model.specs.declared.code.What.TheVariants as what
 use Rattle.proof_model.specs.declared.theorem.Theorem.{Theorem}
-use Rattle.proof_model.specs.Codes.{number_in, distinct_names}
+use Rattle.proof_model.specs.Codes.{number_in}
 use Rattle.proof_model.specs.Machine.{Frames, State, use_label, use_what}
 use Rattle.proof_laws.proofs.StepLaws.{Spelled}
 
@@ -53,18 +54,18 @@ pub map_all : (P Q : List ℕ → Type 0) (xs : List (List ℕ)) → ((x : List 
 map_all P Q [] h a = tt
 map_all P Q (x ∷ xs) h a = (h x a.0, map_all P Q xs h a.1)
 
-distinct_by : (seen : List (List ℕ)) (n : List ℕ) (ns : List (List ℕ)) (b : Bool) → contains seen n ≡ b → AllByRecursion (Covers seen (distinct_names seen ns)) ns
-    → AllByRecursion (Covers (n ∷ seen) (distinct_names (n ∷ seen) ns)) ns → AllByRecursion (Covers seen (cond b (distinct_names seen ns) (n ∷ distinct_names (n ∷ seen) ns))) (n ∷ ns)
-distinct_by seen n ns true is h k = (or_true (contains seen n) (contains (distinct_names seen ns) n) is, h)
+distinct_by : (seen : List (List ℕ)) (n : List ℕ) (ns : List (List ℕ)) (b : Bool) → contains seen n ≡ b → AllByRecursion (Covers seen (without_repeats seen ns)) ns
+    → AllByRecursion (Covers (n ∷ seen) (without_repeats (n ∷ seen) ns)) ns → AllByRecursion (Covers seen (cond b (without_repeats seen ns) (n ∷ without_repeats (n ∷ seen) ns))) (n ∷ ns)
+distinct_by seen n ns true is h k = (or_true (contains seen n) (contains (without_repeats seen ns) n) is, h)
 distinct_by seen n ns false is h k =
-    let here : Covers seen (n ∷ distinct_names (n ∷ seen) ns) n = later_true (contains seen n) (bytes_eq n n) (contains (distinct_names (n ∷ seen) ns) n) (name_self n) in (
+    let here : Covers seen (n ∷ without_repeats (n ∷ seen) ns) n = later_true (contains seen n) (bytes_eq n n) (contains (without_repeats (n ∷ seen) ns) n) (name_self n) in (
       here,
-      map_all (Covers (n ∷ seen) (distinct_names (n ∷ seen) ns)) (Covers seen (n ∷ distinct_names (n ∷ seen) ns)) ns
-          (λ m e. shuffle (bytes_eq m n) (contains seen m) (contains (distinct_names (n ∷ seen) ns) m) e) k,
+      map_all (Covers (n ∷ seen) (without_repeats (n ∷ seen) ns)) (Covers seen (n ∷ without_repeats (n ∷ seen) ns)) ns
+          (λ m e. shuffle (bytes_eq m n) (contains seen m) (contains (without_repeats (n ∷ seen) ns) m) e) k,
     )
 
 -- each name is among those seen or those listed
-pub covered : (ns seen : List (List ℕ)) → AllByRecursion (Covers seen (distinct_names seen ns)) ns
+pub covered : (ns seen : List (List ℕ)) → AllByRecursion (Covers seen (without_repeats seen ns)) ns
 covered [] seen = tt
 covered (n ∷ ns) seen = distinct_by seen n ns (contains seen n) refl (covered ns seen) (covered ns (n ∷ seen))
 

@@ -6,11 +6,11 @@ use Rattle.proof_model.specs.Codes.{normal_code, code_of_proof}
 use Rattle.proof_model.specs.Machine.{Formula, Frames, Accepts, stack_after}
 use Rattle.proof_model.specs.Proofs.{Proof, postorder}
 
--- the compressed code of a proof ends with the stack that its labels end with
-abbrev pub CodeEndsAlike : Frames → Theorem → Type 0
-CodeEndsAlike frames theorem = (p : Proof) (stack : List Formula) → HasArities frames theorem p
+-- where the labels of a proof end with a stack, its compressed code ends with the same; the converse is not said
+abbrev pub CodeEndsAsLabels : Frames → Theorem → Type 0
+CodeEndsAsLabels frames theorem = (p : Proof) (stack : List Formula) → HasArities frames theorem p
     → stack_after frames theorem (normal_code theorem.mandatory (postorder p)) ≡ Ok stack → stack_after frames theorem (code_of_proof theorem.mandatory p) ≡ Ok stack
 
--- so it is accepted where the labels are
+-- so the code is accepted where the labels are
 abbrev pub CodeIsAccepted : Frames → Theorem → Type 0
 CodeIsAccepted frames theorem = (p : Proof) → HasArities frames theorem p → Accepts frames theorem (normal_code theorem.mandatory (postorder p)) → Accepts frames theorem (code_of_proof theorem.mandatory p)

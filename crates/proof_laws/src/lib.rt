@@ -4,7 +4,7 @@
 ghost use Rattle.proof_model.specs.declared.theorem.Theorem.{Theorem};
 ghost use Rattle.proof_model.specs.Machine.{Frames};
 ghost use Rattle.proof_laws.specs.Accepted.{EndsWithTheorem};
-ghost use Rattle.proof_laws.specs.CodeEnds.{CodeEndsAlike, CodeIsAccepted};
+ghost use Rattle.proof_laws.specs.CodeEnds.{CodeEndsAsLabels, CodeIsAccepted};
 ghost use Rattle.proof_laws.specs.Labels.{NormalRunsLabels};
 ghost use Rattle.proof_laws.specs.Spellings.{NumberIsSpelledOnce, NumberIsSpelled, StepsAreSpelledOnce, StepsAreSpelled};
 ghost use Rattle.proof_laws.specs.WrittenCode.{WrittenSpells, WrittenIsSound, SpellsOne};
@@ -19,10 +19,10 @@ pub fn normal_proof_runs_its_labels()
     ensures { (frames : Frames) (theorem : Theorem) → NormalRunsLabels frames theorem }
 {}
 
-/// A proof and its compressed code end with the same stack, and so the code is accepted where the proof's labels are.
-/// It does not depend on which subproofs are marked.
-pub fn code_ends_alike()
-    ensures stack { (frames : Frames) (theorem : Theorem) → CodeEndsAlike frames theorem }
+/// Where the labels of a proof end with a stack, its compressed code ends with the same, and so the code is accepted where
+/// the labels are. It does not depend on which subproofs are marked.
+pub fn code_ends_as_labels()
+    ensures stack { (frames : Frames) (theorem : Theorem) → CodeEndsAsLabels frames theorem }
     ensures accepted { (frames : Frames) (theorem : Theorem) → CodeIsAccepted frames theorem }
 {}
 

@@ -2,6 +2,7 @@
 use Rattle.std.specs.Prelude.{ℕ, Bool, not, ◌&&◌, ◌==◌, nat_le, List, [], ◌∷◌, ◌++◌, length, map, flat_map, fold, unwrap_or, count_by, if◌then◌else◌, Option, Some, None, false, codes}
 use Rattle.std.specs.List.{list_any}
 use Rattle.std.specs.Str.{bytes_eq}
+use Rattle.mm_model.specs.Frames.{without_repeats}
 use Rattle.mm_model.specs.Names.{contains, first_number}
 use Rattle.proof_model.specs.declared.code.What.{What}
 use Rattle.proof_model.specs.declared.code.What.TheVariants as what
@@ -13,11 +14,6 @@ abbrev pub step : What → Bool → Step
 step w marked = record { what = w; marked = marked }
 
 -- ---- labels by number
-
--- the names that are not among those seen, each once
-abbrev pub distinct_names : List (List ℕ) → List (List ℕ) → List (List ℕ)
-distinct_names seen [] = []
-distinct_names seen (n ∷ ns) = if contains seen n then distinct_names seen ns else n ∷ distinct_names (n ∷ seen) ns
 
 abbrev pub number_in : List (List ℕ) → List ℕ → ℕ
 number_in names name = unwrap_or (first_number (bytes_eq name) names) 0
@@ -34,7 +30,7 @@ normal_step mandatory labels label = step (if bytes_eq label (codes "?") then wh
 
 -- the labels that are neither a mandatory hypothesis nor `?`, in order of first use
 abbrev pub other_labels : List (List ℕ) → List (List ℕ) → List (List ℕ)
-other_labels mandatory labels = distinct_names (codes "?" ∷ mandatory) labels
+other_labels mandatory labels = without_repeats (codes "?" ∷ mandatory) labels
 
 -- the code of a normal proof: one unmarked step for each label
 abbrev pub normal_code : List (List ℕ) → List (List ℕ) → Code
@@ -56,7 +52,7 @@ is_marked places q = not (length (children q) == 0) && nat_le 2 (count_by (same_
 
 -- the labels in the brackets: those that are no mandatory hypothesis, in order of first use
 abbrev pub listed_labels : List (List ℕ) → Proof → List (List ℕ)
-listed_labels mandatory p = distinct_names mandatory (postorder p)
+listed_labels mandatory p = without_repeats mandatory (postorder p)
 
 -- the steps so far, and the subproofs that were marked, in order
 pub record Coding : Type 0 where

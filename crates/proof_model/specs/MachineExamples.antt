@@ -102,7 +102,7 @@ good_spelled = record {
       (codes "C", [], refl, record { front = codes "C"; what = (refl, refl); whole = refl }, refl),
     ),
   );
-  there = (ltb-true 0 2 refl, (ltb-true 1 2 refl, (ltb-true 0 1 refl, tt)));
+  in_range = (ltb-true 0 2 refl, (ltb-true 1 2 refl, (ltb-true 0 1 refl, tt)));
 }
 
 pub good_accepted : Accepts logic good_theorem good
