@@ -184,8 +184,8 @@ three_apart = pair (codes "ph") (codes "ps") ∷ pair (codes "ph") (codes "ch") 
 
 abbrev apart_fault : List Pair → List ℕ → Option (ℕ × MachineFault)
 apart_fault pairs labels =
-    listed_fault (frames_of (assertion (codes "wi") 1 (codes "wff ( ph -> ps )") (wph ∷ wps ∷ []) []
-    ∷ assertion (codes "apart") 2 (codes "|- ph") (wph ∷ wps ∷ wch ∷ []) three_apart ∷ [])) (theorem (codes "|- ph") [] [] pairs) labels
+    listed_fault (frames_of (assertion (codes "wi") 1 1 (codes "wff ( ph -> ps )") (wph ∷ wps ∷ []) []
+    ∷ assertion (codes "apart") 2 2 (codes "|- ph") (wph ∷ wps ∷ wch ∷ []) three_apart ∷ [])) (theorem (codes "|- ph") [] [] pairs) labels
 
 -- the first pair has no pair of the theorem, but a later one shares a variable: 4 goes before 5 for all pairs
 pub four_first : apart_fault [] (codes "wph wps wps apart") ≡ Some (3, shared (sym (codes "ps")) (sym (codes "ch")) (sym (codes "ps")))
@@ -198,8 +198,8 @@ least_shared = refl
 -- of the variables of a pair that are no pair of the theorem, the least are told: by the number of the first, and then of the second
 abbrev two_fault : List Pair → List ℕ → Option (ℕ × MachineFault)
 two_fault pairs labels =
-    listed_fault (frames_of (assertion (codes "wi") 1 (codes "wff ( ph -> ps )") (wph ∷ wps ∷ []) []
-    ∷ assertion (codes "two") 2 (codes "|- ph") (wph ∷ wps ∷ []) (pair (codes "ph") (codes "ps") ∷ []) ∷ [])) (theorem (codes "|- ph") [] [] pairs) labels
+    listed_fault (frames_of (assertion (codes "wi") 1 1 (codes "wff ( ph -> ps )") (wph ∷ wps ∷ []) []
+    ∷ assertion (codes "two") 2 2 (codes "|- ph") (wph ∷ wps ∷ []) (pair (codes "ph") (codes "ps") ∷ []) ∷ [])) (theorem (codes "|- ph") [] [] pairs) labels
 
 pub least_lacking : map (λ pairs. two_fault pairs (codes "wch wph wi wps two")) ([] ∷ (pair (codes "ph") (codes "ps") ∷ [])
     ∷ (pair (codes "ph") (codes "ps") ∷ pair (codes "ps") (codes "ch") ∷ []) ∷ [])
