@@ -12,6 +12,7 @@ use Rattle.mm_model.specs.declared.frames.Active.{Active}
 use Rattle.mm_model.specs.declared.rows.Leaf.{Leaf}
 use Rattle.mm_model.specs.declared.rows.Leaf.TheVariants as leaf
 use Rattle.mm_model.specs.declared.rows.Production.{Production}
+use Rattle.mm_model.specs.Limits.{most_formula_tokens}
 use Rattle.mm_model.specs.Names.{Name, typecode, symbol_named, label_named}
 use Rattle.mm_model.specs.Statements.{statements, labels}
 use Rattle.mm_model.specs.Frames.{symbols, symbol_in, positions, end_of, frame_of, active_at, is_constant_at, place_after, float_codes}
@@ -97,7 +98,7 @@ pub record IsTheTreeAt (db : Database) (place : ℕ) (formula : List Sym) (t : T
 -- the formula is one that a usable assertion may have: it begins with the provable typecode, and is not too long
 pub record IsAssertionFormula (db : Database) (formula : List Sym) : Type 0 where
   pub begins : (s : Sym) × (rest : List Sym) × (formula ≡ s ∷ rest) × (symbol_of db db.provable ≡ Some s)
-  pub short : length formula ≤ 4096
+  pub short : length formula ≤ most_formula_tokens
 
 -- a formula of a usable assertion, with its one tree below the assertion's position
 pub record IsRead (db : Database) (place : ℕ) (formula : List Sym) (t : Tree) : Type 0 where

@@ -1,7 +1,8 @@
 -- Small databases, computed.
-use Rattle.std.specs.Prelude.{◌≡◌, ℕ, ◌^◌, true, List, length, nat_lt, if◌then◌else◌, Some, None, codes, refl}
+use Rattle.std.specs.Prelude.{◌≡◌, ℕ, true, List, length, nat_lt, if◌then◌else◌, Some, None, codes, refl}
 use Rattle.std.proofs.Common.{ap}
 use Rattle.mm_model.specs.Faults.{fault, or_else}
+use Rattle.mm_model.specs.Limits.{most_database_bytes}
 use Rattle.mm_model.specs.Tokens.{token_fault}
 use Rattle.mm_model.specs.Statements.{database_fault, statement_fault, statements}
 
@@ -143,8 +144,8 @@ pub proof_words : database_fault (codes "$c w $. $v x $. f $f w x $. p $p w x $=
 proof_words = refl
 
 -- a text of over 2^28 bytes is refused before all else
-pub too_big : (text : List ℕ) → nat_lt (2 ^ 28) (length text) ≡ true → database_fault text ≡ Some (fault (2 ^ 28) 30)
-too_big text e = ap (λ b. if b then Some (fault (2 ^ 28) 30) else or_else (token_fault text) (statement_fault text)) e
+pub too_big : (text : List ℕ) → nat_lt most_database_bytes (length text) ≡ true → database_fault text ≡ Some (fault most_database_bytes 30)
+too_big text e = ap (λ b. if b then Some (fault most_database_bytes 30) else or_else (token_fault text) (statement_fault text)) e
 
 -- ---- the first database of the Metamath book
 

@@ -1,9 +1,10 @@
 -- The first fault of a worksheet's text.
-use Rattle.std.specs.Prelude.{ℕ, ◌^◌, Bool, false, not, ◌&&◌, ◌||◌, ◌==◌, List, [], ◌∷◌, length, nat_lt, is_none, if◌then◌else◌, filter_map, slice_get, Option, Some, None, option_map, codes}
+use Rattle.std.specs.Prelude.{ℕ, Bool, false, not, ◌&&◌, ◌||◌, ◌==◌, List, [], ◌∷◌, length, nat_lt, is_none, if◌then◌else◌, filter_map, slice_get, Option, Some, None, option_map, codes}
 use Rattle.std.specs.Option.{option_map_or}
 use Rattle.std.specs.Str.{bytes_eq}
 use Rattle.std.specs.List.{list_any}
 use Rattle.mm_model.specs.Faults.{Fault, fault, earlier, or_else, first_fault}
+use Rattle.mm_model.specs.Limits.{most_sheet_bytes}
 use Rattle.mm_model.specs.Names.{contains, has_twice}
 use Rattle.sheet_text.specs.Lines.{Line, begins, tokens, lines_not_blank, line_past_end}
 use Rattle.sheet_text.specs.SheetStatements.{Statement, statements, line_of, tokens_in, is_word, is_footer, is_distinct, is_proof, is_comment, ends_proof}
@@ -101,4 +102,4 @@ line_fault text = or_else (no_header (line_past_end text) (lines_not_blank text)
 
 -- 50: more than 2^24 bytes, before all others
 abbrev pub text_fault : List ℕ → Option Fault
-text_fault text = if nat_lt (2 ^ 24) (length text) then Some (fault 1 50) else line_fault text
+text_fault text = if nat_lt most_sheet_bytes (length text) then Some (fault 1 50) else line_fault text

@@ -5,6 +5,7 @@ use Rattle.mm_base.specs.declared.symbols.Pair.{Pair}
 use Rattle.mm_base.specs.declared.tree.Tree.{Tree}
 use Rattle.mm_model.specs.declared.rows.Leaf.{Leaf}
 use Rattle.mm_model.specs.declared.rows.Leaf.TheVariants as leaf
+use Rattle.mm_model.specs.Limits.{most_formula_tokens, most_sheet_bytes, most_work_size, most_proof_labels}
 use Rattle.mm_model.specs.Names.{Name}
 use Rattle.mm_model.specs.Texts.{text}
 use Rattle.mm_model.specs.Faults.{Fault}
@@ -126,7 +127,7 @@ module _ (db : Database) (options : Options) (w : Writing) where
 pub record Writes (db : Database) (text : List ℕ) (options : Options) (w : Writing) : Type 0 where
   pub reads : ReadsAs text w.read
   pub binds : Binds db reads.read w.bound
-  pub fits : work_size db w.bound ≤ 2 ^ 24
+  pub fits : work_size db w.bound ≤ most_work_size
   pub judged : AreJudged db w.bound w.outcomes
   pub most_general : IsTheValuation db w.bound (accepted_in w.outcomes) w.value
   pub naming : IsNaming db w.bound (trees (steps_in (filled db options w))) w.names
@@ -153,7 +154,7 @@ module _ (db : Database) (options : Options) (w : Writing) where
   step_tokens e = formula_tokens db e.tree
 
   abbrev pub IsTooLong : WrittenStep → Type 0
-  IsTooLong e = 4096 < length (step_tokens e)
+  IsTooLong e = most_formula_tokens < length (step_tokens e)
 
   abbrev pub IsAmbiguous : WrittenStep → Type 0
   IsAmbiguous e = HasTwoTrees db w.bound.place (step_tokens e)
@@ -178,9 +179,9 @@ module _ (db : Database) (options : Options) (w : Writing) where
   pub data LateFault : ℕ → Refusal → Type 0 where
     long : (e : WrittenStep) → IsFirstIn IsTooLong (steps_in w.items) e → LateFault 0 (formula_too_long e.name (told_number (length (step_tokens e))))
     ambiguous : (e : WrittenStep) → IsFirstIn IsAmbiguous (steps_in w.items) e → LateFault 1 (written_two_trees e.name)
-    much : 2 ^ 24 < work_size db written_bound → LateFault 2 (too_much_written (told_number (work_size db written_bound)))
-    proof : w.finished ≡ true → options.style ≡ style.Normal → 2 ^ 20 < label_count → LateFault 3 (proof_too_long (told_number label_count))
-    large : 2 ^ 24 < length (written_text db options w) → LateFault 4 (too_large (told_number (length (written_text db options w))))
+    much : most_work_size < work_size db written_bound → LateFault 2 (too_much_written (told_number (work_size db written_bound)))
+    proof : w.finished ≡ true → options.style ≡ style.Normal → most_proof_labels < label_count → LateFault 3 (proof_too_long (told_number label_count))
+    large : most_sheet_bytes < length (written_text db options w) → LateFault 4 (too_large (told_number (length (written_text db options w))))
 
   -- the first of them
   pub record IsLate (r : Refusal) : Type 0 where
@@ -201,6 +202,6 @@ pub data Answer : Type 0 where
 pub data Answers (db : Database) (text : List ℕ) (options : Options) : Answer → Type 0 where
   bad_text : {f : Fault} → text_fault text ≡ Some f → Answers db text options (refused (at_line f))
   unbound : {s : Sheet} {f : Fault} → text_fault text ≡ None → Reads text s → IsBindFault db s f → Answers db text options (refused (at_line f))
-  much : {s : Sheet} {bound : Bound} → text_fault text ≡ None → Reads text s → Binds db s bound → 2 ^ 24 < work_size db bound → Answers db text options (refused (too_much (told_number (work_size db bound))))
+  much : {s : Sheet} {bound : Bound} → text_fault text ≡ None → Reads text s → Binds db s bound → most_work_size < work_size db bound → Answers db text options (refused (too_much (told_number (work_size db bound))))
   late : {w : Writing} {r : Refusal} → text_fault text ≡ None → Writes db text options w → IsLate db options w r → Answers db text options (refused r)
   written : {w : Writing} → text_fault text ≡ None → Writes db text options w → HasNoLateFault db options w → Answers db text options (wrote w)
