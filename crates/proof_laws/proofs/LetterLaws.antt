@@ -29,7 +29,7 @@ skip {X} code rule table before x e =
 abbrev within : ℕ → ℕ → ℕ → Bool
 within low high b = leb low b && leb b high
 
-bounds : (low high b : ℕ) → within low high b ≡ true → (low ≤ b) × (b ≤ high)
+pub bounds : (low high b : ℕ) → within low high b ≡ true → (low ≤ b) × (b ≤ high)
 bounds low high b e = let p = and_parts (leb low b) (leb b high) e in (leb-true low b p.0, leb-true b high p.1)
 
 below : (low high b : ℕ) → b < low → within low high b ≡ false
@@ -63,7 +63,7 @@ leading_not_last b e = let r = bounds 85 89 b e in above 65 84 b (omega (arith, 
 pub last_digit : (b : ℕ) → is_last b ≡ true → IsDigit b
 last_digit b e = let r = bounds 65 84 b e in digit b r.0 (omega (arith, r.1))
 
-last_not_leading : (b : ℕ) → is_last b ≡ true → is_leading b ≡ false
+pub last_not_leading : (b : ℕ) → is_last b ≡ true → is_leading b ≡ false
 last_not_leading b e = let r = bounds 65 84 b e in below 85 89 b (omega (arith, r.1))
 
 -- ---- letters without a fault
@@ -114,7 +114,7 @@ pub record IsBetween (marks : ℕ) (before : List ℕ) : Type 0 where
 between : (marks : ℕ) (before : List ℕ) → IsAfterStep marks before → IsBetween marks before
 between marks before h = record { ended = h.ended; value = h.value; marks_are = h.marks_are }
 
-same_marks : (b : ℕ) (before : List ℕ) → eqb b 90 ≡ false → marks_before (b ∷ before) ≡ marks_before before
+pub same_marks : (b : ℕ) (before : List ℕ) → eqb b 90 ≡ false → marks_before (b ∷ before) ≡ marks_before before
 same_marks b before e = cond_else (eqb b 90) (suc (marks_before before)) (marks_before before) e
 
 -- where some letters have been passed, this holds of those before, and the fault is the same

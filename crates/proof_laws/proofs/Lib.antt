@@ -5,6 +5,7 @@ mod LabelLaws
 mod LetterLaws
 pub mod NormalLaws
 pub mod NumberLaws
+mod ReadLaws
 pub mod RunLaws
 mod StepLaws
 mod TextLaws

@@ -7,7 +7,7 @@ ghost use Rattle.proof_laws.specs.Accepted.{EndsWithTheorem};
 ghost use Rattle.proof_laws.specs.CodeEnds.{CodeEndsAsLabels, CodeIsAccepted};
 ghost use Rattle.proof_laws.specs.Labels.{NormalRunsLabels};
 ghost use Rattle.proof_laws.specs.Spellings.{NumberIsSpelledOnce, NumberIsSpelled, StepsAreSpelledOnce, StepsAreSpelled};
-ghost use Rattle.proof_laws.specs.WrittenCode.{WrittenSpells, WrittenIsSound, SpellsOne};
+ghost use Rattle.proof_laws.specs.WrittenCode.{WrittenSpells, WrittenIsSound, SpellsOne, SoundSpells};
 
 /// A proof is accepted exactly where it ends with the theorem's formula alone on the stack.
 pub fn accepted_ends_with_theorem()
@@ -39,4 +39,9 @@ pub fn written_code_is_read()
     ensures spells { WrittenSpells }
     ensures sound { WrittenIsSound }
     ensures one { SpellsOne }
+{}
+
+/// A text without a fault is a code: it spells one.
+pub fn sound_text_is_a_code()
+    ensures { SoundSpells }
 {}
