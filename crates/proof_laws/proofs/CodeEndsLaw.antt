@@ -11,11 +11,12 @@ use Rattle.proof_model.specs.declared.theorem.Theorem.{Theorem}
 use Rattle.proof_model.specs.Proofs.{Proof, Proofs, by, none, next, postorder, postorders}
 use Rattle.proof_model.specs.Codes.{listed_labels, argument_places, normal_code, code_of_proof}
 use Rattle.proof_model.specs.Machine.{Formula, Frames, State, MachineFault, start, and_then, use_label, use_what, run_steps, end_fault, ended_fault, Accepts, stack_after}
-use Rattle.proof_laws.specs.CodeEnds.{CodeEndsAsLabels, CodeIsAccepted}
+use Rattle.proof_laws.specs.CodeEnds.{CodeEndsAsLabels, LabelsEndAsCode, CodeIsAccepted, LabelsAreAccepted}
 use Rattle.proof_laws.proofs.RunLaws.{state}
+use Rattle.proof_laws.proofs.CodeBackLaws.{gave}
 use Rattle.proof_laws.proofs.LabelLaws.{Covers, covered, map_all, spelled}
 use Rattle.proof_laws.proofs.CodeLaws.{gives_pushes, gives_from}
-use Rattle.proof_laws.proofs.NormalLaws.{run_normal, normal_labels, stack_of}
+use Rattle.proof_laws.proofs.NormalLaws.{run_normal, normal_labels, labels_normal, stack_of}
 use Rattle.proof_laws.proofs.StepLaws.{Ended, Spelled, IsSpelled, AreSpelled, code_tracks}
 
 all_left : (P : List ℕ → Type 0) (xs ys : List (List ℕ)) → AllByRecursion P (xs ++ ys) → AllByRecursion P xs
@@ -50,6 +51,18 @@ module _ (frames : Frames) (thm : Theorem) where
       let stacks : g.0 ∷ [] ≡ stack = ap (λ (st : State). st.stack) (sym one) ∙ ended.2 in
       ap (and_then (λ (st : State). Ok st.stack)) t.1.runs ∙ ap (λ (s : List Formula). Ok s) stacks
 
+  -- the stack that the labels leave, with that of the code
+  pub labels_end_as_code : LabelsEndAsCode frames thm
+  labels_end_as_code p stack a plain e =
+      let labels = listed_labels thm.mandatory p in
+      let ended = stack_of (run_steps frames thm labels 0 (code_of_proof thm.mandatory p).steps start) stack e in
+      let sp = spelled_from labels p (map_all (Covers thm.mandatory labels) (Spelled frames thm labels) (postorder p) (spelled frames thm labels) (covered (postorder p) thm.mandatory)) in
+      let g = gave frames thm labels (argument_places p) p a sp (record { steps = []; marked = [] }) [] [] (record { runs = refl; kept = tt }) (ended.0, ended.1) in
+      let run = labels_normal frames thm (postorder p) start (state (g.0 ∷ []) []) plain (gives_pushes frames thm p g.0 g.1 [] []) in
+      let ends : stack_after frames thm (normal_code thm.mandatory (postorder p)) ≡ Ok (g.0 ∷ []) = ap (and_then (λ (st : State). Ok st.stack)) run in
+      let both : Ok (g.0 ∷ []) ≡ Ok stack = sym (code_ends_as_labels p (g.0 ∷ []) a ends) ∙ e in
+      ends ∙ both
+
   abbrev numbered_end : ℕ → Option MachineFault → Option (ℕ × MachineFault)
   numbered_end n o = option_map (λ f. (n, f)) o
 
@@ -75,3 +88,7 @@ module _ (frames : Frames) (thm : Theorem) where
 
   pub code_is_accepted : CodeIsAccepted frames thm
   code_is_accepted p a e = accepted_alike (normal_code thm.mandatory (postorder p)) (code_of_proof thm.mandatory p) (λ stack r. code_ends_as_labels p stack a r) e
+
+  pub labels_are_accepted : LabelsAreAccepted frames thm
+  labels_are_accepted p a plain e =
+      accepted_alike (code_of_proof thm.mandatory p) (normal_code thm.mandatory (postorder p)) (λ stack r. labels_end_as_code p stack a plain r) e

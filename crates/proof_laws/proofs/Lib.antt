@@ -1,4 +1,5 @@
 mod AcceptedLaw
+mod CodeBackLaws
 pub mod CodeEndsLaw
 mod CodeLaws
 mod LabelLaws
