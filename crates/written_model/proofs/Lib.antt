@@ -6,5 +6,6 @@ mod HeadlineExamples
 mod NamedExamples
 mod PairsExamples
 mod ProofTreesExamples
+pub mod SoundIsRead
 pub mod SyntaxProofs
 mod WrittenExamples

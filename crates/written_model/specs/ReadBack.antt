@@ -1,9 +1,14 @@
--- Laws: what is laid out reads back.
-use Rattle.std.specs.Prelude.{ℕ, List, Option, Some, None, Contains}
+-- Laws: what a text without a fault says, and what is laid out reads back.
+use Rattle.std.specs.Prelude.{◌≡◌, ℕ, List, Option, Some, None, Contains}
 use Rattle.sheet_text.specs.declared.sheet.Sheet.{Sheet}
 use Rattle.sheet_text.specs.Layout.{layout}
 use Rattle.sheet_text.specs.Reads.{Reads, ReadsAs}
 use Rattle.sheet_text.specs.Spellable.{IsSpellable}
+use Rattle.sheet_text.specs.TextFaults.{line_fault}
+
+-- each text without a fault of 40 to 49 reads as a sheet
+abbrev pub SoundIsRead : Type 0
+SoundIsRead = (text : List ℕ) → line_fault text ≡ None → (s : Sheet) × Reads text s
 
 -- what a text says can be spelled
 abbrev pub ReadIsSpellable : Type 0
