@@ -78,7 +78,7 @@ ORDER = [
         ("Headline", "what a call gives: the main theorem", "FORMAT, Statuses"),
         ("Opened", "the databases that laws speak of", ""),
         ("Again", "what a written worksheet becomes when it is unified again", ""),
-        ("ReadBack", "laws: a laid out worksheet reads back", ""),
+        ("ReadBack", "laws: a text without a fault reads as a worksheet, and a laid out worksheet reads back", ""),
         ("ProofsPush", "laws: what a proof leaves on the stack", ""),
         ("WrittenAgain", "laws: written again as itself, and the answer is one", ""),
     ]),

@@ -81,8 +81,7 @@ x_as_b_typed = typed-Node C 6 (label 3) (code 2) (x ∷ []) (ab, refl, lit< tt, 
 at_variable : (v : Sym) (c : Typecode) (t : Tree) (a b : Bool) → (c.0.0 == 2) ≡ b → (if a && b then Some x_as_b else None) ≡ Some t → (code_of t ≡ c) × IsTyped C 6 t
 at_variable v c t true true is e =
     let same : x_as_b ≡ t = cc in
-    let number : c.0.0 ≡ 2 = grind (arith, nat_tests, is) in
-    (
+    let number : c.0.0 ≡ 2 = grind (arith, nat_tests, is) in (
       ap code_of (turned same) ∙ code-Node (label 3) (code 2) (x ∷ []) ∙ turned (ap code number),
       subst (IsTyped C 6) same x_as_b_typed,
     )

@@ -6,9 +6,7 @@ use Rattle.mm_base.specs.declared.symbols.Label.{Label}
 use Rattle.mm_base.specs.declared.symbols.Typecode.{Typecode}
 use Rattle.mm_base.specs.declared.tree.Tree.{Tree}
 use Rattle.mm_base.specs.declared.tree.Tree.TheVariants.{Var, Work, Node}
-use Rattle.mm_base.specs.declared.kinds.Kinds.{Kinds}
 use Rattle.mm_base.proofs.TreeInduction.{tree_ind}
-use Rattle.mm_model.specs.declared.frames.Hyp.{Hyp}
 use Rattle.mm_model.specs.declared.frames.Frame.{Frame}
 use Rattle.mm_model.specs.declared.rows.Leaf.{Leaf}
 use Rattle.mm_model.specs.declared.rows.Leaf.TheVariants as leaf
@@ -136,5 +134,5 @@ ax_not_usable a u =
     let frame : Some frame_ax ≡ Some a.frame = u.frame in
     let is : frame_ax ≡ a.frame = cc in
     let tree : IsTheTreeAt (over two_trees kept_equal) 9 frame_ax.formula a.tree =
-        subst (λ (f : Frame). IsTheTreeAt (over two_trees kept_equal) f.at f.formula a.tree) (turned is) u.conclusion.tree in
+    subst (λ (f : Frame). IsTheTreeAt (over two_trees kept_equal) f.at f.formula a.tree) (turned is) u.conclusion.tree in
     trees_differ (tree.only as_sets by_sets ∙ turned (tree.only as_classes by_classes))

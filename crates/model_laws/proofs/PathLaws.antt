@@ -10,7 +10,6 @@ use Rattle.mm_model.specs.declared.rows.Production.{Production}
 use Rattle.mm_model.specs.Chains.{same_code, chain_from, joined, leads, OnChain, HasNoCycle, rank, keep, keep_by, kept}
 use Rattle.model_laws.specs.Paths.{IsPath, IsPathOf, LeadsByPaths, KeptHaveNoCycle}
 use Rattle.mm_model.proofs.ChainLaws.{leads_self, leads_on, rank_rises}
-use Rattle.mm_model.proofs.KeptLaws.{kept_is_grammar}
 
 same_is : (a b : Typecode) → same_code a b ≡ true → a ≡ b
 same_is a b e =

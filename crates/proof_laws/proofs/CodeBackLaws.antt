@@ -10,7 +10,7 @@ use Rattle.proof_model.specs.declared.theorem.Theorem.{Theorem}
 use Rattle.proof_model.specs.Proofs.{Proof, Proofs, by, none, next, listed, same_proof}
 use Rattle.proof_model.specs.Arities.{HasArities, HaveArities}
 use Rattle.proof_model.specs.Codes.{Coding, step, coded, coded_all, again_or, with_label, what_of, is_marked}
-use Rattle.proof_model.specs.Machine.{Formula, Frames, State, and_then, start, use_label, use_what, use_step, keep_top, numbered, run_steps}
+use Rattle.proof_model.specs.Machine.{Formula, Frames, State, and_then, start, use_what, use_step, keep_top, numbered, run_steps}
 use Rattle.proof_laws.proofs.RunLaws.{Outcome, onto, state, label_shown}
 use Rattle.proof_laws.proofs.CodeLaws.{Gives, GivesAll}
 use Rattle.proof_laws.proofs.StepLaws.{IsSpelled, AreSpelled, Tracks, run_steps-append, kept_at, code_tracks, codes_track}

@@ -1,16 +1,12 @@
 -- The compressed code of a proof ends with the stack of its labels.
-use Rattle.std.specs.Prelude.{◌≡◌, ℕ, suc, Bool, true, false, ◌||◌, List, [], ◌∷◌, ◌++◌, length, slice_index_or, Option, Some, None, option_map, unwrap_or, Ok, Err, refl}
-use Rattle.std.specs.Str.{bytes_eq}
-use Rattle.std.specs.List.{AllByRecursion, list_any}
-use Rattle.std.proofs.Common.{sym, ap, ◌∙◌, cond}
-use Rattle.std.proofs.lemmas.Slice.Eq.{bytes_eq-Decides}
-use Rattle.mm_model.specs.Names.{contains, first_number}
-use Rattle.proof_model.specs.declared.code.What.TheVariants as what
+use Rattle.std.specs.Prelude.{◌≡◌, ℕ, List, [], ◌∷◌, ◌++◌, length, Option, Some, None, option_map, Ok, Err, refl}
+use Rattle.std.specs.List.{AllByRecursion}
+use Rattle.std.proofs.Common.{sym, ap, ◌∙◌}
 use Rattle.proof_model.specs.declared.code.Code.{Code}
 use Rattle.proof_model.specs.declared.theorem.Theorem.{Theorem}
 use Rattle.proof_model.specs.Proofs.{Proof, Proofs, by, none, next, postorder, postorders}
 use Rattle.proof_model.specs.Codes.{listed_labels, argument_places, normal_code, code_of_proof}
-use Rattle.proof_model.specs.Machine.{Formula, Frames, State, MachineFault, start, and_then, use_label, use_what, run_steps, end_fault, ended_fault, Accepts, stack_after}
+use Rattle.proof_model.specs.Machine.{Formula, Frames, State, MachineFault, start, and_then, run_steps, end_fault, ended_fault, Accepts, stack_after}
 use Rattle.proof_laws.specs.CodeEnds.{CodeEndsAsLabels, LabelsEndAsCode, CodeIsAccepted, LabelsAreAccepted}
 use Rattle.proof_laws.proofs.RunLaws.{state}
 use Rattle.proof_laws.proofs.CodeBackLaws.{gave}

@@ -77,4 +77,3 @@ module _ (frames : Frames) (thm : Theorem) where
 
   pub spelled : (labels : List (List ℕ)) (name : List ℕ) → Covers thm.mandatory labels name → Spelled frames thm labels name
   spelled labels name e st = spelled_by labels name (contains thm.mandatory name) refl e st
-

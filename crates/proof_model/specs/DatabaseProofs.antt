@@ -1,5 +1,5 @@
 -- The theorems of a database and their proofs, as its `$p` statements give them.
-use Rattle.std.specs.Prelude.{◌≡◌, Bool, true, false, List, [], ◌∷◌, map, if◌then◌else◌, Option, Some, None, option_and_then, option_map, codes}
+use Rattle.std.specs.Prelude.{◌≡◌, Bool, true, false, List, [], ◌∷◌, map, if◌then◌else◌, Option, Some, None, option_and_then, codes}
 use Rattle.std.specs.List.{before_first, after_first, join_with_byte}
 use Rattle.std.specs.Str.{bytes_eq}
 use Rattle.mm_model.specs.declared.frames.Hyp.{Hyp}
@@ -50,10 +50,11 @@ is_compressed proof = begins_with (codes "(") proof
 abbrev pub proof_code_fault : List Name → List Name → Option Fault
 proof_code_fault mandatory proof = if is_compressed proof then code_fault (join_with_byte 32 proof) mandatory else None
 
--- the code of a proof that has no such fault, by whether it is compressed
+-- a code is that of a proof, by whether the proof is compressed: its text spells it, or it is the code of its labels
 abbrev pub IsCodeWhere : Bool → List Name → List Name → Code → Type 0
 IsCodeWhere true mandatory proof code = Spells (join_with_byte 32 proof) mandatory code
 IsCodeWhere false mandatory proof code = code ≡ normal_code mandatory proof
 
+-- the code of a proof, for these mandatory hypotheses; a proof with a fault of its code has none
 abbrev pub IsCodeOf : List Name → List Name → Code → Type 0
 IsCodeOf mandatory proof code = IsCodeWhere (is_compressed proof) mandatory proof code

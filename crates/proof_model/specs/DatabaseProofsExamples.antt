@@ -1,6 +1,5 @@
 -- The theorems and proofs of a small database, from its bytes to the machine.
 use Rattle.std.specs.Prelude.{◌≡◌, ℕ, false, List, [], ◌∷◌, Option, Some, None, option_and_then, option_map, map, codes, refl}
-use Rattle.mm_model.specs.Words.{words}
 use Rattle.mm_model.specs.Faults.{fault}
 use Rattle.mm_model.specs.Names.{label_named}
 use Rattle.mm_model.specs.Statements.{Statement, statements, labels, database_fault}
