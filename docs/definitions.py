@@ -19,6 +19,7 @@ ORDER = [
     ("mm_model", "The database language.", [
         ("Words", "words of a text", "book 4.1.1; FORMAT, Databases"),
         ("Faults", "which of several faults is the first", "FORMAT, Faults of a database"),
+        ("Limits", "the sizes past which an input or an output is refused", "FORMAT, Limits"),
         ("Labels", "labels", "book 4.1.1"),
         ("Names", "names and numbers of symbols and labels", ""),
         ("Tokens", "tokens, comments, and the faults 1 to 4", "book 4.1.1, 4.1.2; FORMAT, Faults of a database"),
@@ -48,6 +49,7 @@ ORDER = [
         ("Machine", "the stack machine and its faults", "book 4.1.4; FORMAT, The stack machine"),
         ("Codes", "the steps of a normal and of a compressed proof", "book appendix B; FORMAT, How a worksheet is unified"),
         ("ProofCode", "compressed proofs as texts, and the faults of such a text", "book appendix B; FORMAT, The proof code"),
+        ("DatabaseProofs", "the theorems of a database and their proofs", "book 4.3; FORMAT, The proof code"),
         ("Arities", "proofs whose labels have as many subproofs as they take", ""),
     ]),
     ("solve_model", "What a worksheet asks of its formulas.", [
@@ -76,7 +78,7 @@ ORDER = [
         ("Headline", "what a call gives: the main theorem", "FORMAT, Statuses"),
         ("Opened", "the databases that laws speak of", ""),
         ("Again", "what a written worksheet becomes when it is unified again", ""),
-        ("ReadBack", "laws: a laid out worksheet reads back", ""),
+        ("ReadBack", "laws: a text without a fault reads as a worksheet, and a laid out worksheet reads back", ""),
         ("ProofsPush", "laws: what a proof leaves on the stack", ""),
         ("WrittenAgain", "laws: written again as itself, and the answer is one", ""),
     ]),

@@ -11,3 +11,4 @@ pub mod SubstitutionTypes
 pub mod TextLaws
 mod TreesExamples
 pub mod TypedLaws
+mod UsableExamples

@@ -1,5 +1,5 @@
 -- A database, as the definitions on worksheets see it.
-use Rattle.std.specs.Prelude.{◌≡◌, ℕ, ◌==◌, ◌≤◌, Bool, List, [], ◌∷◌, length, drop, find, unwrap_or, slice_index_or, Option, Some, None, option_map, if◌then◌else◌}
+use Rattle.std.specs.Prelude.{◌≡◌, ℕ, ◌==◌, ◌≤◌, Bool, List, [], ◌∷◌, length, drop, find, slice_index_or, Option, Some, None, option_map, if◌then◌else◌}
 use Rattle.std.specs.List.{AllZip, list_any, filter_map}
 use Rattle.mm_base.specs.declared.symbols.Sym.{Sym}
 use Rattle.mm_base.specs.declared.symbols.Label.{Label}
@@ -12,9 +12,10 @@ use Rattle.mm_model.specs.declared.frames.Active.{Active}
 use Rattle.mm_model.specs.declared.rows.Leaf.{Leaf}
 use Rattle.mm_model.specs.declared.rows.Leaf.TheVariants as leaf
 use Rattle.mm_model.specs.declared.rows.Production.{Production}
-use Rattle.mm_model.specs.Names.{Name, sym, typecode, symbol_named, label_named}
+use Rattle.mm_model.specs.Limits.{most_formula_tokens}
+use Rattle.mm_model.specs.Names.{Name, typecode, symbol_named, label_named}
 use Rattle.mm_model.specs.Statements.{statements, labels}
-use Rattle.mm_model.specs.Frames.{symbols, positions, end_of, frame_of, active_at, is_constant_at, place_after, float_codes}
+use Rattle.mm_model.specs.Frames.{symbols, symbol_in, positions, end_of, frame_of, active_at, is_constant_at, place_after, float_codes}
 use Rattle.mm_model.specs.Productions.{TypedVariable, essentials, typed_variables, kept_rows}
 use Rattle.mm_model.specs.Typed.{Parses}
 
@@ -61,9 +62,9 @@ label_name db l = slice_index_or db.labels l.0 []
 abbrev pub position_of : Database → Label → ℕ
 position_of db l = slice_index_or db.positions l.0 0
 
--- the logic typecode; no symbol where the database does not declare it
+-- the logic typecode; past the last symbol where the database does not declare it
 abbrev pub logic_code : Database → Typecode
-logic_code db = typecode (unwrap_or (symbol_of db db.logic) (sym (length db.symbols)))
+logic_code db = typecode (symbol_in db.symbols db.logic)
 
 -- ---- the trees of a formula
 
@@ -79,7 +80,7 @@ declared_leaf db place s =
     then option_map (λ c. leaf.Var s c) (float_of s (db.active_at place).hyps)
     else None)
 
--- the expression behind the typecode of a formula
+-- the expression behind the typecode of a formula. A symbol that is neither is left out; a frame's formula has none at its place
 abbrev pub expression_at : Database → ℕ → List Sym → List Leaf
 expression_at db place formula = filter_map (declared_leaf db place) (drop 1 formula)
 
@@ -94,14 +95,14 @@ pub record IsTheTreeAt (db : Database) (place : ℕ) (formula : List Sym) (t : T
 
 -- ---- usable assertions
 
--- the formula begins with the provable typecode, and is not too long
-pub record IsProvable (db : Database) (formula : List Sym) : Type 0 where
+-- the formula is one that a usable assertion may have: it begins with the provable typecode, and is not too long
+pub record IsAssertionFormula (db : Database) (formula : List Sym) : Type 0 where
   pub begins : (s : Sym) × (rest : List Sym) × (formula ≡ s ∷ rest) × (symbol_of db db.provable ≡ Some s)
-  pub short : length formula ≤ 4096
+  pub short : length formula ≤ most_formula_tokens
 
 -- a formula of a usable assertion, with its one tree below the assertion's position
 pub record IsRead (db : Database) (place : ℕ) (formula : List Sym) (t : Tree) : Type 0 where
-  pub provable : IsProvable db formula
+  pub provable : IsAssertionFormula db formula
   pub tree : IsTheTreeAt db place formula t
 
 -- the assertion of a label is usable, with these trees

@@ -26,7 +26,7 @@ Rise ns = (i j a b : ℕ) → slice_get ns i ≡ Some a → slice_get ns j ≡ S
 abbrev pub VariablesDiffer : List TypedVariable → Type 0
 VariablesDiffer vars = (i j : ℕ) (v w : TypedVariable) → slice_get vars i ≡ Some v → slice_get vars j ≡ Some w → v.sym ≡ w.sym → i ≡ j
 
--- the symbol of an item, where these variables stand in the slots
+-- the symbol of an item, where these variables stand in the slots; symbol 0 for a slot that has none, as no row of a grammar has
 abbrev pub item_symbol : List TypedVariable → Item → Sym
 item_symbol vars (slot.Const s) = s
 item_symbol vars (slot.Slot k) = symbol_at (slice_get vars k)
@@ -39,7 +39,8 @@ item_symbol vars (slot.Slot k) = symbol_at (slice_get vars k)
 abbrev pub float_formula : TypedVariable → List Sym
 float_formula v = v.code.0 ∷ v.sym ∷ []
 
--- the row is the frame of its label: the variables of its `$f` stand in its slots
+-- the row is the frame of its label: it has no `$e` and no pairs, the variables of its `$f` stand in the slots, and its formula is
+-- the typecode that the row gives and the symbols of its items
 pub record IsRowFrame (r : Production) (f : Frame) : Type 0 where
   pub at : f.at ≡ r.at
   pub slots : r.slots ≡ map (λ (v : TypedVariable). v.code) (typed_variables f.hyps)

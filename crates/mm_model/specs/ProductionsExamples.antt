@@ -88,7 +88,7 @@ C_none = refl
 
 -- ---- two productions for one text
 
-abbrev equal : List ℕ
+abbrev pub equal : List ℕ
 equal = codes "$c wff class setvar = |- $. $v x y A B $. vx $f setvar x $. vy $f setvar y $. cA $f class A $. cB $f class B $. cv $a class x $. wceq $a wff A = B $. weqx $a wff x = y $."
 
 abbrev pub cv : Production

@@ -1,7 +1,10 @@
 -- Small databases, computed.
-use Rattle.std.specs.Prelude.{◌≡◌, ℕ, List, length, Some, None, codes, refl}
-use Rattle.mm_model.specs.Faults.{fault}
-use Rattle.mm_model.specs.Statements.{database_fault, statements}
+use Rattle.std.specs.Prelude.{◌≡◌, ℕ, true, List, length, nat_lt, if◌then◌else◌, Some, None, codes, refl}
+use Rattle.std.proofs.Common.{ap}
+use Rattle.mm_model.specs.Faults.{fault, or_else}
+use Rattle.mm_model.specs.Limits.{most_database_bytes}
+use Rattle.mm_model.specs.Tokens.{token_fault}
+use Rattle.mm_model.specs.Statements.{database_fault, statement_fault, statements}
 
 pub redeclares : database_fault (codes "$c wff $. $v wff $.") ≡ Some (fault 13 12)
 redeclares = refl
@@ -116,6 +119,33 @@ variable_again = refl
 
 pub empty_proof : database_fault (codes "$c a $. p $p a $= $.") ≡ None
 empty_proof = refl
+
+pub floating_one : database_fault (codes "$c w $. $v x $. f $f w $.") ≡ Some (fault 23 27)
+floating_one = refl
+
+-- a `$p` without a formula, with and without a proof
+pub nothing_proved : database_fault (codes "p $p $= $.") ≡ Some (fault 5 26)
+nothing_proved = refl
+
+pub nothing_stated : database_fault (codes "p $p $.") ≡ Some (fault 5 26)
+nothing_stated = refl
+
+pub equals_in_distinct : database_fault (codes "$d $= $.") ≡ Some (fault 3 29)
+equals_in_distinct = refl
+
+pub close_include : database_fault (codes "$]") ≡ Some (fault 0 29)
+close_include = refl
+
+pub constant_in_distinct : database_fault (codes "$c w $. $d w x $.") ≡ Some (fault 11 13)
+constant_in_distinct = refl
+
+-- a proof may have any words, brackets among them, and comments
+pub proof_words : database_fault (codes "$c w $. $v x $. f $f w x $. p $p w x $= ( f $( x $) ) A $.") ≡ None
+proof_words = refl
+
+-- a text of over 2^28 bytes is refused before all else
+pub too_big : (text : List ℕ) → nat_lt most_database_bytes (length text) ≡ true → database_fault text ≡ Some (fault most_database_bytes 30)
+too_big text e = ap (λ b. if b then Some (fault most_database_bytes 30) else or_else (token_fault text) (statement_fault text)) e
 
 -- ---- the first database of the Metamath book
 

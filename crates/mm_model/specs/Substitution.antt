@@ -14,7 +14,7 @@ use Rattle.mm_model.specs.Texts.{text}
 use Rattle.mm_base.specs.Trees.{code_of}
 use Rattle.mm_model.specs.Typed.{IsTyped}
 
--- a tree for each of some leaves
+-- a tree for each of some leaves of a text: variables and work variables; a fresh leaf is none of them
 abbrev pub Substitution : Type 0
 Substitution = Leaf → Option Tree
 
@@ -29,7 +29,7 @@ layer_substitute s (Tree-F.Work c n) = unwrap_or (s (leaf.Work c n)) (Work c n)
 layer_substitute s (Tree-F.Fresh c n) = Fresh c n
 layer_substitute s (Tree-F.Node l c ts) = Node l c ts
 
--- the tree, with its leaves replaced
+-- the tree, with its variables and work variables replaced; constants and fresh leaves stay
 unfoldable pub substitute : Substitution → Tree → Tree
 substitute s = fold-Tree Tree (layer_substitute s)
 
@@ -38,7 +38,7 @@ abbrev pub leaf_text : List Production → Leaf → Option Tree → List Leaf
 leaf_text rows x None = x ∷ []
 leaf_text rows x (Some t) = text rows t
 
--- the text, with its leaves replaced by texts
+-- the text, with its variables and work variables replaced by texts
 abbrev pub substitute_text : List Production → Substitution → List Leaf → List Leaf
 substitute_text rows s = flat_map (λ x. leaf_text rows x (s x))
 

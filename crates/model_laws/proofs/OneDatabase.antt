@@ -1,4 +1,4 @@
--- A text has one database under given kinds.
+-- Two databases of one text, under given kinds, answer alike.
 use Rattle.std.proofs.Common.{◌≡◌, ℕ, List, [], ◌∷◌, drop, Option, Some, None, refl, sym, ap, ◌∙◌, subst}
 use Rattle.std.specs.List.{AllZip, filter_map}
 use Rattle.mm_base.specs.declared.symbols.Sym.{Sym}
@@ -7,9 +7,9 @@ use Rattle.mm_base.specs.declared.tree.Tree.{Tree}
 use Rattle.mm_base.specs.declared.kinds.Kinds.{Kinds}
 use Rattle.mm_model.specs.declared.frames.Hyp.{Hyp}
 use Rattle.mm_model.specs.Typed.{Parses}
-use Rattle.mm_model.specs.Book.{Database, Assertion, IsDatabaseOf, IsUsable, IsRead, IsProvable, IsTreeAt, declared_leaf, expression_at, logic_code, symbol_of}
+use Rattle.mm_model.specs.Book.{Database, Assertion, IsDatabaseOf, IsUsable, IsRead, IsAssertionFormula, IsTreeAt, declared_leaf, expression_at, logic_code, symbol_of}
 use Rattle.mm_model.specs.Productions.{essentials}
-use Rattle.model_laws.specs.DatabaseLaws.{TextHasOneDatabase}
+use Rattle.model_laws.specs.DatabaseLaws.{DatabasesOfATextAgree}
 
 -- all that the usable assertions rest on
 record Alike (db other : Database) : Type 0 where
@@ -39,7 +39,7 @@ module _ (db other : Database) (same : Alike db other) where
       ∙ ap (λ e. Parses other.rows place e (logic_code db) t) leaves
       ∙ ap (λ c. Parses other.rows place (expression_at other place formula) c t) logic_same
 
-  provable_same : (formula : List Sym) → IsProvable db formula → IsProvable other formula
+  provable_same : (formula : List Sym) → IsAssertionFormula db formula → IsAssertionFormula other formula
   provable_same formula p =
       let (s, rest, is, named) = p.begins in
       let named' : symbol_of other other.provable ≡ Some s = let symbols = same.symbols in let provable = same.provable in cc in
@@ -86,7 +86,7 @@ alike kinds text db other is there = record {
   rows = is.rows ∙ sym there.rows;
 }
 
-pub one_database : TextHasOneDatabase
+pub one_database : DatabasesOfATextAgree
 one_database kinds text db other is there =
     let same = alike kinds text db other is there in
     let back = alike kinds text other db there is in

@@ -1,16 +1,15 @@
 -- Chains lead where a path of them does, and a path of kept chains never comes back.
-use Rattle.std.proofs.Common.{◌≡◌, ◌<◌, ◌≤◌, ℕ, suc, ◌+◌, ◌-◌, Bool, true, false, ◌&&◌, List, [], ◌∷◌, ◌++◌, length, reverse, Option, Some, None, refl, sym, ap, ◌∙◌, arith, subst, get_or, inl, inr}
+use Rattle.std.proofs.Common.{◌≡◌, ◌<◌, ◌≤◌, ℕ, suc, ◌+◌, ◌-◌, Bool, true, false, ◌&&◌, List, [], ◌∷◌, ◌++◌, length, reverse, Option, Some, None, refl, sym, ap, ◌∙◌, arith, subst, get_or, inl, inr, cond, fold}
 use Rattle.std.specs.List.{AllByRecursion, Contains}
 use Rattle.std.proofs.lemmas.Bool.{cases_Bool}
 use Rattle.std.proofs.lemmas.Bool.Decides.{nat_tests}
-use Rattle.std.proofs.lemmas.List.{length-reverse, get_or-reverse}
+use Rattle.std.proofs.lemmas.List.{reverse-reverse, length-reverse, get_or-reverse}
 use Rattle.mm_base.specs.declared.symbols.Sym.{Sym}
 use Rattle.mm_base.specs.declared.symbols.Typecode.{Typecode}
 use Rattle.mm_model.specs.declared.rows.Production.{Production}
-use Rattle.mm_model.specs.Chains.{same_code, chain_from, joined, leads, HasNoCycle, rank, kept}
+use Rattle.mm_model.specs.Chains.{same_code, chain_from, joined, leads, OnChain, HasNoCycle, rank, keep, keep_by, kept}
 use Rattle.model_laws.specs.Paths.{IsPath, IsPathOf, LeadsByPaths, KeptHaveNoCycle}
 use Rattle.mm_model.proofs.ChainLaws.{leads_self, leads_on, rank_rises}
-use Rattle.mm_model.proofs.KeptLaws.{kept_is_grammar}
 
 same_is : (a b : Typecode) → same_code a b ≡ true → a ≡ b
 same_is a b e =
@@ -117,6 +116,20 @@ all_reversed : (rows path : List Production) → AllByRecursion (Contains rows) 
 all_reversed rows [] h = tt
 all_reversed rows (x ∷ path) h = (contains_reversed rows x h.0, all_reversed rows path h.1)
 
+-- ---- what is kept has no cycle
+
+acyclic_if : (older : List Production) (r : Production) (from : Typecode) (b : Bool) → chain_from r ≡ Some from → leads older r.gives from ≡ b → HasNoCycle older → HasNoCycle (cond b older (r ∷ older))
+acyclic_if older r from true is l h = h
+acyclic_if older r from false is l h = (h, subst (λ o. OnChain o (λ c. leads older r.gives c ≡ false)) (sym is) l)
+
+acyclic_by : (older : List Production) (r : Production) (o : Option Typecode) → chain_from r ≡ o → HasNoCycle older → HasNoCycle (keep_by o older r)
+acyclic_by older r None is h = (h, subst (λ o. OnChain o (λ c. leads older r.gives c ≡ false)) (sym is) tt)
+acyclic_by older r (Some from) is h = acyclic_if older r from (leads older r.gives from) is refl h
+
+kept_acyclic : (rest older : List Production) → HasNoCycle older → HasNoCycle (fold keep older rest)
+kept_acyclic [] older h = h
+kept_acyclic (r ∷ rest) older h = kept_acyclic rest (keep older r) (acyclic_by older r (chain_from r) refl h)
+
 pub kept_have_no_cycle : KeptHaveNoCycle
-kept_have_no_cycle rows path a ok h =
-    no_return (reverse (kept rows)) (kept_is_grammar rows ok).acyclic path a (all_reversed (kept rows) path h.chains) h.joined
+kept_have_no_cycle rows path a h =
+    no_return (reverse (kept rows)) (subst HasNoCycle (sym (reverse-reverse (fold keep [] rows))) (kept_acyclic rows [] tt)) path a (all_reversed (kept rows) path h.chains) h.joined

@@ -27,7 +27,8 @@ SymbolsAreDistinct = OfEach (λ db. NamesDiffer db.symbols)
 abbrev pub PositionsRise : Type 0
 PositionsRise = OfEach (λ db. (length db.positions ≡ length db.labels) × Rise db.positions)
 
--- a frame has its label and its label's position; each of its `$f` has two symbols, and their variables differ
+-- a frame has its label and its label's position; each of its `$f` has two symbols, their variables differ, and the symbols
+-- of its formulas are known at its place
 abbrev pub FramesAreWhole : Type 0
 FramesAreWhole = OfEach (λ db. (l : Label) (f : Frame) → db.frame l ≡ Some f → IsFrame db l f)
 
@@ -59,6 +60,6 @@ pub record Agree (db other : Database) : Type 0 where
   pub rows : db.rows ≡ other.rows
   pub usable : (l : Label) → db.usable l ≡ other.usable l
 
--- a text has one database under given kinds
-abbrev pub TextHasOneDatabase : Type 0
-TextHasOneDatabase = (kinds : Kinds) (text : List ℕ) (db other : Database) → IsDatabaseOf kinds text db → IsDatabaseOf kinds text other → Agree db other
+-- two databases of one text under given kinds answer alike
+abbrev pub DatabasesOfATextAgree : Type 0
+DatabasesOfATextAgree = (kinds : Kinds) (text : List ℕ) (db other : Database) → IsDatabaseOf kinds text db → IsDatabaseOf kinds text other → Agree db other

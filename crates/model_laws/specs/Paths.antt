@@ -24,6 +24,6 @@ LeadsByPaths = (rows : List Production) (a b : Typecode) → (leads rows a b ≡
 abbrev pub KeptAreGrammar : Type 0
 KeptAreGrammar = (rows : List Production) → AreRows rows → IsGrammar (kept rows)
 
--- no path of kept rows comes back to where it began
+-- no path of kept chains comes back to where it began
 abbrev pub KeptHaveNoCycle : Type 0
-KeptHaveNoCycle = (rows path : List Production) (a : Typecode) → AreRows rows → IsPathOf (kept rows) path a a → path ≡ []
+KeptHaveNoCycle = (rows path : List Production) (a : Typecode) → IsPathOf (kept rows) path a a → path ≡ []

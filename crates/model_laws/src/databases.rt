@@ -1,4 +1,4 @@
-ghost use Rattle.model_laws.specs.DatabaseLaws.{FramesAreWhole, HasDatabaseFacts, LabelsAreDistinct, PositionsRise, RowsAreAGrammar, RowsAreFrames, SymbolsAreDistinct, TextHasOneDatabase};
+ghost use Rattle.model_laws.specs.DatabaseLaws.{FramesAreWhole, HasDatabaseFacts, LabelsAreDistinct, PositionsRise, RowsAreAGrammar, RowsAreFrames, SymbolsAreDistinct, DatabasesOfATextAgree};
 
 /// No two labels of a database without a fault are one.
 pub fn labels_are_distinct()
@@ -15,7 +15,8 @@ pub fn positions_rise()
     ensures { PositionsRise }
 {}
 
-/// Each of its frames has its label and position; each `$f` in it has two symbols, and their variables differ.
+/// Each of its frames has its label and position; each `$f` in it has two symbols, their variables differ, and the symbols
+/// of its formulas are known at its place.
 pub fn frames_are_whole()
     ensures { FramesAreWhole }
 {}
@@ -35,7 +36,7 @@ pub fn has_database_facts()
     ensures { HasDatabaseFacts }
 {}
 
-/// A text has one database under given kinds: two of them answer alike.
-pub fn text_has_one_database()
-    ensures { TextHasOneDatabase }
+/// Two databases of one text, under given kinds, answer alike.
+pub fn databases_of_a_text_agree()
+    ensures { DatabasesOfATextAgree }
 {}

@@ -1,20 +1,18 @@
 -- The compressed code of a proof ends with the stack of its labels.
-use Rattle.std.specs.Prelude.{◌≡◌, ℕ, suc, Bool, true, false, ◌||◌, List, [], ◌∷◌, ◌++◌, length, slice_index_or, Option, Some, None, option_map, unwrap_or, Ok, Err, refl}
-use Rattle.std.specs.Str.{bytes_eq}
-use Rattle.std.specs.List.{AllByRecursion, list_any}
-use Rattle.std.proofs.Common.{sym, ap, ◌∙◌, cond}
-use Rattle.std.proofs.lemmas.Slice.Eq.{bytes_eq-Decides}
-use Rattle.mm_model.specs.Names.{contains, first_number}
-use Rattle.proof_model.specs.declared.code.What.TheVariants as what
+use Rattle.std.specs.Prelude.{◌≡◌, ℕ, List, [], ◌∷◌, ◌++◌, length, Option, Some, None, option_map, Ok, Err, refl}
+use Rattle.std.specs.List.{AllByRecursion}
+use Rattle.std.proofs.Common.{sym, ap, ◌∙◌}
 use Rattle.proof_model.specs.declared.code.Code.{Code}
 use Rattle.proof_model.specs.declared.theorem.Theorem.{Theorem}
 use Rattle.proof_model.specs.Proofs.{Proof, Proofs, by, none, next, postorder, postorders}
-use Rattle.proof_model.specs.Codes.{number_in, distinct_names, listed_labels, argument_places, normal_code, normal_steps, code_of_proof}
-use Rattle.proof_model.specs.Machine.{Formula, Frames, State, MachineFault, start, and_then, use_label, use_what, run_steps, end_fault, ended_fault, Accepts, stack_after}
-use Rattle.proof_laws.specs.CodeEnds.{CodeEndsAlike, CodeIsAccepted}
+use Rattle.proof_model.specs.Codes.{listed_labels, argument_places, normal_code, code_of_proof}
+use Rattle.proof_model.specs.Machine.{Formula, Frames, State, MachineFault, start, and_then, run_steps, end_fault, ended_fault, Accepts, stack_after}
+use Rattle.proof_laws.specs.CodeEnds.{CodeEndsAsLabels, LabelsEndAsCode, CodeIsAccepted, LabelsAreAccepted}
 use Rattle.proof_laws.proofs.RunLaws.{state}
+use Rattle.proof_laws.proofs.CodeBackLaws.{gave}
+use Rattle.proof_laws.proofs.LabelLaws.{Covers, covered, map_all, spelled}
 use Rattle.proof_laws.proofs.CodeLaws.{gives_pushes, gives_from}
-use Rattle.proof_laws.proofs.NormalLaws.{normal_labels, stack_of}
+use Rattle.proof_laws.proofs.NormalLaws.{run_normal, normal_labels, labels_normal, stack_of}
 use Rattle.proof_laws.proofs.StepLaws.{Ended, Spelled, IsSpelled, AreSpelled, code_tracks}
 
 all_left : (P : List ℕ → Type 0) (xs ys : List (List ℕ)) → AllByRecursion P (xs ++ ys) → AllByRecursion P xs
@@ -25,72 +23,7 @@ all_right : (P : List ℕ → Type 0) (xs ys : List (List ℕ)) → AllByRecursi
 all_right P [] ys h = h
 all_right P (x ∷ xs) ys h = all_right P xs ys h.1
 
--- the name stands at its number
-abbrev Stands : List (List ℕ) → List ℕ → Type 0
-Stands names name = (j : ℕ) × (first_number (bytes_eq name) names ≡ Some j) × (slice_index_or names j [] ≡ name)
-
-stands_by : (n : List ℕ) (ns : List (List ℕ)) (name : List ℕ) (b : Bool) → bytes_eq name n ≡ b → (list_any (bytes_eq name) ns ≡ true → Stands ns name)
-    → (b || list_any (bytes_eq name) ns) ≡ true
-    → (j : ℕ) × (cond b (Some 0) (option_map suc (first_number (bytes_eq name) ns)) ≡ Some j) × (slice_index_or (n ∷ ns) j [] ≡ name)
-stands_by n ns name true is h e = (0, refl, sym ((bytes_eq-Decides name n).0 is))
-stands_by n ns name false is h e = let s = h e in (suc s.0, ap (option_map suc) s.1, s.2)
-
-stands_at : (names : List (List ℕ)) (name : List ℕ) → contains names name ≡ true → Stands names name
-stands_at [] name e = absurd (cc)
-stands_at (n ∷ ns) name e = stands_by n ns name (bytes_eq name n) refl (stands_at ns name) e
-
-at_number : (names : List (List ℕ)) (name : List ℕ) → contains names name ≡ true → slice_index_or names (number_in names name) [] ≡ name
-at_number names name e = let s = stands_at names name e in ap (λ (o : Option ℕ). slice_index_or names (unwrap_or o 0) []) s.1 ∙ s.2
-
-name_self : (name : List ℕ) → bytes_eq name name ≡ true
-name_self name = (bytes_eq-Decides name name).1 refl
-
-shuffle : (a b c : Bool) → ((a || b) || c) ≡ true → (b || (a || c)) ≡ true
-shuffle true true c e = refl
-shuffle true false c e = refl
-shuffle false true c e = refl
-shuffle false false c e = e
-
-or_true : (a b : Bool) → a ≡ true → (a || b) ≡ true
-or_true true b e = refl
-or_true false b e = absurd (cc)
-
-later_true : (a b c : Bool) → b ≡ true → (a || (b || c)) ≡ true
-later_true true b c e = refl
-later_true false true c e = refl
-later_true false false c e = absurd (cc)
-
-abbrev Covers : List (List ℕ) → List (List ℕ) → List ℕ → Type 0
-Covers seen listed name = (contains seen name || contains listed name) ≡ true
-
-map_all : (P Q : List ℕ → Type 0) (xs : List (List ℕ)) → ((x : List ℕ) → P x → Q x) → AllByRecursion P xs → AllByRecursion Q xs
-map_all P Q [] h a = tt
-map_all P Q (x ∷ xs) h a = (h x a.0, map_all P Q xs h a.1)
-
-distinct_by : (seen : List (List ℕ)) (n : List ℕ) (ns : List (List ℕ)) (b : Bool) → contains seen n ≡ b → AllByRecursion (Covers seen (distinct_names seen ns)) ns
-    → AllByRecursion (Covers (n ∷ seen) (distinct_names (n ∷ seen) ns)) ns → AllByRecursion (Covers seen (cond b (distinct_names seen ns) (n ∷ distinct_names (n ∷ seen) ns))) (n ∷ ns)
-distinct_by seen n ns true is h k = (or_true (contains seen n) (contains (distinct_names seen ns) n) is, h)
-distinct_by seen n ns false is h k =
-    let here : Covers seen (n ∷ distinct_names (n ∷ seen) ns) n = later_true (contains seen n) (bytes_eq n n) (contains (distinct_names (n ∷ seen) ns) n) (name_self n) in (
-      here,
-      map_all (Covers (n ∷ seen) (distinct_names (n ∷ seen) ns)) (Covers seen (n ∷ distinct_names (n ∷ seen) ns)) ns
-          (λ m e. shuffle (bytes_eq m n) (contains seen m) (contains (distinct_names (n ∷ seen) ns) m) e) k,
-    )
-
--- each name is among those seen or those listed
-covered : (ns seen : List (List ℕ)) → AllByRecursion (Covers seen (distinct_names seen ns)) ns
-covered [] seen = tt
-covered (n ∷ ns) seen = distinct_by seen n ns (contains seen n) refl (covered ns seen) (covered ns (n ∷ seen))
-
 module _ (frames : Frames) (thm : Theorem) where
-  spelled_by : (labels : List (List ℕ)) (name : List ℕ) (b : Bool) → contains thm.mandatory name ≡ b → (b || contains labels name) ≡ true → (st : State)
-      → use_what frames thm labels (cond b (what.Hyp (number_in thm.mandatory name)) (what.Listed (number_in labels name))) st ≡ use_label frames thm name st
-  spelled_by labels name true is e st = ap (λ (n : List ℕ). use_label frames thm n st) (at_number thm.mandatory name is)
-  spelled_by labels name false is e st = ap (λ (n : List ℕ). use_label frames thm n st) (at_number labels name e)
-
-  spelled : (labels : List (List ℕ)) (name : List ℕ) → Covers thm.mandatory labels name → Spelled frames thm labels name
-  spelled labels name e st = spelled_by labels name (contains thm.mandatory name) refl e st
-
   mutual
     spelled_from : (labels : List (List ℕ)) (p : Proof) → AllByRecursion (Spelled frames thm labels) (postorder p) → IsSpelled frames thm labels p
     spelled_from labels (by name below) h =
@@ -101,18 +34,30 @@ module _ (frames : Frames) (thm : Theorem) where
     spelleds_from labels (next p ps) h =
         (spelled_from labels p (all_left (Spelled frames thm labels) (postorder p) (postorders ps) h), spelleds_from labels ps (all_right (Spelled frames thm labels) (postorder p) (postorders ps) h))
 
-  pub code_ends_alike : CodeEndsAlike frames thm
-  code_ends_alike p stack a e =
+  pub code_ends_as_labels : CodeEndsAsLabels frames thm
+  code_ends_as_labels p stack a e =
       let labels = listed_labels thm.mandatory p in
-      let ended = stack_of (run_steps frames thm (postorder p) 0 (normal_steps 0 (postorder p)) start) stack e in
+      let ended = stack_of (run_normal frames thm (postorder p) start) stack e in
       let run = normal_labels frames thm (postorder p) start ended.0 ended.1 in
-      let sp = spelled_from labels p (map_all (Covers thm.mandatory labels) (Spelled frames thm labels) (postorder p) (spelled labels) (covered (postorder p) thm.mandatory)) in
+      let sp = spelled_from labels p (map_all (Covers thm.mandatory labels) (Spelled frames thm labels) (postorder p) (spelled frames thm labels) (covered (postorder p) thm.mandatory)) in
       let g = gives_from frames thm p a [] [] ended.0 run in
       let t = code_tracks frames thm labels (argument_places p) p g.0 sp g.1 (record { steps = []; marked = [] }) [] [] (record { runs = refl; kept = tt }) in
       let both : Ok ended.0 ≡ Ok (state (g.0 ∷ []) []) = sym run ∙ gives_pushes frames thm p g.0 g.1 [] [] in
       let one : ended.0 ≡ state (g.0 ∷ []) [] = cc in
       let stacks : g.0 ∷ [] ≡ stack = ap (λ (st : State). st.stack) (sym one) ∙ ended.2 in
       ap (and_then (λ (st : State). Ok st.stack)) t.1.runs ∙ ap (λ (s : List Formula). Ok s) stacks
+
+  -- the stack that the labels leave, with that of the code
+  pub labels_end_as_code : LabelsEndAsCode frames thm
+  labels_end_as_code p stack a plain e =
+      let labels = listed_labels thm.mandatory p in
+      let ended = stack_of (run_steps frames thm labels 0 (code_of_proof thm.mandatory p).steps start) stack e in
+      let sp = spelled_from labels p (map_all (Covers thm.mandatory labels) (Spelled frames thm labels) (postorder p) (spelled frames thm labels) (covered (postorder p) thm.mandatory)) in
+      let g = gave frames thm labels (argument_places p) p a sp (record { steps = []; marked = [] }) [] [] (record { runs = refl; kept = tt }) (ended.0, ended.1) in
+      let run = labels_normal frames thm (postorder p) start (state (g.0 ∷ []) []) plain (gives_pushes frames thm p g.0 g.1 [] []) in
+      let ends : stack_after frames thm (normal_code thm.mandatory (postorder p)) ≡ Ok (g.0 ∷ []) = ap (and_then (λ (st : State). Ok st.stack)) run in
+      let both : Ok (g.0 ∷ []) ≡ Ok stack = sym (code_ends_as_labels p (g.0 ∷ []) a ends) ∙ e in
+      ends ∙ both
 
   abbrev numbered_end : ℕ → Option MachineFault → Option (ℕ × MachineFault)
   numbered_end n o = option_map (λ f. (n, f)) o
@@ -138,4 +83,8 @@ module _ (frames : Frames) (thm : Theorem) where
       ends_so (run_steps frames thm d.labels 0 d.steps start) (length d.steps) ended.0 (h ended.0 ended.1) (no_fault (end_fault thm ended.0) (length c.steps) (length d.steps) ended.2)
 
   pub code_is_accepted : CodeIsAccepted frames thm
-  code_is_accepted p a e = accepted_alike (normal_code (postorder p)) (code_of_proof thm.mandatory p) (λ stack r. code_ends_alike p stack a r) e
+  code_is_accepted p a e = accepted_alike (normal_code thm.mandatory (postorder p)) (code_of_proof thm.mandatory p) (λ stack r. code_ends_as_labels p stack a r) e
+
+  pub labels_are_accepted : LabelsAreAccepted frames thm
+  labels_are_accepted p a plain e =
+      accepted_alike (code_of_proof thm.mandatory p) (normal_code thm.mandatory (postorder p)) (λ stack r. labels_end_as_code p stack a plain r) e

@@ -59,7 +59,7 @@ module _ (frames : Frames) (thm : Theorem) (labels : List (List ℕ)) where
   step_case (Ok st) n xs ys mid e h = h st e
 
   -- steps that run are gone through, and then the others, which begin with some number
-  run_steps-append : (n : ℕ) (xs ys : List Step) (st mid : State) → run n xs st ≡ Ok mid → (m : ℕ) × (run n (xs ++ ys) st ≡ run m ys mid)
+  pub run_steps-append : (n : ℕ) (xs ys : List Step) (st mid : State) → run n xs st ≡ Ok mid → (m : ℕ) × (run n (xs ++ ys) st ≡ run m ys mid)
   run_steps-append n [] ys st mid e = let same : st ≡ mid = cc in (n, ap (run n ys) same)
   run_steps-append n (x ∷ xs) ys st mid e = step_case (use_step frames thm labels x st) n xs ys mid e (λ next r. run_steps-append (suc n) xs ys next mid r)
 
@@ -116,7 +116,7 @@ module _ (frames : Frames) (thm : Theorem) (labels : List (List ℕ)) where
       subst (λ (n : ℕ). Found (x ∷ k) n p) same (x, refl, subst (λ r. Gives frames thm r x) (sym (same_is p q is)) g)
   found_by p q qs x k i false is g h e = found_later p qs x k i (first_number (same_proof p) qs) refl h e
 
-  kept_at : (p : Proof) (qs : List Proof) (k : List Formula) (i : ℕ) → Kept qs k → first_number (same_proof p) qs ≡ Some i → Found k i p
+  pub kept_at : (p : Proof) (qs : List Proof) (k : List Formula) (i : ℕ) → Kept qs k → first_number (same_proof p) qs ≡ Some i → Found k i p
   kept_at p [] k i h e = absurd (cc)
   kept_at p (q ∷ qs) [] i h e = elim h [ ]
   kept_at p (q ∷ qs) (x ∷ k) i h e = found_by p q qs x k i (same_proof p q) refl h.0 (λ j is. kept_at p qs k j h.1 is) e

@@ -6,7 +6,8 @@ use Rattle.std.specs.Str.{bytes_eq}
 use Rattle.std.proofs.Math.Seq.{take-append_seam}
 use Rattle.std.proofs.lemmas.Bool.Decides.{nat_tests}
 use Rattle.mm_model.specs.Words.{Word, word, words, words_from, put_before, is_white}
-use Rattle.proof_model.specs.ProofCode.{is_word, opens_bracket, is_bracketed, labels_of, letters_of}
+use Rattle.mm_model.specs.Statements.{is}
+use Rattle.proof_model.specs.ProofCode.{opens_bracket, is_bracketed, labels_of, letters_of}
 use Rattle.proof_laws.proofs.LetterLaws.{cond_then, cond_else}
 
 -- the first of these words, if there is one, stands elsewhere
@@ -97,7 +98,7 @@ joined_texts at ((b ∷ bs) ∷ ts) last h ink =
 abbrev pub is_text : List ℕ → List ℕ → Bool
 is_text bytes t = bytes_eq t bytes
 
-any_texts : (bytes : List ℕ) (ws : List Word) → list_any (is_word bytes) ws ≡ list_any (is_text bytes) (texts ws)
+any_texts : (bytes : List ℕ) (ws : List Word) → list_any (is bytes) ws ≡ list_any (is_text bytes) (texts ws)
 any_texts bytes [] = refl
 any_texts bytes (w ∷ ws) = ap (λ (b : Bool). bytes_eq w.bytes bytes || b) (any_texts bytes ws)
 
@@ -109,19 +110,19 @@ opens_are : (ws : List Word) → opens_bracket ws ≡ opens_texts (texts ws)
 opens_are [] = refl
 opens_are (w ∷ ws) = ap (λ (b : Bool). bytes_eq w.bytes (codes "(") && b) (any_texts (codes ")") ws)
 
-position_texts : (bytes : List ℕ) (ws : List Word) → position_or_len (is_word bytes) ws ≡ position_or_len (is_text bytes) (texts ws)
+position_texts : (bytes : List ℕ) (ws : List Word) → position_or_len (is bytes) ws ≡ position_or_len (is_text bytes) (texts ws)
 position_texts bytes [] = refl
 position_texts bytes (w ∷ ws) = ap (λ (n : ℕ). cond (not (bytes_eq w.bytes bytes)) (1 + n) 0) (position_texts bytes ws)
 
-before_texts : (bytes : List ℕ) (ws : List Word) → texts (before_first (is_word bytes) ws) ≡ before_first (is_text bytes) (texts ws)
-before_texts bytes ws = sym (take-map (λ (w : Word). w.bytes) (position_or_len (is_word bytes) ws) ws) ∙ ap (λ (n : ℕ). take n (texts ws)) (position_texts bytes ws)
+before_texts : (bytes : List ℕ) (ws : List Word) → texts (before_first (is bytes) ws) ≡ before_first (is_text bytes) (texts ws)
+before_texts bytes ws = sym (take-map (λ (w : Word). w.bytes) (position_or_len (is bytes) ws) ws) ∙ ap (λ (n : ℕ). take n (texts ws)) (position_texts bytes ws)
 
 joined_are : (ws : List Word) → flat_map (λ (w : Word). w.bytes) ws ≡ flat_map (λ (t : List ℕ). t) (texts ws)
 joined_are [] = refl
 joined_are (w ∷ ws) = ap (λ (ls : List ℕ). w.bytes ++ ls) (joined_are ws)
 
-after_texts : (bytes : List ℕ) (ws : List Word) → texts (after_first (is_word bytes) ws) ≡ after_first (is_text bytes) (texts ws)
-after_texts bytes ws = sym (drop-map (λ (w : Word). w.bytes) (position_or_len (is_word bytes) ws + 1) ws) ∙ ap (λ (n : ℕ). drop (n + 1) (texts ws)) (position_texts bytes ws)
+after_texts : (bytes : List ℕ) (ws : List Word) → texts (after_first (is bytes) ws) ≡ after_first (is_text bytes) (texts ws)
+after_texts bytes ws = sym (drop-map (λ (w : Word). w.bytes) (position_or_len (is bytes) ws + 1) ws) ∙ ap (λ (n : ℕ). drop (n + 1) (texts ws)) (position_texts bytes ws)
 
 -- ---- a text with these words: `(`, labels that are not `)`, `)` and perhaps letters
 
@@ -171,7 +172,7 @@ last_joined (b ∷ bs) = append-nil (b ∷ bs)
 
 pub letters_are : (text : List ℕ) (labels : List (List ℕ)) (letters : List ℕ) → AllByRecursion IsNoClose labels → HasWords text labels letters → letters_of text ≡ letters
 letters_are text labels letters shut h =
-    let after : texts (after_first (is_word (codes ")")) (drop 1 (words text))) ≡ last_word letters =
+    let after : texts (after_first (is (codes ")")) (drop 1 (words text))) ≡ last_word letters =
     after_texts (codes ")") (drop 1 (words text)) ∙ ap (after_first (is_text (codes ")"))) (behind_first text labels letters h)
     ∙ ap (λ (n : ℕ). drop (n + 1) (labels ++ codes ")" ∷ last_word letters)) (close_position labels (last_word letters) shut) ∙ drop_behind labels (codes ")") (last_word letters) in
-    joined_are (after_first (is_word (codes ")")) (drop 1 (words text))) ∙ ap (flat_map (λ (t : List ℕ). t)) after ∙ last_joined letters
+    joined_are (after_first (is (codes ")")) (drop 1 (words text))) ∙ ap (flat_map (λ (t : List ℕ). t)) after ∙ last_joined letters

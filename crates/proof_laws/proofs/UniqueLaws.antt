@@ -6,7 +6,7 @@ use Rattle.proof_model.specs.declared.code.What.TheVariants as what
 use Rattle.proof_model.specs.declared.code.Step.{Step}
 use Rattle.proof_model.specs.declared.code.Code.{Code}
 use Rattle.proof_model.specs.Codes.{step}
-use Rattle.proof_model.specs.ProofCode.{is_last, EndsNumber, SpellsWhat, SpellsSteps, IsThere, AreThere, Spells, mark, letters_of}
+use Rattle.proof_model.specs.ProofCode.{is_last, EndsNumber, SpellsWhat, SpellsSteps, IsInRange, AreInRange, Spells, mark, letters_of}
 use Rattle.proof_laws.proofs.LetterLaws.{leading_digit, last_digit, leading_not_last, cond_then, cond_else}
 
 -- what a number names, with m mandatory hypotheses and n labels
@@ -52,7 +52,7 @@ named_again m n k =
     ∙ cond_else (leb j (m + n)) (what.Listed (j - m - 1)) (what.Again (j - m - n - 1)) (lt-leb j (m + n) (omega arith))
     ∙ ap (λ (x : ℕ). what.Again x) number
 
-what_first : (m n marks : ℕ) (letters rest : List ℕ) (w : What) → SpellsWhat m n letters w → IsThere m n marks w → first_what m n 0 (letters ++ rest) ≡ Some (w, rest)
+what_first : (m n marks : ℕ) (letters rest : List ℕ) (w : What) → SpellsWhat m n letters w → IsInRange m n marks w → first_what m n 0 (letters ++ rest) ≡ Some (w, rest)
 what_first m n marks letters rest (what.Hyp k) s t = number_first m n 0 (k + 1) letters rest s ∙ ap (λ (w : What). Some (w, rest)) (named_hyp m n k t)
 what_first m n marks letters rest (what.Listed k) s t = number_first m n 0 (m + k + 1) letters rest s ∙ ap (λ (w : What). Some (w, rest)) (named_listed m n k t)
 what_first m n marks letters rest (what.Again k) s t = number_first m n 0 (m + n + k + 1) letters rest s ∙ ap (λ (w : What). Some (w, rest)) (named_again m n k)
@@ -92,7 +92,7 @@ mark_parts false false rest more h k e = (refl, e)
 
 -- what two steps that begin the same letters name, and what is behind
 step_parts : (m n marks : ℕ) (a b back more letters : List ℕ) (w v : What) → letters ≡ a ++ back → letters ≡ b ++ more → SpellsWhat m n a w → SpellsWhat m n b v
-    → IsThere m n marks w → IsThere m n marks v → (w ≡ v) × (back ≡ more)
+    → IsInRange m n marks w → IsInRange m n marks v → (w ≡ v) × (back ≡ more)
 step_parts m n marks a b back more letters w v e f s t there here =
     let both : Some (w, back) ≡ Some (v, more) = sym (what_first m n marks a back w s there) ∙ ap (first_what m n 0) (sym e ∙ f) ∙ what_first m n marks b more v t here in
     let pair : (w, back) ≡ (v, more) = cc in
@@ -109,12 +109,12 @@ same_code c d e f =
     let code : List (List ℕ) → List Step → Code = λ labels steps. record { labels = labels; steps = steps } in
     ap (λ (ls : List (List ℕ)). code ls c.steps) e ∙ ap (code d.labels) f
 
-none_left : (m n marks : ℕ) (letters : List ℕ) (x : Step) (xs : List Step) → letters ≡ [] → SpellsSteps m n letters (x ∷ xs) → AreThere m n marks (x ∷ xs) → ⊥
+none_left : (m n marks : ℕ) (letters : List ℕ) (x : Step) (xs : List Step) → letters ≡ [] → SpellsSteps m n letters (x ∷ xs) → AreInRange m n marks (x ∷ xs) → ⊥
 none_left m n marks letters x xs e (front, rest, whole, one, others) t =
     none_some (x.what, mark x.marked ++ rest)
     (ap (first_what m n 0) (sym e ∙ parts front one.front rest letters x.marked whole one.whole) ∙ what_first m n marks one.front (mark x.marked ++ rest) x.what one.what t.0)
 
-steps_one : (m n marks : ℕ) (letters : List ℕ) (xs ys : List Step) → SpellsSteps m n letters xs → SpellsSteps m n letters ys → AreThere m n marks xs → AreThere m n marks ys → xs ≡ ys
+steps_one : (m n marks : ℕ) (letters : List ℕ) (xs ys : List Step) → SpellsSteps m n letters xs → SpellsSteps m n letters ys → AreInRange m n marks xs → AreInRange m n marks ys → xs ≡ ys
 steps_one m n marks letters [] [] s t there here = refl
 steps_one m n marks letters [] (y ∷ ys) s t there here = absurd (none_left m n marks letters y ys s t here)
 steps_one m n marks letters (x ∷ xs) [] s t there here = absurd (none_left m n marks letters x xs t s there)
@@ -123,7 +123,7 @@ steps_one m n marks letters (x ∷ xs) (y ∷ ys) (front, rest, whole, one, othe
     (parts front one.front rest letters x.marked whole one.whole) (parts front' one'.front rest' letters y.marked whole' one'.whole) one.what one'.what there.0 here.0 in
     let second = mark_parts x.marked y.marked rest rest' (steps_open m n rest xs others) (steps_open m n rest' ys others') first.1 in
     let others'' : SpellsSteps m n rest ys = subst (λ (ls : List ℕ). SpellsSteps m n ls ys) (sym second.1) others' in
-    let here'' : AreThere m n (cond x.marked (suc marks) marks) ys = subst (λ (b : Bool). AreThere m n (cond b (suc marks) marks) ys) (sym second.0) here.1 in
+    let here'' : AreInRange m n (cond x.marked (suc marks) marks) ys = subst (λ (b : Bool). AreInRange m n (cond b (suc marks) marks) ys) (sym second.0) here.1 in
     let later = steps_one m n (cond x.marked (suc marks) marks) rest xs ys others others'' there.1 here'' in
     ap (λ (s : Step). s ∷ xs) (same_step x y first.0 second.0) ∙ ap (λ (ss : List Step). y ∷ ss) later
 
@@ -132,5 +132,5 @@ pub spells_one : (text : List ℕ) (mandatory : List (List ℕ)) (c d : Code) �
 spells_one text mandatory c d s t =
     let labels : d.labels ≡ c.labels = t.labels ∙ sym s.labels in
     let steps : SpellsSteps (length mandatory) (length c.labels) (letters_of text) d.steps = subst (λ (ls : List (List ℕ)). SpellsSteps (length mandatory) (length ls) (letters_of text) d.steps) labels t.steps in
-    let there : AreThere (length mandatory) (length c.labels) 0 d.steps = subst (λ (ls : List (List ℕ)). AreThere (length mandatory) (length ls) 0 d.steps) labels t.there in
-    same_code c d (sym labels) (steps_one (length mandatory) (length c.labels) 0 (letters_of text) c.steps d.steps s.steps steps s.there there)
+    let there : AreInRange (length mandatory) (length c.labels) 0 d.steps = subst (λ (ls : List (List ℕ)). AreInRange (length mandatory) (length ls) 0 d.steps) labels t.in_range in
+    same_code c d (sym labels) (steps_one (length mandatory) (length c.labels) 0 (letters_of text) c.steps d.steps s.steps steps s.in_range there)

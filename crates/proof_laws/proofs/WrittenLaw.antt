@@ -105,7 +105,7 @@ written_spells mandatory code h =
       bracketed = bracketed_is (spelled m code) code.labels letters words';
       labels = sym (labels_are (spelled m code) code.labels letters shut words');
       steps = subst (λ (ls : List ℕ). SpellsSteps m (length code.labels) ls code.steps) (sym (letters_are (spelled m code) code.labels letters shut words')) (spells_steps m (length code.labels) code.steps);
-      there = h.there;
+      in_range = h.in_range;
     }
 
 -- ---- no fault of the labels
@@ -149,7 +149,7 @@ written_sound mandatory code h a =
     let labels : labels_of text ≡ code.labels = labels_are text code.labels letters shut words' in
     let letters' : letters_of text ≡ letters = letters_are text code.labels letters shut words' in
     let no_label : label_fault mandatory code.labels ≡ None = labels_from mandatory [] code.labels a h.differ (all_new code.labels) in
-    let no_letter : letter_fault (m + length code.labels) letters ≡ None = letters_sound m (length code.labels) letters code.steps (spells_steps m (length code.labels) code.steps) h.there in
+    let no_letter : letter_fault (m + length code.labels) letters ≡ None = letters_sound m (length code.labels) letters code.steps (spells_steps m (length code.labels) code.steps) h.in_range in
     cond_then (is_bracketed text) (or_else (label_fault mandatory (labels_of text)) (letter_fault (m + length (labels_of text)) (letters_of text))) (Some (fault 0 6)) (bracketed_is text code.labels letters words')
     ∙ ap (λ (ls : List (List ℕ)). or_else (label_fault mandatory ls) (letter_fault (m + length ls) (letters_of text))) labels
     ∙ ap (λ (ls : List ℕ). or_else (label_fault mandatory code.labels) (letter_fault (m + length code.labels) ls)) letters'

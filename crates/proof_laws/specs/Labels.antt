@@ -18,4 +18,4 @@ IsNoGap label = bytes_eq label (codes "?") ≡ false
 -- a normal proof ends with the stack that its labels leave
 abbrev pub NormalRunsLabels : Frames → Theorem → Type 0
 NormalRunsLabels frames theorem = (labels : List (List ℕ)) (stack : List Formula) → AllByRecursion IsNoGap labels
-    → (stack_after frames theorem (normal_code labels) ≡ Ok stack) ↔ (and_then (λ st. Ok st.stack) (run_labels frames theorem labels start) ≡ Ok stack)
+    → (stack_after frames theorem (normal_code theorem.mandatory labels) ≡ Ok stack) ↔ (and_then (λ st. Ok st.stack) (run_labels frames theorem labels start) ≡ Ok stack)

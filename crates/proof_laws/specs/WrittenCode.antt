@@ -17,3 +17,7 @@ WrittenIsSound = (mandatory : List (List ℕ)) (code : Code) → IsWritable (len
 -- no text spells two codes
 abbrev pub SpellsOne : Type 0
 SpellsOne = (text : List ℕ) (mandatory : List (List ℕ)) (one other : Code) → Spells text mandatory one → Spells text mandatory other → one ≡ other
+
+-- each text without a fault spells one
+abbrev pub SoundSpells : Type 0
+SoundSpells = (text : List ℕ) (mandatory : List (List ℕ)) → code_fault text mandatory ≡ None → (code : Code) × Spells text mandatory code

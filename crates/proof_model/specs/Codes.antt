@@ -1,7 +1,8 @@
 -- The steps of a proof that is given as a tree or as a list of labels.
-use Rattle.std.specs.Prelude.{ℕ, suc, Bool, not, ◌&&◌, ◌==◌, nat_le, List, [], ◌∷◌, ◌++◌, length, flat_map, fold, unwrap_or, count_by, if◌then◌else◌, Option, Some, None, false, codes}
+use Rattle.std.specs.Prelude.{ℕ, Bool, not, ◌&&◌, ◌==◌, nat_le, List, [], ◌∷◌, ◌++◌, length, map, flat_map, fold, unwrap_or, count_by, if◌then◌else◌, Option, Some, None, false, codes}
 use Rattle.std.specs.List.{list_any}
 use Rattle.std.specs.Str.{bytes_eq}
+use Rattle.mm_model.specs.Frames.{without_repeats}
 use Rattle.mm_model.specs.Names.{contains, first_number}
 use Rattle.proof_model.specs.declared.code.What.{What}
 use Rattle.proof_model.specs.declared.code.What.TheVariants as what
@@ -12,16 +13,28 @@ use Rattle.proof_model.specs.Proofs.{Proof, Proofs, by, none, next, postorder, s
 abbrev pub step : What → Bool → Step
 step w marked = record { what = w; marked = marked }
 
+-- ---- labels by number
+
+abbrev pub number_in : List (List ℕ) → List ℕ → ℕ
+number_in names name = unwrap_or (first_number (bytes_eq name) names) 0
+
+-- a mandatory hypothesis by its number, and else one of these labels by its number
+abbrev pub what_of : List (List ℕ) → List (List ℕ) → List ℕ → What
+what_of mandatory labels name = if contains mandatory name then what.Hyp (number_in mandatory name) else what.Listed (number_in labels name)
+
 -- ---- normal proofs
 
--- each label by its number, which begins with k; a label `?` is a step that is not proved yet
-abbrev pub normal_steps : ℕ → List (List ℕ) → List Step
-normal_steps k [] = []
-normal_steps k (label ∷ labels) = step (if bytes_eq label (codes "?") then what.Unknown else what.Listed k) false ∷ normal_steps (suc k) labels
+-- a label `?` is a step that is not proved yet
+abbrev pub normal_step : List (List ℕ) → List (List ℕ) → List ℕ → Step
+normal_step mandatory labels label = step (if bytes_eq label (codes "?") then what.Unknown else what_of mandatory labels label) false
+
+-- the labels that are neither a mandatory hypothesis nor `?`, in order of first use
+abbrev pub other_labels : List (List ℕ) → List (List ℕ) → List (List ℕ)
+other_labels mandatory labels = without_repeats (codes "?" ∷ mandatory) labels
 
 -- the code of a normal proof: one unmarked step for each label
-abbrev pub normal_code : List (List ℕ) → Code
-normal_code labels = record { labels = labels; steps = normal_steps 0 labels }
+abbrev pub normal_code : List (List ℕ) → List (List ℕ) → Code
+normal_code mandatory labels = record { labels = other_labels mandatory labels; steps = map (normal_step mandatory (other_labels mandatory labels)) labels }
 
 -- ---- the compressed form of a proof
 
@@ -37,20 +50,9 @@ argument_places p = flat_map children (distinct_proofs (subproofs p))
 abbrev pub is_marked : List Proof → Proof → Bool
 is_marked places q = not (length (children q) == 0) && nat_le 2 (count_by (same_proof q) places)
 
--- the names that are not among those seen, each once
-abbrev pub distinct_names : List (List ℕ) → List (List ℕ) → List (List ℕ)
-distinct_names seen [] = []
-distinct_names seen (n ∷ ns) = if contains seen n then distinct_names seen ns else n ∷ distinct_names (n ∷ seen) ns
-
 -- the labels in the brackets: those that are no mandatory hypothesis, in order of first use
 abbrev pub listed_labels : List (List ℕ) → Proof → List (List ℕ)
-listed_labels mandatory p = distinct_names mandatory (postorder p)
-
-abbrev pub number_in : List (List ℕ) → List ℕ → ℕ
-number_in names name = unwrap_or (first_number (bytes_eq name) names) 0
-
-abbrev pub what_of : List (List ℕ) → List (List ℕ) → List ℕ → What
-what_of mandatory labels name = if contains mandatory name then what.Hyp (number_in mandatory name) else what.Listed (number_in labels name)
+listed_labels mandatory p = without_repeats mandatory (postorder p)
 
 -- the steps so far, and the subproofs that were marked, in order
 pub record Coding : Type 0 where

@@ -2,7 +2,7 @@
 use Rattle.std.specs.Prelude.{◌≡◌, ℕ, false, List, [], ◌∷◌, length, codes, refl}
 use Rattle.proof_model.specs.declared.code.What.TheVariants as what
 use Rattle.proof_model.specs.Proofs.{Proof, by, none, proofs, postorder}
-use Rattle.proof_model.specs.Codes.{step, normal_steps, code_of_proof}
+use Rattle.proof_model.specs.Codes.{step, normal_code, code_of_proof}
 use Rattle.proof_model.specs.ProofCode.{spelled}
 use Rattle.proof_model.specs.ExampleFrames.{split}
 
@@ -128,5 +128,14 @@ once = refl
 
 -- ---- normal proofs
 
-pub normal : normal_steps 0 (codes "wph" ∷ codes "?" ∷ codes "wph" ∷ []) ≡ step (what.Listed 0) false ∷ step what.Unknown false ∷ step (what.Listed 2) false ∷ []
+-- mandatory hypotheses by their numbers, `?`, and the other labels in order of first use
+pub normal : normal_code (split (codes "wph wps")) (split (codes "wph wps ax-1 wph ? vx ax-1")) ≡ record {
+  labels = split (codes "ax-1 vx");
+  steps = step (what.Hyp 0) false ∷ step (what.Hyp 1) false ∷ step (what.Listed 0) false ∷ step (what.Hyp 0) false ∷ step what.Unknown false ∷ step (what.Listed 1) false
+      ∷ step (what.Listed 0) false ∷ [];
+}
 normal = refl
+
+-- an empty proof has no steps
+pub empty : normal_code (codes "wph" ∷ []) [] ≡ record { labels = []; steps = [] }
+empty = refl

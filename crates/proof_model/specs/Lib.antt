@@ -2,6 +2,8 @@ pub mod Arities
 pub mod AritiesExamples
 pub mod Codes
 pub mod CodesExamples
+pub mod DatabaseProofs
+pub mod DatabaseProofsExamples
 pub mod ExampleFrames
 pub mod Machine
 pub mod MachineExamples

@@ -6,7 +6,7 @@ use Rattle.mm_model.specs.declared.frames.Hyp.{Hyp}
 use Rattle.proof_model.specs.declared.code.What.TheVariants as what
 use Rattle.proof_model.specs.declared.code.Code.{Code}
 use Rattle.proof_model.specs.declared.theorem.Theorem.{Theorem}
-use Rattle.proof_model.specs.Machine.{MachineFault, underflow, type_differs, hyp_differs, shared, not_distinct, not_earlier, left_over, result_differs, unknown, machine_code, substituted, proof_fault, Accepts, stack_after}
+use Rattle.proof_model.specs.Machine.{Frames, MachineFault, underflow, type_differs, hyp_differs, shared, not_distinct, not_earlier, left_over, result_differs, unknown, machine_code, substituted, proof_fault, Accepts, stack_after}
 use Rattle.proof_model.specs.Proofs.{postorder}
 use Rattle.proof_model.specs.Codes.{step, normal_code, code_of_proof}
 use Rattle.proof_model.specs.ProofCode.{Spells, code_fault}
@@ -17,8 +17,13 @@ use Rattle.proof_model.specs.ExampleFrames.{split, sym, formula, essential, pair
 abbrev theorem : List ℕ → List Hyp → List ℕ → List Pair → Theorem
 theorem text hyps mandatory pairs = record { at = 50; formula = formula text; hyps = floats ++ hyps; mandatory = split mandatory; pairs = pairs }
 
-abbrev listed : List ℕ → Code
-listed labels = normal_code (split labels)
+-- the code of a normal proof of the theorem
+abbrev listed : Theorem → List ℕ → Code
+listed thm labels = normal_code thm.mandatory (split labels)
+
+-- the fault of a normal proof of the theorem
+abbrev listed_fault : Frames → Theorem → List ℕ → Option (ℕ × MachineFault)
+listed_fault frames thm labels = proof_fault frames thm (listed thm labels)
 
 -- ---- accepted, as a compressed and as a normal proof
 
@@ -28,11 +33,11 @@ r_theorem = theorem (codes "|- ps") (essential (codes "r.1") (codes "|- ph") ∷
 pub r_accepted : Accepts logic r_theorem (code_of_proof r_theorem.mandatory r)
 r_accepted = refl
 
-pub r_normal_accepted : Accepts logic r_theorem (listed (codes "wph wps r.1 r.2 ax-mp"))
+pub r_normal_accepted : Accepts logic r_theorem (listed r_theorem (codes "wph wps r.1 r.2 ax-mp"))
 r_normal_accepted = refl
 
 -- the stack at the end
-pub r_stack : stack_after logic r_theorem (listed (codes "wph wps r.1 r.2 ax-mp")) ≡ Ok (formula (codes "|- ps") ∷ [])
+pub r_stack : stack_after logic r_theorem (listed r_theorem (codes "wph wps r.1 r.2 ax-mp")) ≡ Ok (formula (codes "|- ps") ∷ [])
 r_stack = refl
 
 abbrev th1_theorem : Theorem
@@ -41,7 +46,7 @@ th1_theorem = record { at = 17; formula = formula (codes "|- t = t"); hyps = tt'
 pub th1_accepted : Accepts demo th1_theorem (code_of_proof th1_theorem.mandatory th1)
 th1_accepted = refl
 
-pub th1_normal_accepted : Accepts demo th1_theorem (normal_code (postorder th1))
+pub th1_normal_accepted : Accepts demo th1_theorem (normal_code th1_theorem.mandatory (postorder th1))
 th1_normal_accepted = refl
 
 abbrev id_theorem : Theorem
@@ -97,7 +102,7 @@ good_spelled = record {
       (codes "C", [], refl, record { front = codes "C"; what = (refl, refl); whole = refl }, refl),
     ),
   );
-  there = (ltb-true 0 2 refl, (ltb-true 1 2 refl, (ltb-true 0 1 refl, tt)));
+  in_range = (ltb-true 0 2 refl, (ltb-true 1 2 refl, (ltb-true 0 1 refl, tt)));
 }
 
 pub good_accepted : Accepts logic good_theorem good
@@ -108,7 +113,7 @@ pub bad_code : code_fault (codes "( ) ZA") good_theorem.mandatory ≡ Some (reco
 bad_code = refl
 
 -- another formula
-pub wrong : proof_fault logic (theorem (codes "|- ( ph -> ( ph -> ph ) )") [] (codes "wph") []) (listed (codes "wph wps ax-1")) ≡ Some (3, result_differs)
+pub wrong : listed_fault logic (theorem (codes "|- ( ph -> ( ph -> ph ) )") [] (codes "wph") []) (codes "wph wps ax-1") ≡ Some (3, result_differs)
 wrong = refl
 
 -- ---- the faults, each at least once
@@ -117,7 +122,7 @@ abbrev some_theorem : Theorem
 some_theorem = theorem (codes "|- ph") (essential (codes "h.1") (codes "|- ph") ∷ essential (codes "h.2") (codes "|- ( ph -> ps )") ∷ []) (codes "wph h.1 h.2") []
 
 abbrev faults : List (List ℕ) → List (Option (ℕ × MachineFault))
-faults proofs = map (λ labels. proof_fault logic some_theorem (listed labels)) proofs
+faults proofs = map (listed_fault logic some_theorem) proofs
 
 -- 1: fewer entries than hypotheses
 pub too_few : faults (codes "wi" ∷ codes "wph wi" ∷ codes "wph wps h.1 ax-mp" ∷ []) ≡ Some (0, underflow) ∷ Some (1, underflow) ∷ Some (3, underflow) ∷ []
@@ -179,8 +184,8 @@ three_apart = pair (codes "ph") (codes "ps") ∷ pair (codes "ph") (codes "ch") 
 
 abbrev apart_fault : List Pair → List ℕ → Option (ℕ × MachineFault)
 apart_fault pairs labels =
-    proof_fault (frames_of (assertion (codes "wi") 1 (codes "wff ( ph -> ps )") (wph ∷ wps ∷ []) []
-    ∷ assertion (codes "apart") 2 (codes "|- ph") (wph ∷ wps ∷ wch ∷ []) three_apart ∷ [])) (theorem (codes "|- ph") [] [] pairs) (listed labels)
+    listed_fault (frames_of (assertion (codes "wi") 1 1 (codes "wff ( ph -> ps )") (wph ∷ wps ∷ []) []
+    ∷ assertion (codes "apart") 2 2 (codes "|- ph") (wph ∷ wps ∷ wch ∷ []) three_apart ∷ [])) (theorem (codes "|- ph") [] [] pairs) labels
 
 -- the first pair has no pair of the theorem, but a later one shares a variable: 4 goes before 5 for all pairs
 pub four_first : apart_fault [] (codes "wph wps wps apart") ≡ Some (3, shared (sym (codes "ps")) (sym (codes "ch")) (sym (codes "ps")))
@@ -193,8 +198,8 @@ least_shared = refl
 -- of the variables of a pair that are no pair of the theorem, the least are told: by the number of the first, and then of the second
 abbrev two_fault : List Pair → List ℕ → Option (ℕ × MachineFault)
 two_fault pairs labels =
-    proof_fault (frames_of (assertion (codes "wi") 1 (codes "wff ( ph -> ps )") (wph ∷ wps ∷ []) []
-    ∷ assertion (codes "two") 2 (codes "|- ph") (wph ∷ wps ∷ []) (pair (codes "ph") (codes "ps") ∷ []) ∷ [])) (theorem (codes "|- ph") [] [] pairs) (listed labels)
+    listed_fault (frames_of (assertion (codes "wi") 1 1 (codes "wff ( ph -> ps )") (wph ∷ wps ∷ []) []
+    ∷ assertion (codes "two") 2 2 (codes "|- ph") (wph ∷ wps ∷ []) (pair (codes "ph") (codes "ps") ∷ []) ∷ [])) (theorem (codes "|- ph") [] [] pairs) labels
 
 pub least_lacking : map (λ pairs. two_fault pairs (codes "wch wph wi wps two")) ([] ∷ (pair (codes "ph") (codes "ps") ∷ [])
     ∷ (pair (codes "ph") (codes "ps") ∷ pair (codes "ps") (codes "ch") ∷ []) ∷ [])

@@ -5,6 +5,7 @@ use Rattle.std.specs.Str.{bytes_eq}
 use Rattle.mm_model.specs.Words.{Word, words, is_white}
 use Rattle.mm_model.specs.Faults.{Fault, fault, or_else, first_fault}
 use Rattle.mm_model.specs.Names.{contains, has_twice}
+use Rattle.mm_model.specs.Statements.{is}
 use Rattle.proof_model.specs.declared.code.What.{What}
 use Rattle.proof_model.specs.declared.code.What.TheVariants as what
 use Rattle.proof_model.specs.declared.code.Step.{Step}
@@ -53,31 +54,28 @@ abbrev pub SpellsSteps : ℕ → ℕ → List ℕ → List Step → Type 0
 SpellsSteps m n letters [] = letters ≡ []
 SpellsSteps m n letters (s ∷ ss) = (front : List ℕ) × (rest : List ℕ) × (letters ≡ front ++ rest) × SpellsStep m n front s × SpellsSteps m n rest ss
 
--- what a step names is there: a mandatory hypothesis, a label, or one of the marks so far
-abbrev pub IsThere : ℕ → ℕ → ℕ → What → Type 0
-IsThere m n marks (what.Hyp k) = k < m
-IsThere m n marks (what.Listed k) = k < n
-IsThere m n marks (what.Again k) = k < marks
-IsThere m n marks what.Unknown = Unit {0}
+-- what a step names has a number in range: of a mandatory hypothesis, of a label, or of one of the marks so far
+abbrev pub IsInRange : ℕ → ℕ → ℕ → What → Type 0
+IsInRange m n marks (what.Hyp k) = k < m
+IsInRange m n marks (what.Listed k) = k < n
+IsInRange m n marks (what.Again k) = k < marks
+IsInRange m n marks what.Unknown = Unit {0}
 
-abbrev pub AreThere : ℕ → ℕ → ℕ → List Step → Type 0
-AreThere m n marks [] = Unit {0}
-AreThere m n marks (s ∷ ss) = IsThere m n marks s.what × AreThere m n (if s.marked then suc marks else marks) ss
+abbrev pub AreInRange : ℕ → ℕ → ℕ → List Step → Type 0
+AreInRange m n marks [] = Unit {0}
+AreInRange m n marks (s ∷ ss) = IsInRange m n marks s.what × AreInRange m n (if s.marked then suc marks else marks) ss
 
 -- ---- the parts of a text: `(`, labels, `)`, and letters in which white space is passed over
 
-abbrev pub is_word : List ℕ → Word → Bool
-is_word bytes w = bytes_eq w.bytes bytes
-
 abbrev pub labels_of : List ℕ → List (List ℕ)
-labels_of text = map (λ w. w.bytes) (before_first (is_word (codes ")")) (drop 1 (words text)))
+labels_of text = map (λ w. w.bytes) (before_first (is (codes ")")) (drop 1 (words text)))
 
 abbrev pub letters_of : List ℕ → List ℕ
-letters_of text = flat_map (λ w. w.bytes) (after_first (is_word (codes ")")) (drop 1 (words text)))
+letters_of text = flat_map (λ w. w.bytes) (after_first (is (codes ")")) (drop 1 (words text)))
 
 abbrev pub opens_bracket : List Word → Bool
 opens_bracket [] = false
-opens_bracket (w ∷ ws) = is_word (codes "(") w && list_any (is_word (codes ")")) ws
+opens_bracket (w ∷ ws) = is (codes "(") w && list_any (is (codes ")")) ws
 
 -- the first word is `(`, and some word behind it is `)`
 abbrev pub is_bracketed : List ℕ → Bool
@@ -88,7 +86,7 @@ pub record Spells (text : List ℕ) (mandatory : List (List ℕ)) (code : Code) 
   pub bracketed : is_bracketed text ≡ true
   pub labels : code.labels ≡ labels_of text
   pub steps : SpellsSteps (length mandatory) (length code.labels) (letters_of text) code.steps
-  pub there : AreThere (length mandatory) (length code.labels) 0 code.steps
+  pub in_range : AreInRange (length mandatory) (length code.labels) 0 code.steps
 
 -- ---- the faults
 
@@ -113,13 +111,13 @@ abbrev pub just_after : (ℕ → Bool) → List ℕ → Bool
 just_after test [] = false
 just_after test (b ∷ before) = test b
 
--- 1: a letter other than `A` to `Z` and `?`
+-- 1: a byte other than `A` to `Z` and `?`
 abbrev pub bad_letter : List ℕ → ℕ → Bool
 bad_letter before b = not (nat_le 65 b && nat_le b 90) && not (b == 63)
 
--- 2: at its last letter, a number above the hypotheses, the labels and the marks so far
+-- 2: at its last letter, a number above the count of the hypotheses and labels and of the marks so far
 abbrev pub number_too_large : ℕ → List ℕ → ℕ → Bool
-number_too_large there before b = is_last b && nat_lt (there + marks_before before) (number_at before b)
+number_too_large known before b = is_last b && nat_lt (known + marks_before before) (number_at before b)
 
 -- 3: `Z` before any step
 abbrev pub mark_at_start : List ℕ → ℕ → Bool
@@ -135,7 +133,7 @@ unended_number before b = (b == 90 || b == 63) && just_after is_leading before
 
 -- at one letter 5 comes before 3 and 4
 abbrev pub letter_rules : ℕ → List (ℕ × (List ℕ → ℕ → Bool))
-letter_rules there = (1, bad_letter) ∷ (2, number_too_large there) ∷ (5, unended_number) ∷ (3, mark_at_start) ∷ (4, mark_twice) ∷ []
+letter_rules known = (1, bad_letter) ∷ (2, number_too_large known) ∷ (5, unended_number) ∷ (3, mark_at_start) ∷ (4, mark_twice) ∷ []
 
 abbrev pub index : {X : Type 0} → List X → X → ℕ
 index before x = length before
@@ -145,7 +143,7 @@ abbrev pub letters_end : List ℕ → Option Fault
 letters_end before = if just_after is_leading before then Some (fault (length before) 5) else None
 
 abbrev pub letter_fault : ℕ → List ℕ → Option Fault
-letter_fault there letters = or_else (first_fault index (letter_rules there) [] letters) (letters_end (reverse letters))
+letter_fault known letters = or_else (first_fault index (letter_rules known) [] letters) (letters_end (reverse letters))
 
 abbrev pub label_fault : List (List ℕ) → List (List ℕ) → Option Fault
 label_fault mandatory labels = first_fault index (label_rules mandatory) [] labels
@@ -199,4 +197,4 @@ is_listable label = not (length label == 0) && list_all (λ b. not (is_white b))
 pub record IsWritable (m : ℕ) (code : Code) : Type 0 where
   pub labels : list_all is_listable code.labels ≡ true
   pub differ : has_twice code.labels ≡ false
-  pub there : AreThere m (length code.labels) 0 code.steps
+  pub in_range : AreInRange m (length code.labels) 0 code.steps

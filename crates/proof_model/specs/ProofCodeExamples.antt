@@ -30,13 +30,13 @@ parts = refl
 pub letters : letters_of (codes "( a b ) AB C Z") ≡ codes "ABCZ"
 letters = refl
 
--- ---- the faults, each at least once; a's are the mandatory hypotheses
+-- ---- the faults, each at least once; there are two mandatory hypotheses
 
-abbrev a's : List (List ℕ)
-a's = codes "a1" ∷ codes "a2" ∷ []
+abbrev mandatory : List (List ℕ)
+mandatory = codes "a1" ∷ codes "a2" ∷ []
 
 abbrev faults : List (List ℕ) → List (Option Fault)
-faults texts = map (λ t. code_fault t a's) texts
+faults texts = map (λ t. code_fault t mandatory) texts
 
 abbrev at : ℕ → ℕ → Option Fault
 at i code = Some (fault i code)
@@ -93,7 +93,7 @@ three = record {
 pub three_spelled : spelled 2 three ≡ codes "( ax-1 ) ABZCD?"
 three_spelled = refl
 
-pub three_spells : Spells (codes "( ax-1 ) AB ZCD ?") a's three
+pub three_spells : Spells (codes "( ax-1 ) AB ZCD ?") mandatory three
 three_spells = record {
   bracketed = refl;
   labels = refl;
@@ -122,11 +122,11 @@ three_spells = record {
       ),
     ),
   );
-  there = (ltb-true 0 2 refl, (ltb-true 1 2 refl, (ltb-true 0 1 refl, (ltb-true 0 1 refl, (tt, tt)))));
+  in_range = (ltb-true 0 2 refl, (ltb-true 1 2 refl, (ltb-true 0 1 refl, (ltb-true 0 1 refl, (tt, tt)))));
 }
 
 pub three_writable : IsWritable 2 three
-three_writable = record { labels = refl; differ = refl; there = three_spells.there }
+three_writable = record { labels = refl; differ = refl; in_range = three_spells.in_range }
 
 pub listable : map is_listable (codes "ax-1" ∷ [] ∷ codes "a b" ∷ codes ")" ∷ codes "(" ∷ []) ≡ true ∷ false ∷ false ∷ false ∷ true ∷ []
 listable = refl

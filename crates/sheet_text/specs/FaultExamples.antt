@@ -1,8 +1,9 @@
 -- The faults of small worksheets, computed.
-use Rattle.std.specs.Prelude.{◌≡◌, ℕ, ◌^◌, true, ◌==◌, if◌then◌else◌, nat_lt, List, [], ◌∷◌, ◌++◌, length, map, Option, Some, None, codes, refl, flat_map}
+use Rattle.std.specs.Prelude.{◌≡◌, ℕ, true, ◌==◌, if◌then◌else◌, nat_lt, List, [], ◌∷◌, ◌++◌, length, map, Option, Some, None, codes, refl, flat_map}
 use Rattle.std.specs.List.{slice_split}
 use Rattle.std.proofs.Common.{ap}
 use Rattle.mm_model.specs.Faults.{Fault, fault}
+use Rattle.mm_model.specs.Limits.{most_sheet_bytes}
 use Rattle.sheet_text.specs.Layout.{ended}
 use Rattle.sheet_text.specs.TextFaults.{text_fault, line_fault}
 
@@ -120,5 +121,5 @@ good_distinct = refl
 
 -- ---- 50: line 1, whatever else there is
 
-pub too_big : (bytes : List ℕ) → nat_lt (2 ^ 24) (length bytes) ≡ true → text_fault bytes ≡ at 1 50
+pub too_big : (bytes : List ℕ) → nat_lt most_sheet_bytes (length bytes) ≡ true → text_fault bytes ≡ at 1 50
 too_big bytes e = ap (λ b. if b then at 1 50 else line_fault bytes) e

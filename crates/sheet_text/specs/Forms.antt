@@ -1,5 +1,6 @@
 -- The forms of a header and of a step.
 use Rattle.std.specs.Prelude.{ℕ, Bool, true, false, not, ◌&&◌, ◌||◌, ◌==◌, List, [], ◌∷◌, length, map, drop, nat_eq, if◌then◌else◌, Option, Some, None, option_and_then, codes}
+use Rattle.std.specs.Bool.{then_some}
 use Rattle.std.specs.Str.{bytes_eq}
 use Rattle.std.specs.List.{list_all, starts_with, slice_split}
 use Rattle.mm_model.specs.Labels.{is_label}
@@ -7,13 +8,9 @@ use Rattle.mm_model.specs.Labels.{is_label}
 abbrev pub is_gap : List ℕ → Bool
 is_gap bytes = bytes_eq bytes (codes "?")
 
-abbrev pub some_if : {X : Type 0} → Bool → X → Option X
-some_if true x = Some x
-some_if false x = None
-
 -- what follows a prefix
 abbrev pub after_prefix : List ℕ → List ℕ → Option (List ℕ)
-after_prefix p bytes = some_if (starts_with nat_eq bytes p) (drop (length p) bytes)
+after_prefix p bytes = then_some (starts_with nat_eq bytes p) (drop (length p) bytes)
 
 -- a header: the theorem's name, and the label of LOC_AFTER where one is given
 pub record Header : Type 0 where
@@ -22,7 +19,7 @@ pub record Header : Type 0 where
 
 -- nothing, `?` or a label
 abbrev pub loc_of : List ℕ → Option (Option (List ℕ))
-loc_of bytes = if length bytes == 0 || is_gap bytes then Some None else some_if (is_label bytes) (Some bytes)
+loc_of bytes = if length bytes == 0 || is_gap bytes then Some None else then_some (is_label bytes) (Some bytes)
 
 -- at most one token: `LOC_AFTER=` with nothing, `?` or a label
 abbrev pub loc_in : List (List ℕ) → Option (Option (List ℕ))
@@ -71,11 +68,11 @@ abbrev pub is_reference : Bool → List ℕ → Bool
 is_reference hyp bytes = is_label bytes || (not hyp && (length bytes == 0 || is_gap bytes))
 
 abbrev pub reference_of : List ℕ → Option (List ℕ)
-reference_of bytes = some_if (is_label bytes) bytes
+reference_of bytes = then_some (is_label bytes) bytes
 
 abbrev pub step_with : Bool → List ℕ → List (List ℕ) → List ℕ → List (List ℕ) → Option StepForm
 step_with hyp name parts reference formula =
-    some_if (is_label name && list_all is_entry parts && is_reference hyp reference)
+    then_some (is_label name && list_all is_entry parts && is_reference hyp reference)
     (record { hyp = hyp; name = name; entries = map entry_of parts; reference = reference_of reference; formula = formula })
 
 -- the token is `name:places:reference`, with two colons

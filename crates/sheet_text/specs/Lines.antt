@@ -35,21 +35,21 @@ abbrev pub is_blank : Line → Bool
 is_blank l = length l.bytes == 0
 
 -- the lines of a text that are not blank, numbered from 1
-abbrev pub written_lines : List ℕ → List Line
-written_lines text = filter (λ l. not (is_blank l)) (numbered_from 1 (lines text))
+abbrev pub lines_not_blank : List ℕ → List Line
+lines_not_blank text = filter (λ l. not (is_blank l)) (numbered_from 1 (lines text))
 
 -- the number of lines, plus one
 abbrev pub line_past_end : List ℕ → ℕ
 line_past_end text = suc (length (lines text))
 
 -- the first byte is there and is not white space
-abbrev pub starts_inked : List ℕ → Bool
-starts_inked [] = false
-starts_inked (b ∷ bs) = not (is_white b)
+abbrev pub first_is_not_white : List ℕ → Bool
+first_is_not_white [] = false
+first_is_not_white (b ∷ bs) = not (is_white b)
 
 -- the line begins in column 1
 abbrev pub begins : Line → Bool
-begins l = starts_inked l.bytes
+begins l = first_is_not_white l.bytes
 
 -- the runs of bytes that are not white space
 abbrev pub tokens : Line → List (List ℕ)

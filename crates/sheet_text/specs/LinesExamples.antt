@@ -1,6 +1,6 @@
 -- Lines and their tokens, computed.
 use Rattle.std.specs.Prelude.{◌≡◌, true, false, [], ◌∷◌, ◌++◌, codes, map, refl}
-use Rattle.sheet_text.specs.Lines.{line, lines, trim_end, written_lines, line_past_end, begins, tokens}
+use Rattle.sheet_text.specs.Lines.{line, lines, trim_end, lines_not_blank, line_past_end, begins, tokens}
 
 pub no_line : lines [] ≡ []
 no_line = refl
@@ -18,7 +18,7 @@ pub trimmed : trim_end (codes " a b " ++ 9 ∷ 13 ∷ 12 ∷ 32 ∷ []) ≡ code
 trimmed = refl
 
 -- blank lines are passed over and counted
-pub numbered : written_lines (codes "a" ++ 10 ∷ codes "  " ++ 10 ∷ codes " b" ++ 13 ∷ 10 ∷ []) ≡ line 1 (codes "a") ∷ line 3 (codes " b") ∷ []
+pub numbered : lines_not_blank (codes "a" ++ 10 ∷ codes "  " ++ 10 ∷ codes " b" ++ 13 ∷ 10 ∷ []) ≡ line 1 (codes "a") ∷ line 3 (codes " b") ∷ []
 numbered = refl
 
 pub past : line_past_end (codes "a" ++ 10 ∷ 10 ∷ []) ≡ 3

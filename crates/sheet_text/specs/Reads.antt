@@ -12,7 +12,7 @@ use Rattle.sheet_text.specs.declared.sheet.Sheet.{Sheet}
 use Rattle.sheet_text.specs.Lines.{Line}
 use Rattle.sheet_text.specs.SheetStatements.{Statement, statements, line_of, tokens_in, is_footer, is_distinct, is_comment}
 use Rattle.sheet_text.specs.Forms.{Header, StepForm, header_of}
-use Rattle.sheet_text.specs.TextFaults.{step_in, symbols_of, text_fault}
+use Rattle.sheet_text.specs.TextFaults.{step_in, symbols_of, line_fault}
 
 -- a place names an earlier step; it is kept as that step's number among the steps, from 0
 abbrev pub given_of : List (List ℕ) → Option (List ℕ) → Given
@@ -46,9 +46,9 @@ abbrev pub sheet_in : List Statement → Option Sheet
 sheet_in [] = None
 sheet_in (s ∷ ss) = sheet_with (line_of s) (header_of (tokens_in s)) (take_while (λ t. not (is_footer t)) ss)
 
--- the text has no fault, and reads as the sheet
+-- the text has no fault of 40 to 49, and reads as the sheet; whether it is too long is judged before it is read
 pub record Reads (text : List ℕ) (sheet : Sheet) : Type 0 where
-  pub sound : text_fault text ≡ None
+  pub sound : line_fault text ≡ None
   pub says : sheet_in (statements text) ≡ Some sheet
 
 abbrev pub unnumbered_item : SheetItem → SheetItem
@@ -62,8 +62,8 @@ unnumbered_pairs p = record p { line = 0 }
 abbrev pub unnumbered : Sheet → Sheet
 unnumbered s = record { line = 0; theorem = s.theorem; loc = s.loc; items = map unnumbered_item s.items; pairs = map unnumbered_pairs s.pairs }
 
--- the text reads as the sheet with each line number 0
+-- the text reads as the sheet, but for the numbers of lines
 pub record ReadsAs (text : List ℕ) (sheet : Sheet) : Type 0 where
   pub read : Sheet
   pub reads : Reads text read
-  pub same : unnumbered read ≡ sheet
+  pub same : unnumbered read ≡ unnumbered sheet

@@ -80,5 +80,9 @@ pub open_read : Reads open_text (record {
 })
 open_read = record { sound = refl; says = refl }
 
+-- the numbers of the lines of the sheet do not matter
 pub three_steps_as : ReadsAs three_steps (unnumbered three_steps_sheet)
 three_steps_as = record { read = three_steps_sheet; reads = three_steps_read; same = refl }
+
+pub three_steps_itself : ReadsAs three_steps three_steps_sheet
+three_steps_itself = record { read = three_steps_sheet; reads = three_steps_read; same = refl }

@@ -1,21 +1,17 @@
 -- The statements of a worksheet.
-use Rattle.std.specs.Prelude.{ℕ, Bool, true, false, not, ◌&&◌, ◌==◌, List, [], ◌∷◌, if◌then◌else◌, take_while, Option, Some, None, codes}
+use Rattle.std.specs.Prelude.{ℕ, Bool, true, false, not, ◌&&◌, ◌==◌, List, [], ◌∷◌, if◌then◌else◌, take_while, slice_get, Option, Some, None, codes}
 use Rattle.std.specs.List.{last_or}
 use Rattle.std.specs.Str.{bytes_eq}
-use Rattle.sheet_text.specs.Lines.{Line, begins, tokens, tokens_of, written_lines}
+use Rattle.sheet_text.specs.Lines.{Line, begins, tokens, tokens_of, lines_not_blank}
 
 -- a token is there and is this word
 abbrev pub is_word : List ℕ → Option (List ℕ) → Bool
 is_word w None = false
 is_word w (Some t) = bytes_eq t w
 
-abbrev pub first : List (List ℕ) → Option (List ℕ)
-first [] = None
-first (t ∷ ts) = Some t
-
 -- the line begins in column 1 with the token `$=`
 abbrev pub opens_proof : Line → Bool
-opens_proof l = begins l && is_word (codes "$=") (first (tokens l))
+opens_proof l = begins l && is_word (codes "$=") (slice_get (tokens l) 0)
 
 -- the line's last token is `$.`
 abbrev pub ends_proof : Line → Bool
@@ -40,7 +36,7 @@ statements_where false (l ∷ ls) =
     else statements_where false ls)
 
 abbrev pub statements : List ℕ → List Statement
-statements text = statements_where false (written_lines text)
+statements text = statements_where false (lines_not_blank text)
 
 -- the number of its first line
 abbrev pub line_of : Statement → ℕ
@@ -50,7 +46,7 @@ abbrev pub tokens_in : Statement → List (List ℕ)
 tokens_in s = tokens_of (s.opening ∷ s.more)
 
 abbrev pub opens_with : List ℕ → Statement → Bool
-opens_with w s = is_word w (first (tokens_in s))
+opens_with w s = is_word w (slice_get (tokens_in s) 0)
 
 abbrev pub is_footer : Statement → Bool
 is_footer s = opens_with (codes "$)") s

@@ -12,7 +12,8 @@ use Rattle.sheet_text.specs.declared.sheet.SheetItem.{SheetItem}
 use Rattle.sheet_text.specs.declared.sheet.SheetItem.TheVariants as item
 use Rattle.sheet_text.specs.declared.sheet.PairLine.{PairLine}
 use Rattle.sheet_text.specs.declared.sheet.Sheet.{Sheet}
-use Rattle.sheet_text.specs.Lines.{starts_inked}
+use Rattle.sheet_text.specs.Forms.{marked_name}
+use Rattle.sheet_text.specs.Lines.{first_is_not_white}
 use Rattle.sheet_text.specs.SheetStatements.{starts_with_star}
 use Rattle.sheet_text.specs.TextFaults.{is_bad_distinct}
 use Rattle.sheet_text.specs.Layout.{steps, step_names}
@@ -20,10 +21,6 @@ use Rattle.sheet_text.specs.Layout.{steps, step_names}
 -- bytes without white space, at least one
 abbrev pub is_token : List ℕ → Bool
 is_token bytes = not (length bytes == 0) && list_all (λ b. not (is_white b)) bytes
-
-abbrev pub begins_with_h : List ℕ → Bool
-begins_with_h [] = false
-begins_with_h (b ∷ bs) = b == 104
 
 -- the place is a `?`, or one of the first so many steps
 abbrev pub is_place_below : ℕ → Given → Bool
@@ -34,7 +31,7 @@ is_place_below n (given.Step k) = nat_lt k n
 -- its reference is a label, and a hypothesis has one; its formula has tokens.
 abbrev pub is_step_spellable : ℕ → SheetStep → Bool
 is_step_spellable n s =
-    is_label s.name && (s.hyp || not (begins_with_h s.name)) && list_all (is_place_below n) s.places
+    is_label s.name && (s.hyp || not (marked_name s.name).0) && list_all (is_place_below n) s.places
     && option_map_or is_label s.reference (not s.hyp) && list_all is_token s.formula
 
 -- the steps from number n on
@@ -43,16 +40,16 @@ are_steps_spellable n [] = true
 are_steps_spellable n (s ∷ ss) = is_step_spellable n s && are_steps_spellable (suc n) ss
 
 -- the last byte is there and is not white space
-abbrev pub ends_inked : List ℕ → Bool
-ends_inked bytes = option_map_or (λ b. not (is_white b)) (last_or None bytes) false
+abbrev pub last_is_not_white : List ℕ → Bool
+last_is_not_white bytes = option_map_or (λ b. not (is_white b)) (last_or None bytes) false
 
 abbrev pub is_comment_line : List ℕ → Bool
-is_comment_line bytes = ends_inked bytes && list_all (λ b. not (b == 10)) bytes
+is_comment_line bytes = last_is_not_white bytes && list_all (λ b. not (b == 10)) bytes
 
 -- a first line that begins with `*`, and lines that begin with white space
 abbrev pub is_comment_spellable : List (List ℕ) → Bool
 is_comment_spellable [] = false
-is_comment_spellable (l ∷ ls) = starts_with_star l && list_all is_comment_line (l ∷ ls) && list_all (λ m. not (starts_inked m)) ls
+is_comment_spellable (l ∷ ls) = starts_with_star l && list_all is_comment_line (l ∷ ls) && list_all (λ m. not (first_is_not_white m)) ls
 
 abbrev pub is_item_spellable : SheetItem → Bool
 is_item_spellable (item.Comment lines) = is_comment_spellable lines

@@ -1,12 +1,13 @@
 -- The first fault of a worksheet's text.
-use Rattle.std.specs.Prelude.{ℕ, ◌^◌, Bool, false, not, ◌&&◌, ◌||◌, ◌==◌, List, [], ◌∷◌, length, nat_lt, is_none, if◌then◌else◌, filter_map, Option, Some, None, option_map, codes}
+use Rattle.std.specs.Prelude.{ℕ, Bool, false, not, ◌&&◌, ◌||◌, ◌==◌, List, [], ◌∷◌, length, nat_lt, is_none, if◌then◌else◌, filter_map, slice_get, Option, Some, None, option_map, codes}
 use Rattle.std.specs.Option.{option_map_or}
 use Rattle.std.specs.Str.{bytes_eq}
 use Rattle.std.specs.List.{list_any}
 use Rattle.mm_model.specs.Faults.{Fault, fault, earlier, or_else, first_fault}
+use Rattle.mm_model.specs.Limits.{most_sheet_bytes}
 use Rattle.mm_model.specs.Names.{contains, has_twice}
-use Rattle.sheet_text.specs.Lines.{Line, begins, tokens, written_lines, line_past_end}
-use Rattle.sheet_text.specs.SheetStatements.{Statement, statements, line_of, tokens_in, is_word, first, is_footer, is_distinct, is_proof, is_comment, ends_proof}
+use Rattle.sheet_text.specs.Lines.{Line, begins, tokens, lines_not_blank, line_past_end}
+use Rattle.sheet_text.specs.SheetStatements.{Statement, statements, line_of, tokens_in, is_word, is_footer, is_distinct, is_proof, is_comment, ends_proof}
 use Rattle.sheet_text.specs.Forms.{StepForm, header_of, step_of}
 
 -- a statement as a step, where it has that form
@@ -68,7 +69,7 @@ statement_rules = (44, bad_step) ∷ (45, name_twice) ∷ (46, hyp_unknown) ∷ 
 -- 40: the first line that is not blank does not begin in column 1 with the token `$(`, or there is none
 abbrev pub no_header : ℕ → List Line → Option Fault
 no_header past [] = Some (fault past 40)
-no_header past (l ∷ ls) = if begins l && is_word (codes "$(") (first (tokens l)) then None else Some (fault l.number 40)
+no_header past (l ∷ ls) = if begins l && is_word (codes "$(") (slice_get (tokens l) 0) then None else Some (fault l.number 40)
 
 -- 41: the first statement is no header; then the rules of the others
 abbrev pub statement_fault : List Statement → Option Fault
@@ -96,9 +97,9 @@ closing_fault past ls (s ∷ ss) =
 
 -- the first fault of 40 to 49, by line and then code
 abbrev pub line_fault : List ℕ → Option Fault
-line_fault text = or_else (no_header (line_past_end text) (written_lines text))
-    (earlier (statement_fault (statements text)) (closing_fault (line_past_end text) (written_lines text) (statements text)))
+line_fault text = or_else (no_header (line_past_end text) (lines_not_blank text))
+    (earlier (statement_fault (statements text)) (closing_fault (line_past_end text) (lines_not_blank text) (statements text)))
 
 -- 50: more than 2^24 bytes, before all others
 abbrev pub text_fault : List ℕ → Option Fault
-text_fault text = if nat_lt (2 ^ 24) (length text) then Some (fault 1 50) else line_fault text
+text_fault text = if nat_lt most_sheet_bytes (length text) then Some (fault 1 50) else line_fault text

@@ -6,6 +6,7 @@ use Rattle.std.specs.Str.{bytes_eq}
 use Rattle.mm_base.specs.declared.symbols.Sym.{Sym}
 use Rattle.mm_model.specs.Faults.{Fault}
 use Rattle.mm_model.specs.Labels.{is_label_byte}
+use Rattle.mm_model.specs.Limits.{most_formula_tokens}
 use Rattle.mm_model.specs.Names.{Name}
 use Rattle.mm_model.specs.Book.{Database, label_of, symbol_of}
 use Rattle.sheet_text.specs.declared.sheet.Sheet.{Sheet}
@@ -63,7 +64,7 @@ wants_formula t = (t.hyp || is_qed t) && is_blank t
 
 -- 71: a formula of more than 4,096 tokens
 abbrev pub formula_long : SheetStep → Bool
-formula_long t = nat_lt 4096 (length t.formula)
+formula_long t = nat_lt most_formula_tokens (length t.formula)
 
 -- 72: an `h` step's label that an earlier one has
 abbrev pub hyp_label_twice : Sheet → ℕ → SheetStep → Bool

@@ -1,5 +1,6 @@
 -- Formulas of a worksheet: what a token is, and the trees of a formula.
 use Rattle.std.specs.Prelude.{◌≡◌, ℕ, ◌+◌, ◌-◌, ◌*◌, ◌^◌, Bool, ◌&&◌, List, ◌∷◌, ◌++◌, drop, nat_lt, if◌then◌else◌, fold, filter_map, slice_get, decimal, Option, Some, None, option_map, option_and_then, codes, is_some}
+use Rattle.std.specs.Bool.{then_some}
 use Rattle.std.specs.Str.{bytes_eq}
 use Rattle.mm_base.specs.declared.symbols.Sym.{Sym}
 use Rattle.mm_base.specs.declared.symbols.Typecode.{Typecode}
@@ -9,7 +10,7 @@ use Rattle.mm_model.specs.declared.rows.Leaf.TheVariants as leaf
 use Rattle.mm_model.specs.Names.{Name}
 use Rattle.mm_model.specs.Typed.{Parses}
 use Rattle.mm_model.specs.Book.{Database, symbol_of, symbol_name, logic_code, declared_leaf}
-use Rattle.sheet_text.specs.Forms.{some_if, after_prefix}
+use Rattle.sheet_text.specs.Forms.{after_prefix}
 
 -- what stands before the number in the name of a work variable of a typecode
 abbrev pub prefix_of : Name → Name
@@ -26,7 +27,7 @@ number_of digits = fold (λ n d. 10 * n + (d - 48)) 0 digits
 
 -- a number from 1 below 2^32, by its digits, without a leading zero
 abbrev pub work_number_of : List ℕ → Option ℕ
-work_number_of digits = some_if (nat_lt 0 (number_of digits) && nat_lt (number_of digits) (2 ^ 32) && bytes_eq digits (decimal (number_of digits))) (number_of digits)
+work_number_of digits = then_some (nat_lt 0 (number_of digits) && nat_lt (number_of digits) (2 ^ 32) && bytes_eq digits (decimal (number_of digits))) (number_of digits)
 
 -- the number of the work variable of a typecode that a token names
 abbrev pub work_number : Name → Name → Option ℕ

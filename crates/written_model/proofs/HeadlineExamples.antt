@@ -75,7 +75,7 @@ proves_itself = record {
   reads = record { sound = refl; says = refl };
   tokens = tokens;
   has_proof = refl;
-  code = normal_code tokens;
+  code = normal_code (codes "wph" ∷ codes "wps" ∷ codes "u.1" ∷ []) tokens;
   is_code = refl;
   accepted = refl;
 }

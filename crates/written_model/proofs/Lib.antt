@@ -6,6 +6,7 @@ mod HeadlineExamples
 mod NamedExamples
 mod PairsExamples
 mod ProofTreesExamples
+pub mod SoundIsRead
 pub mod SyntaxProofs
 mod WrittenExamples
 mod WholeDatabase

@@ -75,7 +75,7 @@ normal_text = sheet_text (codes "u") (codes "?") (sheet_lines ++ codes "$= wph w
 pub laid_normal : layout said (Some (spaced (postorder proof))) ≡ normal_text
 laid_normal = refl
 
-pub accepted_normal : Accepts (frames_of P) theorem (normal_code (postorder proof))
+pub accepted_normal : Accepts (frames_of P) theorem (normal_code theorem.mandatory (postorder proof))
 accepted_normal = refl
 
 -- ---- the report

@@ -35,7 +35,7 @@ proof_tokens text = option_map tokens_between (find is_proof (statements text))
 
 -- the code of a proof, in a style
 abbrev pub IsProofCode : ProofStyle → List Name → List Name → Code → Type 0
-IsProofCode style.Normal mandatory tokens code = code ≡ normal_code tokens
+IsProofCode style.Normal mandatory tokens code = code ≡ normal_code mandatory tokens
 IsProofCode style.Compressed mandatory tokens code = Spells (spaced tokens) mandatory code
 
 -- the text alone gives a theorem, and a proof that the stack machine accepts for it

@@ -1,5 +1,5 @@
 -- Laws: what the proof of a tree, and of a step, leaves on the stack.
-use Rattle.std.specs.Prelude.{◌≡◌, ℕ, true, None, find, List, [], ◌∷◌, flat_map, slice_get, slice_index_or, Contains, Some, Ok}
+use Rattle.std.specs.Prelude.{◌≡◌, ℕ, true, None, find, List, [], ◌∷◌, flat_map, slice_get, slice_index_or, Contains, Some, Result, Ok}
 use Rattle.std.specs.Str.{bytes_eq}
 use Rattle.mm_base.specs.declared.symbols.Sym.{Sym}
 use Rattle.mm_base.specs.declared.symbols.Typecode.{Typecode}
@@ -12,9 +12,10 @@ use Rattle.mm_model.specs.declared.rows.Leaf.TheVariants as leaf
 use Rattle.mm_model.specs.Texts.{text}
 use Rattle.mm_model.specs.Typed.{IsTyped}
 use Rattle.mm_model.specs.Book.{Database}
+use Rattle.proof_model.specs.declared.code.Code.{Code}
 use Rattle.proof_model.specs.declared.theorem.Theorem.{Theorem}
 use Rattle.proof_model.specs.Codes.{normal_code}
-use Rattle.proof_model.specs.Machine.{Formula, Frames, State, push, run_steps, is_float_of}
+use Rattle.proof_model.specs.Machine.{Formula, Frames, State, MachineFault, push, run_steps, is_float_of}
 use Rattle.proof_model.specs.Arities.{HasArities}
 use Rattle.proof_model.specs.Proofs.{Proof, postorder}
 use Rattle.solve_model.specs.Binding.{symbols_from}
@@ -25,9 +26,13 @@ use Rattle.written_model.specs.ProofTrees.{Below, syntax_proof, step_proofs, no_
 use Rattle.written_model.specs.Opened.{IsOpened}
 use Rattle.written_model.specs.Written.{Writing, Writes, frames_of, formula_tokens, written_theorem}
 
+-- the state behind the steps of a code
+abbrev pub run_code : Frames → Theorem → Code → State → Result State (ℕ × MachineFault)
+run_code frames theorem code st = run_steps frames theorem code.labels 0 code.steps st
+
 -- the labels of the proof push this formula, whatever lies below
 abbrev pub Pushes : Frames → Theorem → Proof → Formula → Type 0
-Pushes frames theorem p f = (st : State) → run_steps frames theorem (postorder p) 0 (normal_code (postorder p)).steps st ≡ Ok (push f st)
+Pushes frames theorem p f = (st : State) → run_code frames theorem (normal_code theorem.mandatory (postorder p)) st ≡ Ok (push f st)
 
 abbrev pub leaf_symbols : Leaf → List Sym
 leaf_symbols (leaf.Const s) = s ∷ []

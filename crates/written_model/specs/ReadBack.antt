@@ -1,11 +1,14 @@
--- Laws: what is laid out reads back.
+-- Laws: what a text without a fault says, and what is laid out reads back.
 use Rattle.std.specs.Prelude.{◌≡◌, ℕ, List, Option, Some, None, Contains}
 use Rattle.sheet_text.specs.declared.sheet.Sheet.{Sheet}
 use Rattle.sheet_text.specs.Layout.{layout}
-use Rattle.sheet_text.specs.Reads.{Reads, unnumbered, sheet_in}
-use Rattle.sheet_text.specs.SheetStatements.{statements}
+use Rattle.sheet_text.specs.Reads.{Reads, ReadsAs}
 use Rattle.sheet_text.specs.Spellable.{IsSpellable}
 use Rattle.sheet_text.specs.TextFaults.{line_fault}
+
+-- each text without a fault of 40 to 49 reads as a sheet
+abbrev pub SoundIsRead : Type 0
+SoundIsRead = (text : List ℕ) → line_fault text ≡ None → (s : Sheet) × Reads text s
 
 -- what a text says can be spelled
 abbrev pub ReadIsSpellable : Type 0
@@ -17,11 +20,5 @@ IsOneLine None = Unit {0}
 IsOneLine (Some proof) = Contains proof 10 → ⊥
 
 -- a sheet that is laid out reads back as itself, but for the numbers of its lines
-pub record IsReadBack (s : Sheet) (proof : Option (List ℕ)) : Type 0 where
-  pub sound : line_fault (layout s proof) ≡ None
-  pub read : Sheet
-  pub says : sheet_in (statements (layout s proof)) ≡ Some read
-  pub same : unnumbered read ≡ unnumbered s
-
 abbrev pub LaidOutReadsBack : Type 0
-LaidOutReadsBack = (s : Sheet) (proof : Option (List ℕ)) → IsSpellable s → IsOneLine proof → IsReadBack s proof
+LaidOutReadsBack = (s : Sheet) (proof : Option (List ℕ)) → IsSpellable s → IsOneLine proof → ReadsAs (layout s proof) s

@@ -5,6 +5,7 @@ use Rattle.mm_base.specs.declared.symbols.Pair.{Pair}
 use Rattle.mm_base.specs.declared.tree.Tree.{Tree}
 use Rattle.mm_model.specs.declared.rows.Leaf.{Leaf}
 use Rattle.mm_model.specs.declared.rows.Leaf.TheVariants as leaf
+use Rattle.mm_model.specs.Limits.{most_formula_tokens, most_sheet_bytes, most_work_size, most_proof_labels}
 use Rattle.mm_model.specs.Names.{Name}
 use Rattle.mm_model.specs.Texts.{text}
 use Rattle.mm_model.specs.Faults.{Fault}
@@ -122,11 +123,11 @@ module _ (db : Database) (options : Options) (w : Writing) where
   ItemIsSearched (comment lines) i = i ≡ comment lines
   ItemIsSearched (step e) i = (f : WrittenStep) × (i ≡ step f) × IsSearched db w.bound.place options.dv w.bound.pairs (steps_in after_naming) e f
 
--- the text has no fault of 40 to 74, and this is what it becomes
+-- the text, however long, has no fault of 40 to 49 and of 60 to 74, and this is what it becomes
 pub record Writes (db : Database) (text : List ℕ) (options : Options) (w : Writing) : Type 0 where
   pub reads : ReadsAs text w.read
   pub binds : Binds db reads.read w.bound
-  pub fits : work_size db w.bound ≤ 2 ^ 24
+  pub fits : work_size db w.bound ≤ most_work_size
   pub judged : AreJudged db w.bound w.judgements
   pub most_general : IsTheValuation db w.bound (accepted_in w.judgements) w.value
   pub naming : IsNaming db w.bound (trees (steps_in (after_filling db options w))) w.names
@@ -153,7 +154,7 @@ module _ (db : Database) (options : Options) (w : Writing) where
   step_tokens e = formula_tokens db e.tree
 
   abbrev pub IsTooLong : WrittenStep → Type 0
-  IsTooLong e = 4096 < length (step_tokens e)
+  IsTooLong e = most_formula_tokens < length (step_tokens e)
 
   abbrev pub IsAmbiguous : WrittenStep → Type 0
   IsAmbiguous e = HasTwoTrees db w.bound.place (step_tokens e)
@@ -178,9 +179,9 @@ module _ (db : Database) (options : Options) (w : Writing) where
   pub data LateFault : ℕ → Refusal → Type 0 where
     long : (e : WrittenStep) → IsFirstIn IsTooLong (steps_in w.items) e → LateFault 0 (formula_too_long e.name (told_number (length (step_tokens e))))
     ambiguous : (e : WrittenStep) → IsFirstIn IsAmbiguous (steps_in w.items) e → LateFault 1 (written_two_trees e.name)
-    much : 2 ^ 24 < work_size db written_bound → LateFault 2 (too_much_written (told_number (work_size db written_bound)))
-    proof : w.finished ≡ true → options.style ≡ style.Normal → 2 ^ 20 < label_count → LateFault 3 (proof_too_long (told_number label_count))
-    large : 2 ^ 24 < length (written_text db options w) → LateFault 4 (too_large (told_number (length (written_text db options w))))
+    much : most_work_size < work_size db written_bound → LateFault 2 (too_much_written (told_number (work_size db written_bound)))
+    proof : w.finished ≡ true → options.style ≡ style.Normal → most_proof_labels < label_count → LateFault 3 (proof_too_long (told_number label_count))
+    large : most_sheet_bytes < length (written_text db options w) → LateFault 4 (too_large (told_number (length (written_text db options w))))
 
   -- the first of them
   pub record IsLate (r : Refusal) : Type 0 where
@@ -196,10 +197,11 @@ pub data Answer : Type 0 where
   refused : Refusal → Answer
   wrote : Writing → Answer
 
--- the first fault in this order: of the text, against the database, the work size, and of what is to be written
+-- the first fault in this order: of the text, where 50 (more than 2^24 bytes) goes before all others; against the database;
+-- the work size; and of what is to be written
 pub data Answers (db : Database) (text : List ℕ) (options : Options) : Answer → Type 0 where
   bad_text : {f : Fault} → text_fault text ≡ Some f → Answers db text options (refused (at_line f))
-  unbound : {s : Sheet} {f : Fault} → Reads text s → IsBindFault db s f → Answers db text options (refused (at_line f))
-  much : {s : Sheet} {bound : Bound} → Reads text s → Binds db s bound → 2 ^ 24 < work_size db bound → Answers db text options (refused (too_much (told_number (work_size db bound))))
-  late : {w : Writing} {r : Refusal} → Writes db text options w → IsLate db options w r → Answers db text options (refused r)
-  written : {w : Writing} → Writes db text options w → HasNoLateFault db options w → Answers db text options (wrote w)
+  unbound : {s : Sheet} {f : Fault} → text_fault text ≡ None → Reads text s → IsBindFault db s f → Answers db text options (refused (at_line f))
+  much : {s : Sheet} {bound : Bound} → text_fault text ≡ None → Reads text s → Binds db s bound → most_work_size < work_size db bound → Answers db text options (refused (too_much (told_number (work_size db bound))))
+  late : {w : Writing} {r : Refusal} → text_fault text ≡ None → Writes db text options w → IsLate db options w r → Answers db text options (refused r)
+  written : {w : Writing} → text_fault text ≡ None → Writes db text options w → HasNoLateFault db options w → Answers db text options (wrote w)
