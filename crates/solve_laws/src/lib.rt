@@ -30,7 +30,8 @@ pub fn same_trees_are_equal()
     ensures { SameTreeDecides }
 {}
 
-/// A valuation that is an instance of a solution solves too.
+/// A valuation that is an instance of a solution solves too, where the formulas that were read have no fresh leaf and
+/// the assertions' trees no open one.
 pub fn instance_solves()
     ensures { (bound : Bound) (asked : List Asked) → InstanceSolves bound asked }
 {}
@@ -40,8 +41,7 @@ pub fn judgements_are_one()
     ensures { (db : Database) (bound : Bound) → JudgementsAreOne db bound }
 {}
 
-/// There is at most one most general valuation, up to the numbers of its fresh leaves. So the written formulas are a
-/// function of the database and the worksheet.
+/// There is at most one most general valuation, up to the numbers of its fresh leaves.
 pub fn most_general_is_one()
     ensures { (db : Database) (bound : Bound) (accepted : List Asked) → MostGeneralIsOne db bound accepted }
 {}

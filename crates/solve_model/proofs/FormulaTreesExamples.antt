@@ -1,4 +1,4 @@
--- A formula with one tree of its text, one without a tree and one with two.
+-- A formula with a tree of its text, one without a tree and one with two.
 use Rattle.std.specs.Prelude.{◌≡◌, ℕ, List, [], ◌∷◌, ◌++◌, Option, Some, None, codes, refl}
 use Rattle.std.specs.Fmt.{digits}
 use Rattle.std.proofs.Common.{sym, ap, ◌∙◌, arith, lit<}

@@ -8,11 +8,9 @@ use Rattle.mm_base.specs.declared.symbols.Typecode.{Typecode}
 use Rattle.mm_base.specs.declared.tree.Tree.{Tree}
 use Rattle.mm_base.specs.declared.status.Status.TheVariants as status
 use Rattle.mm_base.specs.Trees.{code_of}
-use Rattle.mm_model.specs.Faults.{Fault}
 use Rattle.mm_model.specs.Names.{sym as symbol}
 use Rattle.mm_model.specs.Statements.{database_fault}
 use Rattle.mm_model.specs.Productions.{TypedVariable}
-use Rattle.mm_model.specs.Book.{Database, IsDatabaseOf}
 use Rattle.mm_model.specs.Typed.{IsTyped}
 use Rattle.mm_model.proofs.SizeLaws.{node_counts}
 use Rattle.mm_model.proofs.TextLaws.{texts}
@@ -38,7 +36,7 @@ use Rattle.solve_model.proofs.TreeLaws.{replaces, leaves}
 use Rattle.written_model.specs.declared.options.DvMode.TheVariants as dv
 use Rattle.written_model.specs.declared.options.ProofStyle.TheVariants as style
 use Rattle.written_model.specs.Found.{IsSearched}
-use Rattle.written_model.specs.Headline.{Ending, IsAnswered, Unifies, ProvesItself}
+use Rattle.written_model.specs.Headline.{Ending, unified, IsAnswered, Unifies, ProvesItself}
 use Rattle.written_model.specs.Named.{IsNaming, IsWrittenLeaf, WorkVariable, new_works, name_tree}
 use Rattle.written_model.specs.ProofTrees.{Finished, is_complete}
 use Rattle.written_model.specs.Found.{is_ground}
@@ -327,16 +325,5 @@ unifies = record {
 no_fault : database_fault database_text ≡ None
 no_fault = refl
 
-over : (database sheet : List ℕ) → Some database_text ≡ Some database → Some read_text ≡ Some sheet
-    → (d : Database) × IsDatabaseOf options.kinds database d × Unifies d options sheet ending
-over database sheet e f =
-    (db, subst (λ t. IsDatabaseOf options.kinds t db) (some_is database_text database e) is_database, subst (λ t. Unifies db options t ending) (some_is read_text sheet f) unifies)
-
 pub is_answered : IsAnswered files words ending
-is_answered = record {
-  refused = λ database f e h. absurd (refusal database f e h);
-  unified = λ database sheet e h f. over database sheet e f;
-}
-  where
-    refusal : (database : List ℕ) (f : Fault) → Some database_text ≡ Some database → database_fault database ≡ Some f → ⊥
-    refusal database f e h = let text_same : database_text ≡ database = some_is database_text database e in let no : None ≡ Some f = sym no_fault ∙ ap database_fault text_same ∙ h in cc
+is_answered = unified {database = database_text} {sheet = read_text} refl no_fault refl is_database unifies

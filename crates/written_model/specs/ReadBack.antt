@@ -1,4 +1,4 @@
--- Laws: what is laid out reads back.
+-- Laws (not proved yet): what is laid out reads back.
 use Rattle.std.specs.Prelude.{◌≡◌, ℕ, List, Option, Some, None, Contains}
 use Rattle.sheet_text.specs.declared.sheet.Sheet.{Sheet}
 use Rattle.sheet_text.specs.Layout.{layout}
@@ -23,5 +23,6 @@ pub record IsReadBack (s : Sheet) (proof : Option (List ℕ)) : Type 0 where
   pub says : sheet_in (statements (layout s proof)) ≡ Some read
   pub same : unnumbered read ≡ unnumbered s
 
+-- each sheet that can be spelled reads back so, with a proof of one line or none
 abbrev pub LaidOutReadsBack : Type 0
 LaidOutReadsBack = (s : Sheet) (proof : Option (List ℕ)) → IsSpellable s → IsOneLine proof → IsReadBack s proof
