@@ -6,6 +6,7 @@ mod HeadlineExamples
 mod NamedExamples
 mod PairsExamples
 mod ProofTreesExamples
+mod RefusedExamples
 pub mod SyntaxProofs
 mod WrittenExamples
 mod WholeDatabase

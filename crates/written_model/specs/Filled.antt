@@ -1,5 +1,5 @@
 -- The places that are missing, and the new steps that fill them.
-use Rattle.std.specs.Prelude.{ℕ, zero, suc, ◌+◌, not, false, List, [], ◌∷◌, ◌++◌, length, map, drop, find, fold, zip, unwrap_or, slice_index_or, decimal, if◌then◌else◌, Option, Some, None, codes}
+use Rattle.std.specs.Prelude.{ℕ, zero, suc, ◌+◌, not, false, List, [], ◌∷◌, ◌++◌, length, map, drop, find, fold, zip, unwrap_or, slice_index_or, decimal, if◌then◌else◌, Some, None, codes}
 use Rattle.std.specs.List.{list_any, position_or_len, range_with_len}
 use Rattle.mm_base.specs.declared.tree.Tree.{Tree}
 use Rattle.mm_model.specs.Names.{Name, contains}
