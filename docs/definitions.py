@@ -78,6 +78,7 @@ ORDER = [
         ("Again", "what a written worksheet becomes when it is unified again", ""),
         ("ReadBack", "laws, not proved yet: a laid out worksheet reads back", ""),
         ("ProofsPush", "laws, not proved yet: what a proof leaves on the stack", ""),
+        ("Existence", "laws, not proved yet: a most general valuation exists, and each worksheet has an answer", ""),
         ("WrittenAgain", "laws, not proved yet: written again as itself, and the answer is one", ""),
     ]),
 ]
@@ -87,6 +88,7 @@ LAWS = ["model_laws", "proof_laws", "solve_laws"]
 # The statements that no contract names yet, by crate and file.
 STATED = [
     ("written_model", "Headline", ["IsAnswered"]),
+    ("written_model", "Existence", ["HasMostGeneral", "HasAnswer"]),
     ("written_model", "ReadBack", ["ReadIsSpellable", "LaidOutReadsBack"]),
     ("written_model", "ProofsPush", ["TreeProofPushes", "StepProofPushes", "StepProofHasArities"]),
     ("written_model", "WrittenAgain", ["ValuesStay", "VerdictsStay", "NothingIsMade", "SearchStays", "IsWrittenAgain", "AnswersAreOne"]),
