@@ -1,4 +1,4 @@
-//! Laws of trees, solutions and the most general valuation. Each is the contract of a function that does nothing.
+//! Laws of sets of pairs, trees, solutions and the most general valuation. Each is the contract of a function that does nothing.
 #![tactic(auto)]
 
 ghost use Rattle.std.specs.Prelude.{List};
@@ -9,6 +9,7 @@ ghost use Rattle.solve_laws.specs.Instances.{InstanceSolves};
 ghost use Rattle.solve_laws.specs.NewVariables.{NoNewVariable};
 ghost use Rattle.solve_laws.specs.OneJudgement.{JudgementsAreOne};
 ghost use Rattle.solve_laws.specs.OneValuation.{MostGeneralIsOne};
+ghost use Rattle.solve_laws.specs.PairSetLaws.{PairSetHoldsSame, PairSetIsInOrder};
 ghost use Rattle.solve_laws.specs.Replacements.{ReplacedTwice, ReplacedBySelf, ReplacedAlike, SameTreeDecides};
 ghost use Rattle.solve_laws.specs.ReplacedTypes.{ReplacedIsTyped};
 
@@ -28,6 +29,12 @@ pub fn replaced_is_typed()
 /// The test of two trees says whether they are equal.
 pub fn same_trees_are_equal()
     ensures { SameTreeDecides }
+{}
+
+/// A set of pairs holds the pairs that it is made of, each before the next and so each once.
+pub fn pair_sets_are_sorted()
+    ensures same { PairSetHoldsSame }
+    ensures in_order { PairSetIsInOrder }
 {}
 
 /// A valuation that is an instance of a solution solves too, where the formulas that were read have no fresh leaf and
