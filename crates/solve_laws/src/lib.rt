@@ -1,4 +1,5 @@
-//! Laws of sets of pairs, trees, solutions and the most general valuation. Each is the contract of a function that does nothing.
+//! Laws of sets of pairs, trees, solutions and the most general valuation. Each is the contract of a function that does
+//! nothing.
 #![tactic(auto)]
 
 ghost use Rattle.std.specs.Prelude.{List};

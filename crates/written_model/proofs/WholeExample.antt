@@ -286,14 +286,17 @@ written_size = simp node_counts refl
 labels_of : (s : Sheet) → s ≡ unnumbered numbered → length (postorder (qed_proof db (theorem_of db s) (fitting ∷ []))) ≡ 2
 labels_of s e = rw e (ap (λ p. length (postorder p)) proof_is)
 
+no_first : (e : WrittenStep) → Some e ≡ None → ⊥
+no_first e h = cc
+
 no_late_fault : HasNoLateFault db options writing
 no_late_fault k r (LateFault.long e (inl h)) = few_tokens h.1
-no_late_fault k r (LateFault.long e (inr h)) = h.1
+no_late_fault k r (LateFault.long e (inr h)) = no_first e h.1
 no_late_fault k r (LateFault.ambiguous e (inl h)) = one_tree (subst (λ ts. HasTwoTrees db 5 ts) tokens_are h.1)
   where
     tokens_are : formula_tokens db ps ≡ codes "|-" ∷ codes "ps" ∷ []
     tokens_are = simp texts refl
-no_late_fault k r (LateFault.ambiguous e (inr h)) = h.1
+no_late_fault k r (LateFault.ambiguous e (inr h)) = no_first e h.1
 no_late_fault k r (LateFault.much l) = let is = written_size in omega (arith, l, is)
 no_late_fault k r (LateFault.proof f s l) = let is = labels_of (written_sheet db options writing) written_sheet_is in omega (arith, l, is)
 no_late_fault k r (LateFault.large l) = short l
