@@ -74,17 +74,27 @@ ORDER = [
         ("Report", "the report", "FORMAT, Report and log lines"),
         ("Written", "what a worksheet becomes, its last faults, and the answer to it", "FORMAT, The written worksheet; Faults of a worksheet"),
         ("FaultLines", "the lines of faults", "FORMAT, Report and log lines"),
-        ("CommandWords", "the words of the command line", "FORMAT, Command words"),
+        ("CommandWords", "the words of the command line; until other options are built they reach pairs that are added, and the typecodes `|-` and `wff`, while the definitions take any options", "FORMAT, Command words"),
         ("Headline", "what a call gives: the main theorem", "FORMAT, Statuses"),
         ("Opened", "the databases that laws speak of", ""),
         ("Again", "what a written worksheet becomes when it is unified again", ""),
-        ("ReadBack", "laws: a text without a fault reads as a worksheet, and a laid out worksheet reads back", ""),
-        ("ProofsPush", "laws: what a proof leaves on the stack", ""),
-        ("WrittenAgain", "laws: written again as itself, and the answer is one", ""),
+        ("ReadBack", "laws: a text without a fault reads as a worksheet; not proved yet: a laid out worksheet reads back", ""),
+        ("ProofsPush", "laws, not proved yet: what a proof leaves on the stack", ""),
+        ("Existence", "laws, not proved yet: a most general valuation exists, and each worksheet has an answer", ""),
+        ("WrittenAgain", "laws, not proved yet: written again as itself, and the answer is one", ""),
     ]),
 ]
 
 LAWS = ["model_laws", "proof_laws", "solve_laws"]
+
+# The statements that no contract names yet, by crate and file.
+STATED = [
+    ("written_model", "Headline", ["IsAnswered"]),
+    ("written_model", "Existence", ["HasMostGeneral", "HasAnswer"]),
+    ("written_model", "ReadBack", ["ReadIsSpellable", "LaidOutReadsBack"]),
+    ("written_model", "ProofsPush", ["TreeProofPushes", "StepProofPushes", "StepProofHasArities"]),
+    ("written_model", "WrittenAgain", ["ValuesStay", "VerdictsStay", "NothingIsMade", "SearchStays", "IsWrittenAgain", "AnswersAreOne"]),
+]
 
 HEAD = """# Definitions
 
@@ -92,7 +102,7 @@ What the contracts of this repository mean rests on the definitions in this list
 
 Of each file the list has, in its order, the definitions that other files rest on, the propositions and the rules of faults, each with the line that says what it is. The other definitions are parts of these and stand behind "Parts"; most have such a line in the file. `book` is *Metamath: A Computer Language for Mathematical Proofs*, second edition; FORMAT is [FORMAT.md](FORMAT.md). Where a section is named, the file states it.
 
-A definition is tried on worked examples, which stand beside it in `specs/` as files `..Examples.antt`, or in `proofs/` where they take a tactic. A law is claimed where the contract of a public function names it; the last part lists these.
+A definition is tried on worked examples, which stand beside it in `specs/` as files `..Examples.antt`, or in `proofs/` where they take a tactic. A law is claimed where the contract of a public function names it; the last two parts list these laws, and the statements that no contract names yet.
 
 This file is written by `docs/definitions.py` from the comments of the definitions.
 """
@@ -224,6 +234,11 @@ def main():
     for crate in LAWS:
         out.append(f"- **{crate}**")
         out.extend(f"  - `{name}`: {sentence(text)}" for name, text in laws(crate))
+    out.append("\n## Stated, not proved yet\n")
+    for crate, name, stated in STATED:
+        found = dict(definitions(os.path.join(CRATES, crate, "specs", name + ".antt")))
+        out.append(f"- **{name}** of {crate}")
+        out.extend(f"  - `{n}`: {sentence(found[n])}" for n in stated)
     with open(os.path.join(HERE, "DEFINITIONS.md"), "w", encoding="utf-8") as file:
         file.write("\n".join(out).rstrip() + "\n")
 

@@ -1,6 +1,7 @@
 mod NewVariables
 pub mod OneJudgement
 mod OneValuation
+mod PairSetLaws
 pub mod ReplaceLaws
 pub mod ReplacedTypes
 pub mod SameTrees

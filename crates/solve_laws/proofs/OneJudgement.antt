@@ -1,5 +1,5 @@
 -- The judgements of a worksheet's steps are one.
-use Rattle.std.specs.Prelude.{◌≡◌, ◌<◌, ◌≤◌, ℕ, zero, suc, List, [], ◌∷◌, length, take, Option, refl}
+use Rattle.std.specs.Prelude.{◌≡◌, ◌<◌, ◌≤◌, ℕ, zero, suc, List, [], ◌∷◌, length, take, Option, Some, refl}
 use Rattle.std.specs.List.{AllByRecursion}
 use Rattle.std.proofs.Common.{sym, ap, subst, ◌∙◌, arith, inl, inr, get_or}
 use Rattle.std.proofs.Math.Seq.{take-suc, take-length}
@@ -13,15 +13,7 @@ use Rattle.solve_model.specs.Bound.{Standing, settled, candidate, standing}
 use Rattle.solve_model.specs.Solutions.{Asked, no_step}
 use Rattle.solve_model.specs.Verdicts.{Judgement, accepted, stands, asked, accepted_in, FitsIn, IsJudgement, AreJudged}
 
--- the first with a property is one
-pub first_is_one : {X : Type 0} (P : X → Type 0) (xs : List X) (x y : X) → IsFirstIn P xs x → IsFirstIn P xs y → x ≡ y
-first_is_one P [] x y h k = absurd h
-first_is_one P (z ∷ zs) x y (inl h) (inl k) = h.0 ∙ sym k.0
-first_is_one P (z ∷ zs) x y (inl h) (inr k) = absurd (k.0 h.1)
-first_is_one P (z ∷ zs) x y (inr h) (inl k) = absurd (h.0 k.1)
-first_is_one P (z ∷ zs) x y (inr h) (inr k) = first_is_one P zs x y h.1 k.1
-
--- and so is the first or none
+-- the first or none is one
 pub first_or_none_is_one : {X : Type 0} (P : X → Type 0) (xs : List X) (o q : Option X) → IsFirstOrNone P xs o → IsFirstOrNone P xs q → o ≡ q
 first_or_none_is_one P [] o q h k = h ∙ sym k
 first_or_none_is_one P (z ∷ zs) o q (inl h) (inl k) = h.0 ∙ sym k.0
@@ -29,8 +21,12 @@ first_or_none_is_one P (z ∷ zs) o q (inl h) (inr k) = absurd (k.0 h.1)
 first_or_none_is_one P (z ∷ zs) o q (inr h) (inl k) = absurd (h.0 k.1)
 first_or_none_is_one P (z ∷ zs) o q (inr h) (inr k) = first_or_none_is_one P zs o q h.1 k.1
 
+-- and so is the first
+pub first_is_one : {X : Type 0} (P : X → Type 0) (xs : List X) (x y : X) → IsFirstIn P xs x → IsFirstIn P xs y → x ≡ y
+first_is_one P xs x y h k = let same : Some x ≡ Some y = first_or_none_is_one P xs (Some x) (Some y) h k in cc
+
 none_is_first : {X : Type 0} (P : X → Type 0) (xs : List X) (x : X) → IsFirstIn P xs x → AllByRecursion (λ y. P y → ⊥) xs → ⊥
-none_is_first P [] x h k = h
+none_is_first P [] x h k = cc
 none_is_first P (z ∷ zs) x (inl h) k = k.0 h.1
 none_is_first P (z ∷ zs) x (inr h) k = none_is_first P zs x h.1 k.1
 

@@ -1,4 +1,4 @@
--- TypedVariable trees with their leaves replaced are typed.
+-- Typed trees with their leaves replaced are typed.
 use Rattle.std.specs.Prelude.{◌≡◌, ℕ, List, [], ◌∷◌, map, refl}
 use Rattle.std.proofs.Common.{sym, ap, subst, ◌∙◌}
 use Rattle.mm_base.specs.declared.symbols.Sym.{Sym}

@@ -1,4 +1,4 @@
--- TypedVariable trees with their leaves replaced.
+-- Typed trees with their leaves replaced.
 use Rattle.std.specs.Prelude.{◌≡◌, ℕ, List}
 use Rattle.mm_base.specs.declared.symbols.Sym.{Sym}
 use Rattle.mm_base.specs.declared.symbols.Typecode.{Typecode}

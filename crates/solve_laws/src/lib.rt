@@ -1,4 +1,5 @@
-//! Laws of trees, solutions and the most general valuation. Each is the contract of a function that does nothing.
+//! Laws of sets of pairs, trees, solutions and the most general valuation. Each is the contract of a function that does
+//! nothing.
 #![tactic(auto)]
 
 ghost use Rattle.std.specs.Prelude.{List};
@@ -9,6 +10,7 @@ ghost use Rattle.solve_laws.specs.Instances.{InstanceSolves};
 ghost use Rattle.solve_laws.specs.NewVariables.{NoNewVariable};
 ghost use Rattle.solve_laws.specs.OneJudgement.{JudgementsAreOne};
 ghost use Rattle.solve_laws.specs.OneValuation.{MostGeneralIsOne};
+ghost use Rattle.solve_laws.specs.PairSetLaws.{PairSetHoldsSame, PairSetIsInOrder};
 ghost use Rattle.solve_laws.specs.Replacements.{ReplacedTwice, ReplacedBySelf, ReplacedAlike, SameTreeDecides};
 ghost use Rattle.solve_laws.specs.ReplacedTypes.{ReplacedIsTyped};
 
@@ -30,7 +32,14 @@ pub fn same_trees_are_equal()
     ensures { SameTreeDecides }
 {}
 
-/// A valuation that is an instance of a solution solves too.
+/// A set of pairs holds the pairs that it is made of, each before the next and so each once.
+pub fn pair_sets_are_sorted()
+    ensures same { PairSetHoldsSame }
+    ensures in_order { PairSetIsInOrder }
+{}
+
+/// A valuation that is an instance of a solution solves too, where the formulas that were read have no fresh leaf and
+/// the assertions' trees no open one.
 pub fn instance_solves()
     ensures { (bound : Bound) (asked : List Asked) → InstanceSolves bound asked }
 {}
@@ -40,8 +49,7 @@ pub fn judgements_are_one()
     ensures { (db : Database) (bound : Bound) → JudgementsAreOne db bound }
 {}
 
-/// There is at most one most general valuation, up to the numbers of its fresh leaves. So the written formulas are a
-/// function of the database and the worksheet.
+/// There is at most one most general valuation, up to the numbers of its fresh leaves.
 pub fn most_general_is_one()
     ensures { (db : Database) (bound : Bound) (accepted : List Asked) → MostGeneralIsOne db bound accepted }
 {}

@@ -1,4 +1,4 @@
--- TypedVariable trees of the example database, and valuations of which all values are.
+-- Typed trees of the example database, and valuations of which all values are.
 use Rattle.std.specs.Prelude.{◌≡◌, ◌==◌, ℕ, Bool, true, false, if◌then◌else◌, List, [], ◌∷◌, refl}
 use Rattle.std.proofs.Common.{sym, ap, arith, lit<, cond, ◌∙◌}
 use Rattle.std.proofs.lemmas.Bool.Decides.{nat_tests}

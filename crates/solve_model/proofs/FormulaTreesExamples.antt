@@ -1,4 +1,4 @@
--- A formula with one tree of its text, one without a tree and one with two.
+-- A formula with a tree of its text, one without a tree and one with two, and their faults.
 use Rattle.std.specs.Prelude.{◌≡◌, ℕ, List, [], ◌∷◌, ◌++◌, Option, Some, None, codes, refl}
 use Rattle.std.specs.Fmt.{digits}
 use Rattle.std.proofs.Common.{sym, ap, ◌∙◌, arith, lit<}
@@ -18,6 +18,8 @@ use Rattle.mm_model.specs.Texts.{text}
 use Rattle.mm_model.specs.Book.{Database}
 use Rattle.mm_model.proofs.TextLaws.{texts, text-Var, text-Work, text-Fresh}
 use Rattle.mm_model.proofs.TypedLaws.{code-Var, code-Node, typed-Node, typed-Var, typed_here, named-Node, named-Var}
+use Rattle.solve_model.specs.BindFaults.{BindFaultAt, no_tree, two_trees}
+use Rattle.solve_model.specs.ExampleSheets.{sheet}
 use Rattle.solve_model.specs.Formulas.{expression_of, IsTreeOf, HasNoTree, HasTwoTrees}
 use Rattle.solve_model.specs.Example.{P, Q, split, wff, setvar, class, ph, ps, x, y, cv, wi, wceq, rows}
 
@@ -57,6 +59,11 @@ no_text = tree_ind (λ t. IsTyped [] 14 t → text [] t ≡ two_variables → �
 
 pub without_tree : HasNoTree bare 14 (split (codes "|- ph ps"))
 without_tree t p = no_text t p.typed (p.written ∙ two_leaves)
+
+-- 67 at the step that has it
+pub is_no_tree : BindFaultAt bare (sheet (codes "r") (codes "1:: |- ph ps" ∷ codes "qed:: |- ps" ∷ [])) 2 67
+unfolding digits
+is_no_tree = no_tree 0 refl refl without_tree
 
 -- ---- `x = y`, where a further production has this text
 
@@ -106,3 +113,8 @@ with_two_trees = record {
   };
   differ = differ;
 }
+
+-- 68 at the step that has it
+pub is_two_trees : BindFaultAt doubled (sheet (codes "r") (codes "qed:: |- x = y" ∷ [])) 2 68
+unfolding digits
+is_two_trees = two_trees 0 refl refl with_two_trees

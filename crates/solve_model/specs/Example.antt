@@ -280,6 +280,12 @@ Q = record {
   usable = usable_of_label 29;
 }
 
+abbrev mpi_1 : Hyp
+mpi_1 = essential (codes "mpi.1") (codes "|- ph")
+
+abbrev mpi_2 : Hyp
+mpi_2 = essential (codes "mpi.2") (codes "|- ( ph -> ps )")
+
 -- P with the theorem mpi
 abbrev pub mpi : Frame
 mpi = record {
@@ -287,7 +293,19 @@ mpi = record {
   is_axiom = false;
   at = 17;
   formula = symbols (codes "|- ps");
-  hyps = wph ∷ wps ∷ essential (codes "mpi.1") (codes "|- ph") ∷ essential (codes "mpi.2") (codes "|- ( ph -> ps )") ∷ [];
+  hyps = wph ∷ wps ∷ mpi_1 ∷ mpi_2 ∷ [];
+  pairs = [];
+}
+
+-- the place in P that has the same symbols and the same hypotheses outside blocks
+abbrev place_in_P : ℕ → ℕ
+place_in_P place = if nat_lt 14 place then 14 else place
+
+-- inside the block of mpi its `$e` are active
+abbrev active_in_V : ℕ → Active
+active_in_V place = record {
+  variables = variables_before (place_in_P place);
+  hyps = hyps_before (place_in_P place) ++ (if nat_lt 15 place && nat_lt place 19 then mpi_1 ∷ [] else []) ++ (if nat_lt 16 place && nat_lt place 19 then mpi_2 ∷ [] else []);
   pairs = [];
 }
 
@@ -297,7 +315,9 @@ V = record P {
   positions = P.positions ++ 15 ∷ 16 ∷ 17 ∷ [];
   statement_count = 19;
   frame = λ l. if l.0 == 12 then Some mpi else P.frame l;
+  active_at = active_in_V;
   place_after = λ l. if nat_le 10 l.0 then 19 else P.place_after l;
+  float_codes = λ place. P.float_codes (place_in_P place);
 }
 
 -- P with the `$e` named out

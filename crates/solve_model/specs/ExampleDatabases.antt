@@ -40,6 +40,12 @@ P_active_in_block = refl
 pub P_active_at_end : active_at PS 14 ≡ P.active_at 14
 P_active_at_end = refl
 
+pub P_constants : map (λ n. is_constant_at PS (sym n) 14) (range_with_len 0 9) ≡ map (λ n. P.is_constant_at (sym n) 14) (range_with_len 0 9)
+P_constants = refl
+
+pub P_float_codes : float_codes PS 14 ≡ P.float_codes 14
+P_float_codes = refl
+
 pub P_places_after : map (λ n. place_after PS (label n)) (range_with_len 0 10) ≡ map (λ n. P.place_after (label n)) (range_with_len 0 10)
 P_places_after = refl
 
@@ -60,6 +66,18 @@ V_end = refl
 
 pub V_frames : map (λ n. frame_of VS (label n)) (range_with_len 0 13) ≡ map (λ n. V.frame (label n)) (range_with_len 0 13)
 V_frames = refl
+
+pub V_active : active_at VS 17 ≡ V.active_at 17
+V_active = refl
+
+pub V_active_at_end : active_at VS 19 ≡ V.active_at 19
+V_active_at_end = refl
+
+pub V_constants : map (λ n. is_constant_at VS (sym n) 17) (range_with_len 0 9) ≡ map (λ n. V.is_constant_at (sym n) 17) (range_with_len 0 9)
+V_constants = refl
+
+pub V_float_codes : float_codes VS 17 ≡ V.float_codes 17
+V_float_codes = refl
 
 pub V_places_after : map (λ n. place_after VS (label n)) (range_with_len 0 13) ≡ map (λ n. V.place_after (label n)) (range_with_len 0 13)
 V_places_after = refl

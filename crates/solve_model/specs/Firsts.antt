@@ -2,15 +2,14 @@
 use Rattle.std.specs.Prelude.{◌≡◌, ℕ, zero, suc, ◌≤◌, ◌⊎◌, true, List, [], ◌∷◌, map, flat_map, Option, Some, None}
 use Rattle.mm_model.specs.Faults.{Fault, fault, comes_first}
 
--- the first element of a list with a property
-abbrev pub IsFirstIn : {X : Type 0} → (X → Type 0) → List X → X → Type 0
-IsFirstIn P [] x = ⊥
-IsFirstIn P (y ∷ ys) x = ((x ≡ y) × P y) ⊎ ((P y → ⊥) × IsFirstIn P ys x)
-
--- the first element with a property, or none where no element has it
+-- the first element of a list with a property, or none where no element has it
 abbrev pub IsFirstOrNone : {X : Type 0} → (X → Type 0) → List X → Option X → Type 0
 IsFirstOrNone P [] o = o ≡ None
 IsFirstOrNone P (y ∷ ys) o = ((o ≡ Some y) × P y) ⊎ ((P y → ⊥) × IsFirstOrNone P ys o)
+
+-- the first element with a property
+abbrev pub IsFirstIn : {X : Type 0} → (X → Type 0) → List X → X → Type 0
+IsFirstIn P xs x = IsFirstOrNone P xs (Some x)
 
 -- the least number from 1 with a property
 pub record IsLeast (P : ℕ → Type 0) (n : ℕ) : Type 0 where

@@ -5,7 +5,7 @@ use sheet_text::Given;
 /// A step of a worksheet, with the tree of its formula.
 #[derive(Debug, Drop)]
 pub struct BoundStep {
-    /// The number of its first line, from 1; 0 in a worksheet that was not read.
+    /// The number of its first line. Nothing rests on it.
     pub line: u32,
     /// Whether it is a hypothesis of the theorem.
     pub hyp: bool,

@@ -9,6 +9,6 @@ abbrev doubled : ℕ → Tree
 doubled zero = ph
 doubled (suc k) = wi (doubled k) (doubled k)
 
--- after k steps the formula has 4 * 2^k - 2 tokens, so that ten are allowed and eleven are too long
+-- after k steps the formula has 4 * 2^k - 2 tokens, here for none to four steps
 pub counts : map (λ k. length (formula_tokens Q (doubled k))) (0 ∷ 1 ∷ 2 ∷ 3 ∷ 4 ∷ []) ≡ map (λ k. 4 * 2 ^ k - 2) (0 ∷ 1 ∷ 2 ∷ 3 ∷ 4 ∷ [])
 counts = simp texts refl

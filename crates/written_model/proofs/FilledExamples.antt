@@ -54,4 +54,4 @@ pub gap_stays : shown (filled_items (codes "qed" ∷ []) (bound (bound_step (cod
     (item.Step (record { line = 0; hyp = false; name = codes "qed"; places = given.Gap ∷ []; reference = Some (codes "ax-mp"); formula = codes "|-" ∷ codes "ps" ∷ [] }) ∷ []))
     ≡ (codes "d1", []) ∷ (codes "qed", given.Gap ∷ given.Step 0 ∷ []) ∷ []
 unfolding digits
-gap_stays = refl
+gap_stays = simp (replaces, same_trees) refl

@@ -1,6 +1,6 @@
 -- A step without a reference: the first assertion that fits.
-use Rattle.std.specs.Prelude.{◌≡◌, true, false, List, [], ◌∷◌, map, length, Some, None, refl}
-use Rattle.std.proofs.Common.{inl, inr, lit<, sym, subst}
+use Rattle.std.specs.Prelude.{◌≡◌, ◌<◌, true, false, List, [], ◌∷◌, map, length, Some, None, refl}
+use Rattle.std.proofs.Common.{inl, inr, lit<, arith, sym, subst, ◌∙◌}
 use Rattle.mm_base.specs.declared.tree.Tree.{Tree}
 use Rattle.mm_base.specs.declared.tree.Tree.TheVariants.{Work}
 use Rattle.std.specs.List.{AllZip}
@@ -14,8 +14,10 @@ use Rattle.solve_model.specs.Example.{P, wff, ph, ps, ax_1, ax_mp}
 use Rattle.solve_model.proofs.TreeLaws.{leaves, replaces}
 use Rattle.written_model.specs.declared.options.DvMode.TheVariants as dv
 use Rattle.written_model.specs.WrittenSteps.{Use, WrittenStep, place_tree}
-use Rattle.written_model.specs.Found.{is_searched, search_orders, Choice, Fits, FitsUse, IsFound, valued}
-use Rattle.written_model.specs.WrittenExample.{first, derived}
+use Rattle.written_model.specs.Found.{is_searched, search_orders, Choice, Fits, FitsUse, IsFound, IsSearched, valued}
+use Rattle.written_model.specs.declared.report.ReportVerdict.TheVariants as report
+use Rattle.written_model.specs.WholeExample.{db, fitting}
+use Rattle.written_model.specs.WrittenExample.{first, derived, found}
 
 abbrev steps : List WrittenStep
 steps = first ∷ derived ∷ []
@@ -86,3 +88,26 @@ first_is_ax_1 =
   where
     not_ax_mp : Fits P 14 dv.Add [] steps derived (record { label = label 7; places = [] }) → ⊥
     not_ax_mp f = subst (λ (a : Assertion). AllZip (λ (h : Tree) (g : Given). place_tree steps g ≡ Some (valued f.0 h)) a.hyps []) (sym (some_is ax_mp (f.0).assertion f.1.is_usable)) f.1.hyps
+
+pub step_is_found : IsSearched P 14 dv.Add [] steps derived found
+step_is_found = IsSearched.found searched first_is_ax_1 fits
+
+-- ---- before the only usable assertion nothing is found
+
+abbrev alone : WrittenStep
+alone = record fitting { reference = None; verdict = report.NoRef; by = None }
+
+abbrev At4 : Choice → Type 0
+At4 c = Fits db 4 dv.Add [] (alone ∷ []) alone c
+
+unusable : (c : Choice) → db.usable c.label ≡ None → At4 c → ⊥
+unusable c e f = let no : None ≡ Some (f.0).assertion = sym e ∙ f.1.is_usable in cc
+
+none_at_4 : IsFound db 4 dv.Add [] (alone ∷ []) alone None
+none_at_4 = inr (unusable _ refl, inr (unusable _ refl, inr (later, refl)))
+  where
+    later : At4 (record { label = label 2; places = [] }) → ⊥
+    later f = let l : 4 < 4 = f.1.earlier in omega (arith, l)
+
+pub step_stays : IsSearched db 4 dv.Add [] (alone ∷ []) alone alone
+step_stays = IsSearched.none (simp leaves refl) none_at_4

@@ -1,19 +1,19 @@
--- What a call gives: for words that fit no command, for a database with a fault, and what a finished text says of itself.
+-- What a call gives: for words that fit no command, for words over no files, for a database with a fault, and what a finished text says of itself.
 use Rattle.std.specs.Prelude.{◌≡◌, ℕ, List, [], ◌∷◌, if◌then◌else◌, Some, None, codes, refl}
 use Rattle.std.specs.Fmt.{digits}
 use Rattle.std.specs.Str.{bytes_eq}
-use Rattle.std.proofs.Common.{sym, ap, ◌∙◌}
+use Rattle.std.proofs.Common.{sym, ap}
 use Rattle.mm_base.specs.Outside.{Files}
 use Rattle.mm_base.specs.declared.status.Status.TheVariants as status
-use Rattle.mm_model.specs.Faults.{Fault, fault}
+use Rattle.mm_model.specs.Faults.{fault}
 use Rattle.mm_model.specs.Statements.{database_fault}
 use Rattle.proof_model.specs.Codes.{normal_code}
 use Rattle.sheet_text.specs.Layout.{ended}
 use Rattle.solve_model.specs.Example.{P, split}
 use Rattle.solve_model.specs.ExampleSheets.{sheet_after, sheet_text}
-use Rattle.written_model.specs.CommandWords.{usage_line}
+use Rattle.written_model.specs.CommandWords.{Command, usage_line}
 use Rattle.written_model.specs.FaultLines.{database_line}
-use Rattle.written_model.specs.Headline.{IsAnswered, ProvesItself}
+use Rattle.written_model.specs.Headline.{Ending, Headline, bad_database, unified, IsAnswered, ProvesItself}
 use Rattle.written_model.specs.WrittenExample.{normal}
 
 -- ---- words that fit no command
@@ -23,6 +23,15 @@ no_files name = None
 
 pub usage : IsAnswered no_files (codes "unify" ∷ codes "P.mm" ∷ []) (record { out = []; log = ended usage_line; status = status.Words })
 usage = record { out = refl; log = refl; status = refl }
+
+-- ---- words that fit one, over no files, have no answer
+
+nothing : (command : Command) (end : Ending) → Headline no_files command end → ⊥
+nothing command end (bad_database named e r) = cc
+nothing command end (unified named e given is u) = cc
+
+pub unanswered : (end : Ending) → IsAnswered no_files (codes "unify" ∷ codes "P.mm" ∷ codes "r.mmp" ∷ []) end → ⊥
+unanswered end h = nothing _ end h
 
 -- ---- a database in which `wff` is declared twice
 
@@ -42,24 +51,8 @@ its_line = refl
 its_fault : database_fault twice ≡ Some (fault 13 12)
 its_fault = refl
 
-the_line : (database : List ℕ) (f : Fault) → Some twice ≡ Some database → database_fault database ≡ Some f → database_line f ≡ line
-the_line database f named e =
-    let text : twice ≡ database = cc in
-    let both : Some (fault 13 12) ≡ Some f = sym its_fault ∙ ap database_fault text ∙ e in
-    let one : fault 13 12 ≡ f = cc in
-    ap database_line (sym one) ∙ its_line
-
-no_fault : (database : List ℕ) → Some twice ≡ Some database → database_fault database ≡ None → ⊥
-no_fault database named e =
-    let text : twice ≡ database = cc in
-    let both : Some (fault 13 12) ≡ None = sym its_fault ∙ ap database_fault text ∙ e in
-    cc
-
 pub refused : IsAnswered files (codes "unify" ∷ codes "P.mm" ∷ codes "r.mmp" ∷ []) (record { out = []; log = ended line; status = status.Database })
-refused = record {
-  refused = λ database f named e. record { out = refl; log = ap ended (sym (the_line database f named e)); status = refl };
-  unified = λ database sheet named e f. absurd (no_fault database named e);
-}
+refused = bad_database refl its_fault (record { out = refl; log = ap ended (sym its_line); status = refl })
 
 -- ---- a finished text gives its theorem and a proof that is accepted for it
 

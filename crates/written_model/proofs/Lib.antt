@@ -7,6 +7,7 @@ mod NamedExamples
 mod PairsExamples
 mod ProofTreesExamples
 pub mod SoundIsRead
+mod RefusedExamples
 pub mod SyntaxProofs
 mod WrittenExamples
 mod WholeDatabase

@@ -8,11 +8,9 @@ use Rattle.mm_base.specs.declared.symbols.Typecode.{Typecode}
 use Rattle.mm_base.specs.declared.tree.Tree.{Tree}
 use Rattle.mm_base.specs.declared.status.Status.TheVariants as status
 use Rattle.mm_base.specs.Trees.{code_of}
-use Rattle.mm_model.specs.Faults.{Fault}
 use Rattle.mm_model.specs.Names.{sym as symbol}
 use Rattle.mm_model.specs.Statements.{database_fault}
 use Rattle.mm_model.specs.Productions.{TypedVariable}
-use Rattle.mm_model.specs.Book.{Database, IsDatabaseOf}
 use Rattle.mm_model.specs.Typed.{IsTyped}
 use Rattle.mm_model.proofs.SizeLaws.{node_counts}
 use Rattle.mm_model.proofs.TextLaws.{texts}
@@ -22,6 +20,7 @@ use Rattle.proof_model.specs.Codes.{normal_code}
 use Rattle.proof_model.specs.Proofs.{by, none, proofs, postorder}
 use Rattle.sheet_text.specs.declared.sheet.Sheet.{Sheet}
 use Rattle.sheet_text.specs.declared.sheet.SheetStep.{SheetStep}
+use Rattle.sheet_text.specs.TextFaults.{text_fault}
 use Rattle.sheet_text.specs.Layout.{layout, steps, spaced}
 use Rattle.sheet_text.specs.Reads.{Reads, unnumbered}
 use Rattle.sheet_text.specs.ReadsExamples.{text}
@@ -38,7 +37,7 @@ use Rattle.solve_model.proofs.TreeLaws.{replaces, leaves}
 use Rattle.written_model.specs.declared.options.DvMode.TheVariants as dv
 use Rattle.written_model.specs.declared.options.ProofStyle.TheVariants as style
 use Rattle.written_model.specs.Found.{IsSearched}
-use Rattle.written_model.specs.Headline.{Ending, IsAnswered, Unifies, ProvesItself}
+use Rattle.written_model.specs.Headline.{Ending, unified, IsAnswered, Unifies, ProvesItself}
 use Rattle.written_model.specs.Named.{IsNaming, IsWrittenLeaf, WorkVariable, new_works, name_tree}
 use Rattle.written_model.specs.ProofTrees.{Finished, is_complete}
 use Rattle.written_model.specs.Found.{is_ground}
@@ -288,14 +287,17 @@ written_size = simp node_counts refl
 labels_of : (s : Sheet) → s ≡ unnumbered numbered → length (postorder (qed_proof db (theorem_of db s) (fitting ∷ []))) ≡ 2
 labels_of s e = rw e (ap (λ p. length (postorder p)) proof_is)
 
+no_first : (e : WrittenStep) → Some e ≡ None → ⊥
+no_first e h = cc
+
 no_late_fault : HasNoLateFault db options writing
 no_late_fault k r (LateFault.long e (inl h)) = few_tokens h.1
-no_late_fault k r (LateFault.long e (inr h)) = h.1
+no_late_fault k r (LateFault.long e (inr h)) = no_first e h.1
 no_late_fault k r (LateFault.ambiguous e (inl h)) = one_tree (subst (λ ts. HasTwoTrees db 5 ts) tokens_are h.1)
   where
     tokens_are : formula_tokens db ps ≡ codes "|-" ∷ codes "ps" ∷ []
     tokens_are = simp texts refl
-no_late_fault k r (LateFault.ambiguous e (inr h)) = h.1
+no_late_fault k r (LateFault.ambiguous e (inr h)) = no_first e h.1
 no_late_fault k r (LateFault.much l) = let is = written_size in omega (arith, l, is)
 no_late_fault k r (LateFault.proof f s l) = let is = labels_of (written_sheet db options writing) written_sheet_is in omega (arith, l, is)
 no_late_fault k r (LateFault.large l) = short l
@@ -306,19 +308,25 @@ abbrev tokens : List (List ℕ)
 tokens = codes "wps" ∷ codes "any" ∷ []
 
 proves : ProvesItself db options written_text_is
-proves = record { sheet = numbered; reads = as_written; tokens = tokens; has_proof = refl; code = normal_code tokens; is_code = refl; accepted = refl }
+proves = record { sheet = numbered; reads = as_written; tokens = tokens; has_proof = refl; code = normal_code (theorem_of db numbered).mandatory tokens; is_code = refl; accepted = refl }
 
 abbrev pub ending : Ending
 ending = record { out = written_text_is; log = text (codes "qed fits any" ∷ codes "finished" ∷ []); status = status.Finished }
 
+no_text_fault : text_fault read_text ≡ None
+no_text_fault = refl
+
+no_text_fault_again : text_fault written_text_is ≡ None
+no_text_fault_again = refl
+
 unifies : Unifies db options read_text ending
 unifies = record {
   answer = wrote writing;
-  answers = Answers.written (writes read_text as_read) no_late_fault;
+  answers = Answers.written no_text_fault (writes read_text as_read) no_late_fault;
   gives = record { out = sym text_is; log = refl; status = refl };
   proves = λ e. proves;
   no_proof = λ e. absurd (cc);
-  again = λ w e. record { writing = writing; answers = Answers.written (writes written_text_is as_written) no_late_fault; same_text = text_is; same_end = finishes w e };
+  again = λ w e. record { writing = writing; answers = Answers.written no_text_fault_again (writes written_text_is as_written) no_late_fault; same_text = text_is; same_end = finishes w e };
 }
   where
     finishes : (w : Writing) → wrote writing ≡ wrote w → true ≡ w.finished
@@ -327,16 +335,5 @@ unifies = record {
 no_fault : database_fault database_text ≡ None
 no_fault = refl
 
-over : (database sheet : List ℕ) → Some database_text ≡ Some database → Some read_text ≡ Some sheet
-    → (d : Database) × IsDatabaseOf options.kinds database d × Unifies d options sheet ending
-over database sheet e f =
-    (db, subst (λ t. IsDatabaseOf options.kinds t db) (some_is database_text database e) is_database, subst (λ t. Unifies db options t ending) (some_is read_text sheet f) unifies)
-
 pub is_answered : IsAnswered files words ending
-is_answered = record {
-  refused = λ database f e h. absurd (refusal database f e h);
-  unified = λ database sheet e h f. over database sheet e f;
-}
-  where
-    refusal : (database : List ℕ) (f : Fault) → Some database_text ≡ Some database → database_fault database ≡ Some f → ⊥
-    refusal database f e h = let text_same : database_text ≡ database = some_is database_text database e in let no : None ≡ Some f = sym no_fault ∙ ap database_fault text_same ∙ h in cc
+is_answered = unified {database = database_text} {sheet = read_text} refl no_fault refl is_database unifies

@@ -1,5 +1,5 @@
 -- The lines of faults, computed.
-use Rattle.std.specs.Prelude.{◌≡◌, codes, refl}
+use Rattle.std.specs.Prelude.{◌≡◌, [], ◌∷◌, map, codes, refl}
 use Rattle.std.specs.Fmt.{digits}
 use Rattle.mm_model.specs.Faults.{fault}
 use Rattle.written_model.specs.Written.{at_line, too_much, formula_too_long, written_two_trees, too_much_written, proof_too_long, too_large}
@@ -9,9 +9,19 @@ pub of_database : database_line (fault 13 12) ≡ codes "database error 12 Redec
 unfolding digits
 of_database = refl
 
+pub of_codes : map (λ n. database_line (fault 7 n)) (2 ∷ 10 ∷ []) ≡ codes "database error 2 OpenComment at byte 7" ∷ codes "database error 10 Include at byte 7" ∷ []
+unfolding digits
+of_codes = refl
+
 pub of_text : refusal_line (at_line (fault 6 42)) ≡ codes "sheet error 42 NoFooter at line 6"
 unfolding digits
 of_text = refl
+
+pub of_lines : map (λ n. refusal_line (at_line (fault 3 n))) (40 ∷ 60 ∷ 61 ∷ 62 ∷ 65 ∷ 66 ∷ 68 ∷ [])
+    ≡ codes "sheet error 40 NoHeader at line 3" ∷ codes "sheet error 60 LocUnknown at line 3" ∷ codes "sheet error 61 TheoremTaken at line 3" ∷ codes "sheet error 62 HypsDiffer at line 3"
+    ∷ codes "sheet error 65 NotProvable at line 3" ∷ codes "sheet error 66 UnknownSymbol at line 3" ∷ codes "sheet error 68 TwoTrees at line 3" ∷ []
+unfolding digits
+of_lines = refl
 
 pub of_size : refusal_line (too_much 16780387) ≡ codes "sheet error 74 TooMuch size 16780387"
 unfolding digits

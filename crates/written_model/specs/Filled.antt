@@ -1,6 +1,6 @@
 -- The places that are missing, and the new steps that fill them.
-use Rattle.std.specs.Prelude.{ℕ, zero, suc, ◌+◌, not, false, List, [], ◌∷◌, ◌++◌, length, map, drop, find, fold, zip, position, unwrap_or, slice_index_or, decimal, Option, Some, None, codes}
-use Rattle.std.specs.List.{range_with_len}
+use Rattle.std.specs.Prelude.{ℕ, zero, suc, ◌+◌, not, false, List, [], ◌∷◌, ◌++◌, length, map, drop, find, fold, zip, unwrap_or, slice_index_or, decimal, if◌then◌else◌, Some, None, codes}
+use Rattle.std.specs.List.{list_any, position_or_len, range_with_len}
 use Rattle.mm_base.specs.declared.tree.Tree.{Tree}
 use Rattle.mm_model.specs.Names.{Name, contains}
 use Rattle.mm_model.specs.Productions.{TypedVariable}
@@ -20,17 +20,14 @@ use Rattle.written_model.specs.declared.report.ReportVerdict.{ReportVerdict}
 use Rattle.written_model.specs.declared.report.ReportVerdict.TheVariants as report
 use Rattle.written_model.specs.WrittenSteps.{Use, WrittenStep, WrittenItem, comment, step, steps_in, trees}
 
-abbrev pub fill_first : List Tree → Tree → Option ℕ → (List Tree → Filled) → Filled
-fill_first earlier w (Some k) rest = record { made = (rest earlier).made; places = k ∷ (rest earlier).places }
-fill_first earlier w None rest = record { made = w ∷ (rest (earlier ++ w ∷ [])).made; places = length earlier ∷ (rest (earlier ++ w ∷ [])).places }
+-- the trees that none of the first list equals, each where it first stands
+abbrev pub new_trees : List Tree → List Tree → List Tree
+new_trees seen [] = []
+new_trees seen (w ∷ ws) = if list_any (same_tree w) seen then new_trees seen ws else w ∷ new_trees (seen ++ w ∷ []) ws
 
-abbrev pub fill_from : List Tree → List Tree → Filled
-fill_from [] earlier = record { made = []; places = [] }
-fill_from (w ∷ ws) earlier = fill_first earlier w (position (same_tree w) earlier) (fill_from ws)
-
--- each wanted tree is that of the first earlier step that has it, else of a new step behind the earlier ones
+-- each wanted tree is that of the first step that has it, of the earlier ones and then the new ones
 abbrev pub fill : List Tree → List Tree → Filled
-fill earlier wanted = fill_from wanted earlier
+fill earlier wanted = record { made = new_trees earlier wanted; places = map (λ w. position_or_len (same_tree w) (earlier ++ new_trees earlier wanted)) wanted }
 
 -- `d` and the least number from 1 that makes a name not used
 abbrev pub derived_name : List Name → Name

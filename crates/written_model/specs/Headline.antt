@@ -10,7 +10,7 @@ use Rattle.mm_model.specs.Book.{Database, IsDatabaseOf}
 use Rattle.proof_model.specs.declared.code.Code.{Code}
 use Rattle.proof_model.specs.Codes.{normal_code}
 use Rattle.proof_model.specs.Machine.{Accepts}
-use Rattle.proof_model.specs.ProofCode.{Spells}
+use Rattle.proof_model.specs.ProofCode.{Spells, code_fault}
 use Rattle.sheet_text.specs.declared.sheet.Sheet.{Sheet}
 use Rattle.sheet_text.specs.Layout.{ended, spaced}
 use Rattle.sheet_text.specs.Reads.{Reads}
@@ -33,10 +33,10 @@ tokens_between s = without_end (drop 1 (tokens_in s))
 abbrev pub proof_tokens : List ℕ → Option (List Name)
 proof_tokens text = option_map tokens_between (find is_proof (statements text))
 
--- the code of a proof, in a style
+-- the code of a proof, in a style; a compressed one has no fault
 abbrev pub IsProofCode : ProofStyle → List Name → List Name → Code → Type 0
 IsProofCode style.Normal mandatory tokens code = code ≡ normal_code mandatory tokens
-IsProofCode style.Compressed mandatory tokens code = Spells (spaced tokens) mandatory code
+IsProofCode style.Compressed mandatory tokens code = (code_fault (spaced tokens) mandatory ≡ None) × Spells (spaced tokens) mandatory code
 
 -- the text alone gives a theorem, and a proof that the stack machine accepts for it
 pub record ProvesItself (db : Database) (options : Options) (text : List ℕ) : Type 0 where
@@ -92,17 +92,18 @@ pub record Unifies (db : Database) (options : Options) (sheet : List ℕ) (end :
   pub no_proof : end.status ≡ status.Unfinished → proof_tokens end.out ≡ None
   pub again : (w : Writing) → answer ≡ wrote w → IsFixed db options end.out w.finished
 
--- a database with a fault is refused; over another the worksheet is unified
-pub record Headline (files : Files) (command : Command) (end : Ending) : Type 0 where
-  pub refused : (database : List ℕ) (f : Fault) → files command.database ≡ Some database → database_fault database ≡ Some f → Refuses end status.Database (database_line f)
-  pub unified : (database sheet : List ℕ) → files command.database ≡ Some database → database_fault database ≡ None → files command.sheet ≡ Some sheet
-      → (db : Database) × IsDatabaseOf command.options.kinds database db × Unifies db command.options sheet end
+-- a database with a fault is refused; over another the worksheet is unified. Where a file that is looked at is missing, nothing is an answer
+pub data Headline (files : Files) (command : Command) (end : Ending) : Type 0 where
+  bad_database : {database : List ℕ} {f : Fault} → files command.database ≡ Some database → database_fault database ≡ Some f → Refuses end status.Database (database_line f)
+      → Headline files command end
+  unified : {database sheet : List ℕ} {db : Database} → files command.database ≡ Some database → database_fault database ≡ None → files command.sheet ≡ Some sheet
+      → IsDatabaseOf command.options.kinds database db → Unifies db command.options sheet end → Headline files command end
 
 -- the words fit no command, or they are a command
 abbrev pub IsAnsweredFor : Files → Option Command → Ending → Type 0
 IsAnsweredFor files None end = Refuses end status.Words usage_line
 IsAnsweredFor files (Some command) end = Headline files command end
 
--- the headline: what a call gives for its words over the files that the store tells, where no memory and no device failed
+-- the headline: what a call gives is the answer to these words over these files
 abbrev pub IsAnswered : Files → List Name → Ending → Type 0
 IsAnswered files words end = IsAnsweredFor files (command_of words) end

@@ -1,6 +1,7 @@
 pub mod Again
 pub mod CommandWords
 pub mod CommandWordsExamples
+pub mod Existence
 pub mod FaultLines
 pub mod FaultLinesExamples
 pub mod Filled

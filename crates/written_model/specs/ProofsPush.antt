@@ -1,4 +1,4 @@
--- Laws: what the proof of a tree, and of a step, leaves on the stack.
+-- Laws (not proved yet): what the proof of a tree, and of a step, leaves on the stack.
 use Rattle.std.specs.Prelude.{◌≡◌, ℕ, true, None, find, List, [], ◌∷◌, flat_map, slice_get, slice_index_or, Contains, Some, Result, Ok}
 use Rattle.std.specs.Str.{bytes_eq}
 use Rattle.mm_base.specs.declared.symbols.Sym.{Sym}
@@ -72,7 +72,7 @@ StepProofPushes db text options w = (i : ℕ) (e : WrittenStep) → IsOpened opt
     → Below (steps_in w.items) i → slice_get (steps_in w.items) i ≡ Some e
     → Pushes (frames_of db) (written_theorem db options w) (proof_at db options w i) (symbols_from db (formula_tokens db e.tree))
 
--- and each label has as many subproofs as it takes hypotheses, so that its compressed code ends with the same stack
+-- in it each label has as many subproofs as it takes hypotheses, so that its compressed code ends with the same stack
 abbrev pub StepProofHasArities : Database → List ℕ → Options → Writing → Type 0
 StepProofHasArities db text options w = (i : ℕ) → IsOpened options.kinds db → Writes db text options w → w.finished ≡ true → Below (steps_in w.items) i
     → HasArities (frames_of db) (written_theorem db options w) (proof_at db options w i)

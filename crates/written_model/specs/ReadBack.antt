@@ -1,4 +1,4 @@
--- Laws: what a text without a fault says, and what is laid out reads back.
+-- Laws: what a text without a fault says, and (not proved yet) that what is laid out reads back.
 use Rattle.std.specs.Prelude.{◌≡◌, ℕ, List, Option, Some, None, Contains}
 use Rattle.sheet_text.specs.declared.sheet.Sheet.{Sheet}
 use Rattle.sheet_text.specs.Layout.{layout}
@@ -19,6 +19,6 @@ abbrev pub IsOneLine : Option (List ℕ) → Type 0
 IsOneLine None = Unit {0}
 IsOneLine (Some proof) = Contains proof 10 → ⊥
 
--- a sheet that is laid out reads back as itself, but for the numbers of its lines
+-- each sheet that can be spelled reads back as itself, but for the numbers of its lines, with a proof of one line or none
 abbrev pub LaidOutReadsBack : Type 0
 LaidOutReadsBack = (s : Sheet) (proof : Option (List ℕ)) → IsSpellable s → IsOneLine proof → ReadsAs (layout s proof) s

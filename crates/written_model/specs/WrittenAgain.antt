@@ -1,4 +1,4 @@
--- Laws: a written worksheet is written again as itself, in four parts, and the answer to a worksheet is one.
+-- Laws (not proved yet): a written worksheet is written again as itself, in four parts, and the answer to a worksheet is one.
 use Rattle.std.specs.Prelude.{◌≡◌, ◌↔◌, ℕ, List}
 use Rattle.std.specs.List.{AllZip}
 use Rattle.mm_model.specs.Book.{Database}
@@ -24,7 +24,7 @@ module _ (db : Database) (text : List ℕ) (options : Options) (w : Writing) whe
 
   -- no place is missing and no leaf is fresh, so that nothing is filled and nothing named
   abbrev pub NothingIsMade : Type 0
-  NothingIsMade = Writes db text options w → after_naming db options (again db options w) ≡ (again db options w).items
+  NothingIsMade = IsOpened options.kinds db → Writes db text options w → after_naming db options (again db options w) ≡ (again db options w).items
 
   -- nothing further is found; the pairs and the end stay
   pub record EndStays : Type 0 where
@@ -32,6 +32,7 @@ module _ (db : Database) (text : List ℕ) (options : Options) (w : Writing) whe
     pub pairs : written_pairs db options (again db options w) ≡ written_pairs db options w
     pub finished : Finished options.dv (written_pairs db options w) (steps_in (again db options w).items) ↔ Finished options.dv w.bound.pairs (steps_in w.items)
 
+  -- what is searched again, its pairs and its end stay as they were written
   abbrev pub SearchStays : Type 0
   SearchStays = IsOpened options.kinds db → Writes db text options w → HasNoLateFault db options w → EndStays
 
@@ -41,6 +42,7 @@ module _ (db : Database) (text : List ℕ) (options : Options) (w : Writing) whe
     pub no_fault : HasNoLateFault db options (again db options w)
     pub same : written_text db options (again db options w) ≡ written_text db options w
 
+  -- what was written without a fault is written again as itself
   abbrev pub IsWrittenAgain : Type 0
   IsWrittenAgain = IsOpened options.kinds db → Writes db text options w → HasNoLateFault db options w → IsFixpoint
 

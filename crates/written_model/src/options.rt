@@ -21,6 +21,7 @@ pub enum DvMode {
 /// How a worksheet is unified and written.
 #[derive(Debug, Drop)]
 pub struct Options {
+    /// How its proof is written.
     pub style: ProofStyle,
     /// The typecodes of assertions and of their trees.
     pub kinds: Kinds,
