@@ -1,4 +1,4 @@
--- The letters of steps that name what is there have no fault.
+-- The letters of steps whose numbers are in range have no fault.
 use Rattle.std.proofs.Common.{◌≡◌, ◌≤◌, ◌<◌, ℕ, suc, ◌+◌, ◌-◌, ◌*◌, Bool, true, false, cond, not, ◌||◌, ◌&&◌, eqb, leb, ltb, List, [], ◌∷◌, ◌++◌, length, Option, Some, None, option_map, refl, sym, ap, ◌∙◌, arith, subst, append_assoc}
 use mathlib.Core.List.{reverse_aux}
 use Rattle.std.specs.Prelude.{find}
@@ -183,6 +183,6 @@ steps_sound m n marks before letters (x ∷ xs) (front, rest, whole, one, others
     let parts : letters ≡ one.front ++ (mark x.marked ++ rest) = whole ∙ ap (λ (ls : List ℕ). ls ++ rest) one.whole ∙ append_assoc one.front (mark x.marked) rest in
     ap (fault_from (m + n) before) parts ∙ first.2 ∙ second.2 ∙ steps_sound m n (marks_with x.marked marks) second.0 rest xs others t.1 second.1
 
--- the letters of steps that name what is there have no fault
+-- the letters of steps whose numbers are in range have no fault
 pub letters_sound : (m n : ℕ) (letters : List ℕ) (steps : List Step) → SpellsSteps m n letters steps → AreInRange m n 0 steps → letter_fault (m + n) letters ≡ None
 letters_sound m n letters steps s t = steps_sound m n 0 [] letters steps s t (record { ended = refl; value = refl; marks_are = refl })

@@ -1,5 +1,6 @@
 -- The stack machine that checks a proof (Metamath book, section 4.1.4).
 use Rattle.std.specs.Prelude.{◌≡◌, ℕ, suc, Bool, false, true, not, ◌&&◌, ◌||◌, ◌==◌, List, [], ◌∷◌, ◌++◌, length, take, drop, reverse, slice_get, slice_index_or, nat_lt, Option, Some, None, Result, Ok, Err, if◌then◌else◌, map, flat_map, filter, find, option_map}
+use Rattle.std.specs.Cmp.Lexicographic.{pointwise}
 use Rattle.std.specs.List.{list_any, zip}
 use Rattle.std.specs.Option.{option_map_or, option_or}
 use Rattle.std.specs.Str.{bytes_eq}
@@ -47,11 +48,9 @@ machine_code unknown = 9
 
 -- ---- substitution
 
+-- two formulas are equal
 abbrev pub same_formula : Formula → Formula → Bool
-same_formula [] [] = true
-same_formula [] (b ∷ bs) = false
-same_formula (a ∷ more) [] = false
-same_formula (a ∷ more) (b ∷ bs) = a.0 == b.0 && same_formula more bs
+same_formula f g = pointwise (λ (a b : Sym). a.0 == b.0) f g
 
 -- the hypothesis is the `$f` of this variable
 abbrev pub is_float_of : Sym → Hyp → Bool
