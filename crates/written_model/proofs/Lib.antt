@@ -1,6 +1,7 @@
 mod BlankExample
 mod DoublingExamples
 mod FilledExamples
+mod FinishedExamples
 mod FoundExamples
 mod HeadlineExamples
 mod NamedExamples
