@@ -8,6 +8,7 @@ mod NamedExamples
 mod PairsExamples
 mod ProofTreesExamples
 mod RefusedExamples
+mod SearchGivenExample
 pub mod SyntaxProofs
 mod WrittenExamples
 mod WholeDatabase
