@@ -71,8 +71,8 @@ abbrev pub hyp_label_twice : Sheet → ℕ → SheetStep → Bool
 hyp_label_twice s i t = t.hyp && option_map_or (λ l. list_any (λ (u : SheetStep). u.hyp && has_label u.reference l) (take i (steps s))) t.reference false
 
 -- a formula of which trees are asked: not blank, and without the faults 65, 66 and 71
-abbrev pub is_sound : Database → Sheet → SheetStep → Bool
-is_sound db s t = not (is_blank t) && not (not_provable db t) && not (unknown_symbol db s t) && not (formula_long t)
+abbrev pub asks_for_tree : Database → Sheet → SheetStep → Bool
+asks_for_tree db s t = not (is_blank t) && not (not_provable db t) && not (unknown_symbol db s t) && not (formula_long t)
 
 abbrev pub is_variable_at : Database → ℕ → Name → Bool
 is_variable_at db place name = option_map_or (λ (v : Sym). list_any (λ (w : Sym). w.0 == v.0) (db.active_at place).variables) (symbol_of db name) false
@@ -91,14 +91,14 @@ step_rules db s =
     (62, hyps_differ db s) ∷ (63, hyp_label_taken db s) ∷ (64, λ i t. hyp_with_hyps t) ∷ (65, λ i t. not_provable db t) ∷ (66, λ i t. unknown_symbol db s t)
     ∷ (69, λ i t. wants_formula t) ∷ (71, λ i t. formula_long t) ∷ (72, hyp_label_twice s) ∷ []
 
--- a fault stands at a line. 67: a sound formula without a tree; 68: one with two trees
+-- a fault stands at a line. Of a formula whose trees are asked for, 67: it has none; 68: it has two
 pub data BindFaultAt (db : Database) (s : Sheet) : ℕ → ℕ → Type 0 where
   at_header : (k : ℕ) {code : ℕ} {rule : Sheet → Bool} → slice_get (header_rules db) k ≡ Some (code, rule) → rule s ≡ true → BindFaultAt db s s.line code
   at_step : (k i : ℕ) {code : ℕ} {rule : ℕ → SheetStep → Bool} {t : SheetStep} → slice_get (step_rules db s) k ≡ Some (code, rule) → slice_get (steps s) i ≡ Some t → rule i t ≡ true
       → BindFaultAt db s t.line code
   at_pairs : (i : ℕ) {p : PairLine} → slice_get s.pairs i ≡ Some p → not_variable db s p ≡ true → BindFaultAt db s p.line 70
-  no_tree : (i : ℕ) {t : SheetStep} → slice_get (steps s) i ≡ Some t → is_sound db s t ≡ true → HasNoTree db (place_of db s) t.formula → BindFaultAt db s t.line 67
-  two_trees : (i : ℕ) {t : SheetStep} → slice_get (steps s) i ≡ Some t → is_sound db s t ≡ true → HasTwoTrees db (place_of db s) t.formula → BindFaultAt db s t.line 68
+  no_tree : (i : ℕ) {t : SheetStep} → slice_get (steps s) i ≡ Some t → asks_for_tree db s t ≡ true → HasNoTree db (place_of db s) t.formula → BindFaultAt db s t.line 67
+  two_trees : (i : ℕ) {t : SheetStep} → slice_get (steps s) i ≡ Some t → asks_for_tree db s t ≡ true → HasTwoTrees db (place_of db s) t.formula → BindFaultAt db s t.line 68
 
 -- the first of them, by line and then code
 abbrev pub IsBindFault : Database → Sheet → Fault → Type 0

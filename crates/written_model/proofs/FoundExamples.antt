@@ -14,7 +14,7 @@ use Rattle.solve_model.specs.Example.{P, wff, ph, ps, ax_1, ax_mp}
 use Rattle.solve_model.proofs.TreeLaws.{leaves, replaces}
 use Rattle.written_model.specs.declared.options.DvMode.TheVariants as dv
 use Rattle.written_model.specs.WrittenSteps.{Use, WrittenStep, place_tree}
-use Rattle.written_model.specs.Found.{is_searched, search_orders, Choice, Fits, FitsUse, IsFound, IsSearched, valued}
+use Rattle.written_model.specs.Found.{is_to_be_searched, search_orders, Choice, Fits, FitsUse, IsFound, IsSearched, valued}
 use Rattle.written_model.specs.declared.report.ReportVerdict.TheVariants as report
 use Rattle.written_model.specs.WholeExample.{db, fitting}
 use Rattle.written_model.specs.WrittenExample.{first, derived, found}
@@ -24,16 +24,16 @@ steps = first ∷ derived ∷ []
 
 -- ---- which steps are searched
 
-pub searched : is_searched steps derived ≡ true
+pub searched : is_to_be_searched steps derived ≡ true
 searched = simp leaves refl
 
-pub hypothesis : is_searched steps first ≡ false
+pub hypothesis : is_to_be_searched steps first ≡ false
 hypothesis = refl
 
-pub with_gap : is_searched steps (record derived { places = given.Gap ∷ [] }) ≡ false
+pub with_gap : is_to_be_searched steps (record derived { places = given.Gap ∷ [] }) ≡ false
 with_gap = simp leaves refl
 
-pub with_work_variable : is_searched steps (record derived { tree = Work wff 1 }) ≡ false
+pub with_work_variable : is_to_be_searched steps (record derived { tree = Work wff 1 }) ≡ false
 with_work_variable = simp leaves refl
 
 -- two places stand in either order, one place or none in one

@@ -1,6 +1,7 @@
 mod BlankExample
 mod DoublingExamples
 mod FilledExamples
+mod FinishedExamples
 mod FoundExamples
 mod HeadlineExamples
 mod NamedExamples
@@ -8,6 +9,7 @@ mod PairsExamples
 mod ProofTreesExamples
 pub mod SoundIsRead
 mod RefusedExamples
+mod SearchGivenExample
 pub mod SyntaxProofs
 mod WrittenExamples
 mod WholeDatabase

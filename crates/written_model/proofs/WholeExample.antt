@@ -238,7 +238,7 @@ writes : (t : List ℕ) → Reads t numbered → Writes db t options writing
 writes t says = record {
   reads = record { read = numbered; reads = says; same = refl };
   binds = binds;
-  fits = size_fits;
+  within_limit = size_fits;
   judged = judged;
   most_general = most_general;
   naming = naming;

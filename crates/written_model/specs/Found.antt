@@ -26,8 +26,8 @@ abbrev pub is_ground_place : List WrittenStep → Given → Bool
 is_ground_place es g = option_map_or is_ground (place_tree es g) false
 
 -- no hypothesis, no reference, no `?`, and no work variable in its formula or those of its places
-abbrev pub is_searched : List WrittenStep → WrittenStep → Bool
-is_searched es e = not e.hyp && is_none e.reference && is_ground e.tree && list_all (is_ground_place es) e.places
+abbrev pub is_to_be_searched : List WrittenStep → WrittenStep → Bool
+is_to_be_searched es e = not e.hyp && is_none e.reference && is_ground e.tree && list_all (is_ground_place es) e.places
 
 -- its places in all orders where it lists two to six, else as they are listed
 abbrev pub search_orders : WrittenStep → List (List Given)
@@ -66,7 +66,7 @@ IsFound db place mode allowed es e o = IsFirstOrNone (Fits db place mode allowed
 
 -- the step as it is written after the search
 pub data IsSearched (db : Database) (place : ℕ) (mode : DvMode) (allowed : List Pair) (es : List WrittenStep) (e : WrittenStep) : WrittenStep → Type 0 where
-  not_searched : is_searched es e ≡ false → IsSearched db place mode allowed es e e
-  none : is_searched es e ≡ true → IsFound db place mode allowed es e None → IsSearched db place mode allowed es e e
-  found : {c : Choice} {u : Use} → is_searched es e ≡ true → IsFound db place mode allowed es e (Some c) → FitsUse db place mode allowed es e c u
+  not_searched : is_to_be_searched es e ≡ false → IsSearched db place mode allowed es e e
+  none : is_to_be_searched es e ≡ true → IsFound db place mode allowed es e None → IsSearched db place mode allowed es e e
+  found : {c : Choice} {u : Use} → is_to_be_searched es e ≡ true → IsFound db place mode allowed es e (Some c) → FitsUse db place mode allowed es e c u
       → IsSearched db place mode allowed es e (record e { reference = Some (label_name db c.label); places = c.places; verdict = report.Found; by = Some u })

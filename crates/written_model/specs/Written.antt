@@ -127,7 +127,7 @@ module _ (db : Database) (options : Options) (w : Writing) where
 pub record Writes (db : Database) (text : List ℕ) (options : Options) (w : Writing) : Type 0 where
   pub reads : ReadsAs text w.read
   pub binds : Binds db reads.read w.bound
-  pub fits : work_size db w.bound ≤ most_work_size
+  pub within_limit : work_size db w.bound ≤ most_work_size
   pub judged : AreJudged db w.bound w.judgements
   pub most_general : IsTheValuation db w.bound (accepted_in w.judgements) w.value
   pub naming : IsNaming db w.bound (trees (steps_in (after_filling db options w))) w.names
