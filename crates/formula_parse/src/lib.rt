@@ -15,3 +15,6 @@ pub use mm_model::Leaf;
 pub use parsing::{ParseFault, parse};
 pub use sizes::nodes;
 pub use texts::text;
+
+#[cfg(test)]
+mod tests;

@@ -1,5 +1,5 @@
-ghost use Rattle.std.specs.Prelude.{◌≡◌, ◌+◌, ◌<◌, length, IfOk};
-ghost use Rattle.mm_model.specs.Rows.{slot_order, place_of, EachOnce};
+ghost use Rattle.std.specs.Prelude.{◌≡◌, length, IfOk};
+ghost use Rattle.mm_model.specs.Rows.{slot_order, EachOnce};
 ghost use Rattle.formula_parse.specs.Finds.{EachFound};
 ghost use Rattle.formula_parse.specs.Made.{IsMade, AreMade};
 
@@ -7,24 +7,9 @@ use crate::found::Found;
 use mm_base::{List, Memory, Tree};
 use mm_model::{Item, Production};
 use std::mem::replace;
+use syntax_grammar::slot_place;
 
-/// Where the slot stands among the slots of the text.
-fn place(k: usize, items: &[Item]) -> usize
-    ensures place { result ≡ place_of k (slot_order items.now) }
-    ensures within { result < length items.now + 1 }
-{
-    match items {
-        [] => 0,
-        [Item::Const(_), rest @ ..] => place(k, rest),
-        [Item::Slot(slot), rest @ ..] => if *slot as usize == k {
-            0
-        } else {
-            place(k, rest) + 1
-        },
-    }
-}
-
-/// The node of a production, of trees for its slots in the order of the text, which are moved.
+/// The node of a production, of trees for its slots in the order of the text. The trees are moved.
 fn node(row: &Production, trees: List<Tree>) -> Result<Tree, Memory>
     requires once { EachOnce (length row.now.slots) (slot_order row.now.items) }
     requires count { length trees ≡ length (slot_order row.now.items) }
@@ -33,7 +18,7 @@ fn node(row: &Production, trees: List<Tree>) -> Result<Tree, Memory>
     let mut children = Vec::new(trees.allocator());
     let mut left = trees.into_vec();
     for k in 0..row.slots.as_slice().len() {
-        let at = place(k, row.items.as_slice());
+        let at = slot_place(k, row.items.as_slice());
         children.push(replace(&mut left[at], Tree::Fresh(row.gives, 0)))?;
     }
     Ok(Tree::Node(row.label, row.gives, List::from_vec(children)))

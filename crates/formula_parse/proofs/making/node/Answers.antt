@@ -34,14 +34,14 @@ loop-k-preserved c =
     let got = c.replace.result in
     let d = c.index_mut.result.now in
     let once = c.requires.once in
-    let place : c.place-at.result ≡ place_of k order = c.place-at.ensures.place ∙ ap (λ xs. place_of k (slot_order xs)) c.as_slice.ensures in
+    let place : c.slot_place-at.result ≡ place_of k order = c.slot_place-at.ensures.place ∙ ap (λ xs. place_of k (slot_order xs)) c.as_slice.ensures in
     let l : k < n = omega (arith, c.loop-k-test.true, ap length c.as_slice-k-end.ensures) in
     let within : place_of k order < length left = omega (arith, once.found k l, c.requires.count, c.loop-k.invariant.1) in
     let here : slice_get left (place_of k order) ≡ Some got = slice_get-get_or left (place_of k order) d within
     ∙ ap (λ x. Some x) (ap (λ p. get_or left p d) (sym place) ∙ sym c.index_mut.ensures.value ∙ sym c.replace.ensures.value) in
     let at : slice_get trees (place_of k order) ≡ Some got = sym (c.loop-k.invariant.3 k (omega arith) l) ∙ here in
     let pushed = c.in_ok-push.ensures.items in
-    let count : length (slice_set left c.place-at.result c.replace.new.dest) ≡ length left = search rules in (
+    let count : length (slice_set left c.slot_place-at.result c.replace.new.dest) ≡ length left = search rules in (
       omega (arith, ap length pushed, length-append children (got ∷ []), c.loop-k.invariant.0),
       count ∙ c.loop-k.invariant.1,
       (λ i m. ap (λ xs. slice_get xs i) pushed ∙ moved_turn trees order n once children k got c.loop-k.invariant.0 l at c.loop-k.invariant.2 i m),
