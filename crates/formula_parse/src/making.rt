@@ -1,9 +1,12 @@
-ghost use Rattle.std.specs.Prelude.{◌≡◌, length, IfOk};
+ghost use Rattle.std.specs.Prelude.{◌≡◌, length, IfOk, OnOk};
 ghost use Rattle.mm_model.specs.Rows.{slot_order, EachOnce};
+ghost use Rattle.mm_base.specs.declared.tree.Tree.{Tree};
+ghost use Rattle.formula_parse.specs.declared.found.Found.{Found};
+ghost use Rattle.formula_parse.specs.Finds as spec;
 ghost use Rattle.formula_parse.specs.Finds.{EachFound};
 ghost use Rattle.formula_parse.specs.Made.{IsMade, AreMade};
 
-use crate::found::Found;
+use crate::found::{Found, joined};
 use mm_base::{List, Memory, Tree};
 use mm_model::{Item, Production};
 use std::mem::replace;
@@ -25,7 +28,7 @@ fn node(row: &Production, trees: List<Tree>) -> Result<Tree, Memory>
 }
 
 /// The nodes of the sequences that were found.
-pub fn nodes(row: &Production, found: Found<List<Tree>>) -> Result<Found<Tree>, Memory>
+fn nodes(row: &Production, found: Found<List<Tree>>) -> Result<Found<Tree>, Memory>
     requires once { EachOnce (length row.now.slots) (slot_order row.now.items) }
     requires count { EachFound (λ us. length us ≡ length (slot_order row.now.items)) found }
     ensures { IfOk result (AreMade row.now found) }
@@ -38,4 +41,16 @@ pub fn nodes(row: &Production, found: Found<List<Tree>>) -> Result<Found<Tree>, 
             Ok(Found::Two(first, node(row, others)?))
         }
     }
+}
+
+/// Adds the nodes of the sequences that were found.
+pub fn add_nodes(row: &Production, fitting: Found<List<Tree>>, found: &mut Found<Tree>) -> Result<(), Memory>
+    requires once { EachOnce (length row.now.slots) (slot_order row.now.items) }
+    requires count { EachFound (λ us. length us ≡ length (slot_order row.now.items)) fitting }
+    ensures { OnOk result ((more : Found Tree) × AreMade row.now fitting more × (found.new ≡ spec.joined found.old more)) }
+{
+    let more = nodes(row, fitting)?;
+    let before = replace(found, Found::Nothing);
+    *found = joined(before, more);
+    Ok(())
 }

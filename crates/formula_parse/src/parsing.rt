@@ -39,7 +39,9 @@ fn search(
     ensures { IfOk result (Finds (Parses rows.now before leaves.now want)) }
 {
     let chart = chart(alloc, rows, before, leaves)?;
-    trees(alloc, rows, before, leaves, &chart, 0, leaves.len(), want)
+    let mut found = Found::Nothing;
+    trees(alloc, rows, before, leaves, &chart, 0, leaves.len(), want, &mut found)?;
+    Ok(found)
 }
 
 /// The one tree of an expression, which is `leaves`, of the typecode `want`, over the kept productions whose statements

@@ -1,4 +1,4 @@
-ghost use Rattle.std.specs.Prelude.{◌≡◌, ◌<◌, ◌≤◌, length, IfOk, IsTrue, slice_get, Some};
+ghost use Rattle.std.specs.Prelude.{◌≡◌, ◌<◌, ◌≤◌, length, IfOk, IsTrue, OnOk, slice_get, Some};
 ghost use Rattle.mm_model.specs.declared.rows.Leaf.TheVariants.{Const};
 ghost use Rattle.mm_model.specs.Rows.{IsGrammar};
 ghost use Rattle.mm_model.specs.Typed.{Parses};
@@ -6,8 +6,8 @@ ghost use Rattle.formula_parse.specs.Finds.{Finds};
 ghost use Rattle.formula_parse.specs.Fits.{Fits, IsLeaf, IsDivided};
 ghost use Rattle.formula_parse.specs.Charts.{span, IsChart, IsEntry, Reaches};
 
-use crate::found::{Found, joined, paired};
-use crate::making::nodes;
+use crate::found::{Found, add_pairs, write_last};
+use crate::making::add_nodes;
 use crate::reach::{Entry, reach_from};
 use mm_base::{List, Memory, Sym, Tree, Typecode};
 use mm_model::{Item, Leaf, Production};
@@ -68,7 +68,8 @@ fn may_fit(
     Ok(ends.contains(&end))
 }
 
-/// The trees of a part of a text, of a typecode, over the rows below a place.
+/// Finds the trees of a part of a text, of a typecode, over the rows below a place. What it finds is written and not
+/// answered, which takes less of the stack.
 #[cycle(parse)]
 pub fn trees(
     alloc: Global,
@@ -79,20 +80,22 @@ pub fn trees(
     begin: usize,
     end: usize,
     want: Typecode,
-) -> Result<Found<Tree>, Memory>
+    found: &mut Found<Tree>,
+) -> Result<(), Memory>
     requires grammar { IsGrammar rows.now }
     requires full { IsChart rows.now before leaves.now 0 chart.now }
     requires order { begin ≤ end }
     requires within { end ≤ length leaves.now }
-    ensures { IfOk result (Finds (Parses rows.now before (span leaves.now begin end) want)) }
+    ensures { OnOk result (Finds (Parses rows.now before (span leaves.now begin end) want) found.new) }
 {
-    let mut found = leaf(&leaves[begin..end], want);
+    *found = leaf(&leaves[begin..end], want);
     if let Some(entries) = chart.get(begin) {
         for entry in entries.as_slice() {
             if entry.end == end && entry.code == want {
                 if let Some(row) = rows.get(entry.row) {
                     if row.at < before && row.gives == want {
-                        let fitting = sequences(
+                        let mut fitting = Found::Nothing;
+                        sequences(
                             alloc,
                             rows,
                             before,
@@ -102,21 +105,21 @@ pub fn trees(
                             row.slots.as_slice(),
                             begin,
                             end,
+                            &mut fitting,
                         )?;
-                        let more = nodes(row, fitting)?;
-                        found = joined(found, more);
-                        if let Found::Two(_, _) = &found {
-                            return Ok(found);
+                        add_nodes(row, fitting, found)?;
+                        if let Found::Two(_, _) = found {
+                            return Ok(());
                         }
                     }
                 }
             }
         }
     }
-    Ok(found)
+    Ok(())
 }
 
-/// The trees for the slots of a list of items that makes the part.
+/// Finds the trees for the slots of a list of items that makes the part.
 #[cycle(parse)]
 fn sequences(
     alloc: Global,
@@ -128,20 +131,21 @@ fn sequences(
     slots: &[Typecode],
     begin: usize,
     end: usize,
-) -> Result<Found<List<Tree>>, Memory>
+    found: &mut Found<List<Tree>>,
+) -> Result<(), Memory>
     requires grammar { IsGrammar rows.now }
     requires full { IsChart rows.now before leaves.now 0 chart.now }
     requires order { begin ≤ end }
     requires within { end ≤ length leaves.now }
-    ensures { IfOk result (Finds (Fits rows.now before slots.now items.now (span leaves.now begin end))) }
+    ensures { OnOk result (Finds (Fits rows.now before slots.now items.now (span leaves.now begin end)) found.new) }
 {
+    *found = Found::Nothing;
     match items {
         [] => {
             if begin == end {
-                Ok(Found::One(List::from_vec(Vec::new(alloc))))
-            } else {
-                Ok(Found::Nothing)
+                *found = Found::One(List::from_vec(Vec::new(alloc)));
             }
+            Ok(())
         }
         [Item::Const(sym), rest @ ..] => if has_const(leaves, begin, end, *sym) {
             sequences(
@@ -154,19 +158,21 @@ fn sequences(
                 slots,
                 begin + 1,
                 end,
+                found,
             )
         } else {
-            Ok(Found::Nothing)
+            Ok(())
         },
         [Item::Slot(k), rest @ ..] => match slots.get(*k as usize) {
-            None => Ok(Found::Nothing),
+            None => Ok(()),
             Some(code) => {
                 if rest.is_empty() {
-                    let last = trees(alloc, rows, before, leaves, chart, begin, end, *code)?;
-                    return paired(last, Found::One(List::from_vec(Vec::new(alloc))));
+                    let mut last = Found::Nothing;
+                    trees(alloc, rows, before, leaves, chart, begin, end, *code, &mut last)?;
+                    return write_last(alloc, last, found);
                 }
                 divisions(
-                    alloc, rows, before, leaves, chart, *code, rest, slots, begin, end,
+                    alloc, rows, before, leaves, chart, *code, rest, slots, begin, end, found,
                 )
             }
         },
@@ -186,17 +192,18 @@ fn divisions(
     slots: &[Typecode],
     begin: usize,
     end: usize,
-) -> Result<Found<List<Tree>>, Memory>
+    found: &mut Found<List<Tree>>,
+) -> Result<(), Memory>
     requires grammar { IsGrammar rows.now }
     requires full { IsChart rows.now before leaves.now 0 chart.now }
     requires order { begin ≤ end }
     requires within { end ≤ length leaves.now }
-    ensures { IfOk result (Finds (IsDivided rows.now before slots.now items.now code (span leaves.now begin end))) }
+    ensures { OnOk result (Finds (IsDivided rows.now before slots.now items.now code (span leaves.now begin end)) found.new) }
 {
+    *found = Found::Nothing;
     if end - begin < items.len() {
-        return Ok(Found::Nothing);
+        return Ok(());
     }
-    let mut found = Found::Nothing;
     for n in 0..end - begin - items.len() {
         let middle = begin + n + 1;
         if !has(chart, begin, middle, code) {
@@ -205,15 +212,16 @@ fn divisions(
         if !may_fit(alloc, leaves, chart, items, slots, middle, end)? {
             continue;
         }
-        let first = trees(alloc, rows, before, leaves, chart, begin, middle, code)?;
-        let rest = sequences(
-            alloc, rows, before, leaves, chart, items, slots, middle, end,
+        let mut first = Found::Nothing;
+        trees(alloc, rows, before, leaves, chart, begin, middle, code, &mut first)?;
+        let mut rest = Found::Nothing;
+        sequences(
+            alloc, rows, before, leaves, chart, items, slots, middle, end, &mut rest,
         )?;
-        let more = paired(first, rest)?;
-        found = joined(found, more);
-        if let Found::Two(_, _) = &found {
-            return Ok(found);
+        add_pairs(first, rest, found)?;
+        if let Found::Two(_, _) = found {
+            return Ok(());
         }
     }
-    Ok(found)
+    Ok(())
 }

@@ -19,14 +19,13 @@ use Rattle.formula_parse.proofs.Searches.{each_found}
 use Rattle.formula_parse.proofs.Arranged.{made_finds}
 use Rattle.formula_parse.proofs.Comparisons.{code_same, code_other}
 use Rattle.std.proofs.lemmas.Option.{slice_get-get_or, slice_get_past, none-some}
-use Rattle.std.proofs.lemmas.Result.{IfOk-weaker}
+use Rattle.std.proofs.lemmas.Result.{on_ok_weaker}
 use Rattle.mm_model.specs.declared.rows.Item.TheVariants.{Const, Slot}
 use Rattle.mm_model.specs.Rows.{slot_order}
 use Rattle.mm_model.proofs.RowLaws.{is_row}
 use Rattle.formula_parse.proofs.Weights.{tree_weight, split_weight, items_weight, split_to_tree, split_to_items, tree_to_items, items_to_rest, items_to_split}
 use Rattle.formula_parse.proofs.search.+parse.Goals as goal
-use Rattle.formula_parse.proofs.search.+parse.Goals.{trees-in-Some+else-loop-entry-test, trees-in_default}
-use Rattle.formula_parse.proofs.search.+parse.Goals.{trees-then-entry-end+then-eq+in-Some-get+then-row-before+then-eq-2+in_ok-fitting+in_ok-more+in_default-found, trees-then-entry-end+then-eq+in-Some-get+else-row-before, trees-else-row-before-via-then-row-before+else-eq-2, trees-else-row-before-via-else-row-before, trees-then-entry-end+then-eq+in_default-get, trees-else-entry-end, trees-else-entry-end-via-then-entry-end+else-eq, trees-else-entry-end-via-else-entry-end}
+use Rattle.formula_parse.proofs.search.+parse.Goals.{trees-then-entry-end+then-eq+in-Some-get+then-row-before+then-eq-2+in_ok-sequences+in_ok-add_nodes+in_default-found, trees-then-entry-end+then-eq+in-Some-get+else-row-before, trees-else-row-before-via-then-row-before+else-eq-2, trees-else-row-before-via-else-row-before, trees-then-entry-end+then-eq+in_default-get, trees-else-entry-end, trees-else-entry-end-via-then-entry-end+else-eq, trees-else-entry-end-via-else-entry-end}
 use Rattle.mm_model.specs.declared.rows.Production.{Production}
 use Rattle.formula_parse.specs.Fits.{IsOf}
 use Rattle.formula_parse.specs.Charts.{entry_of}
@@ -72,13 +71,13 @@ divisions-sequences-requires t c =
 pub divisions-returns-in-Two : goal.divisions-returns-in-Two
 divisions-returns-in-Two t c =
     let turn = part_found c.args.rows.now c.args.before c.requires.grammar.rows_hold c.args.leaves.now c.args.chart.now c.requires.full c.args.slots.now c.args.items.now c.args.code c.args.begin c.args.end c.requires.order c.requires.within
-    c.loop-n.n (omega arith) c.loop-n.found c.in_ok-first.first c.in_ok-rest.rest c.in_ok-more.more c.joined-found.result c.loop-n.invariant c.in_ok-first.ensures c.in_ok-rest.ensures c.in_ok-more.ensures c.joined-found.ensures in
-    place_stop c.args.rows.now c.args.before c.requires.grammar.rows_hold c.args.slots.now c.args.items.now c.args.code (span c.args.leaves.now c.args.begin c.args.end) (c.loop-n.n + 1) c.joined-found.result c.in-Two.field-0 c.in-Two.field-1 c.in-Two.is turn
+    c.loop-n.n (omega arith) c.loop-n.found c.trees.new.found c.sequences.new.found (paired c.trees.new.found c.sequences.new.found) c.add_pairs.new.found c.loop-n.invariant c.in_ok-trees.ensures c.in_ok-sequences.ensures refl c.in_ok-add_pairs.ensures in
+    place_stop c.args.rows.now c.args.before c.requires.grammar.rows_hold c.args.slots.now c.args.items.now c.args.code (span c.args.leaves.now c.args.begin c.args.end) (c.loop-n.n + 1) c.add_pairs.new.found c.in-Two.field-0 c.in-Two.field-1 c.in-Two.is turn
 
 pub divisions-loop-n-preserved : goal.divisions-loop-n-preserved
 divisions-loop-n-preserved t c =
     part_found c.args.rows.now c.args.before c.requires.grammar.rows_hold c.args.leaves.now c.args.chart.now c.requires.full c.args.slots.now c.args.items.now c.args.code c.args.begin c.args.end c.requires.order c.requires.within
-    c.loop-n.n (omega arith) c.loop-n.found c.in_ok-first.first c.in_ok-rest.rest c.in_ok-more.more c.joined-found.result c.loop-n.invariant c.in_ok-first.ensures c.in_ok-rest.ensures c.in_ok-more.ensures c.joined-found.ensures
+    c.loop-n.n (omega arith) c.loop-n.found c.trees.new.found c.sequences.new.found (paired c.trees.new.found c.sequences.new.found) c.add_pairs.new.found c.loop-n.invariant c.in_ok-trees.ensures c.in_ok-sequences.ensures refl c.in_ok-add_pairs.ensures
 
 pub divisions-returns : goal.divisions-returns
 divisions-returns t c = part_end c.args.rows.now c.args.before c.requires.grammar.rows_hold c.args.leaves.now c.args.chart.now c.requires.full c.args.slots.now c.args.items.now c.args.code c.args.begin c.args.end c.requires.order c.requires.within
@@ -109,10 +108,10 @@ sequences-returns-else-is_empty t c =
     let slot = slice_get-get_or c.args.slots.now c.in-Slot.k c.in-Some.code.now c.in-Some.ensures.lookup.3.0 ∙ ap (λ x. Some x) (sym c.in-Some.ensures.lookup.1) in
     let first : get_or c.args.items.now 0 (Const record { 0 = 0 }) ≡ Slot c.in-Slot.k = search rules in
     let split = cons_of c.args.items.now (Const record { 0 = 0 }) (Slot c.in-Slot.k) c.in-Slot.len_at_least first in
-    IfOk-weaker c.divisions.result
-    (Finds (IsDivided c.args.rows.now c.args.before c.args.slots.now (take (length c.args.items.now - 1) (drop 1 c.args.items.now)) c.in-Some.code.now text))
-    (Finds (Fits c.args.rows.now c.args.before c.args.slots.now c.args.items.now text)) (λ f h.
-    let own = subst (λ o. Finds (λ us. (n : ℕ) × Splits c.args.rows.now c.args.before (Fits c.args.rows.now c.args.before c.args.slots.now (take (length c.args.items.now - 1) (drop 1 c.args.items.now))) o text us n) f) (sym slot) h in
+    let rest = take (length c.args.items.now - 1) (drop 1 c.args.items.now) in
+    let f = c.divisions.new.found in
+    on_ok_weaker c.divisions.result (λ (h : Finds (IsDivided c.args.rows.now c.args.before c.args.slots.now rest c.in-Some.code.now text) f).
+    let own = subst (λ o. Finds (λ us. (n : ℕ) × Splits c.args.rows.now c.args.before (Fits c.args.rows.now c.args.before c.args.slots.now rest) o text us n) f) (sym slot) h in
     subst (λ xs. Finds (Fits c.args.rows.now c.args.before c.args.slots.now xs text) f) (sym split) own) c.divisions.ensures
 
 pub sequences-returns-else-begin-end : goal.sequences-returns-else-begin-end
@@ -133,22 +132,20 @@ trees-sequences-requires t c =
     let slots = subst (λ xs. items_weight rows xs c.as_slice.result.now n < tree_weight rows n c.args.want) (sym c.as_slice-then-eq-2.ensures) items in
     (omega (arith, slots, c.decreases), (c.requires.grammar, (c.requires.full, (c.requires.order, c.requires.within))))
 
-pub trees-returns : goal.trees-returns
-trees-returns t c =
+pub trees-returns-after-loop-entry : goal.trees-returns-after-loop-entry
+trees-returns-after-loop-entry t c =
     let rows = c.args.rows.now in
     let leaves = c.args.leaves.now in
     let b = c.args.begin in
     let e = c.args.end in
-    elim c.match-get.branch [
-      | trees-in-Some+else-loop-entry-test w ↦
-          let at = slice_get-get_or c.args.chart.now b w.in-Some.entries.now w.in-Some.ensures.lookup.3.0 ∙ ap (λ x. Some x) (sym w.in-Some.ensures.lookup.1) in
-          let full = subst (IsComplete rows c.args.before leaves b) (sym w.as_slice-entry-items.ensures) (chart_entries rows c.args.before leaves c.args.chart.now b w.in-Some.entries.now c.requires.full at) in
-          subst (Finds (Parses rows c.args.before (span leaves b e) c.args.want)) (sym w.found-is)
-          (entry_end rows c.args.before c.requires.grammar.rows_hold leaves b e c.requires.order c.requires.within c.args.want w.as_slice-entry-items.result.now full w.loop-entry.entry-index w.loop-entry-test.false w.loop-entry.found w.loop-entry.invariant)
-      | trees-in_default w ↦
-          subst (Finds (Parses rows c.args.before (span leaves b e) c.args.want)) (sym w.found-is)
-          (nothing_there rows c.args.before c.requires.grammar.rows_hold leaves b e c.requires.order c.requires.within c.args.want (omega (arith, w.in_default.ensures.lookup.3, c.requires.full.count)) c.leaf-found.result c.leaf-found.ensures)
-    ]
+    let at = slice_get-get_or c.args.chart.now b c.in-Some.entries.now c.in-Some.ensures.lookup.3.0 ∙ ap (λ x. Some x) (sym c.in-Some.ensures.lookup.1) in
+    let full = subst (IsComplete rows c.args.before leaves b) (sym c.as_slice-entry-items.ensures) (chart_entries rows c.args.before leaves c.args.chart.now b c.in-Some.entries.now c.requires.full at) in
+    entry_end rows c.args.before c.requires.grammar.rows_hold leaves b e c.requires.order c.requires.within c.args.want c.as_slice-entry-items.result.now full c.loop-entry.entry-index c.loop-entry-test.false c.loop-entry.found c.loop-entry.invariant
+
+pub trees-returns-in_default : goal.trees-returns-in_default
+trees-returns-in_default t c =
+    nothing_there c.args.rows.now c.args.before c.requires.grammar.rows_hold c.args.leaves.now c.args.begin c.args.end c.requires.order c.requires.within c.args.want
+    (omega (arith, c.in_default.ensures.lookup.3, c.requires.full.count)) c.leaf.result c.leaf.ensures
 
 pub trees-returns-in-Two : goal.trees-returns-in-Two
 trees-returns-in-Two t c =
@@ -164,22 +161,25 @@ trees-returns-in-Two t c =
     let stands = slice_get-get_or rows _ r c.in-Some-get.ensures.lookup.3.0 ∙ ap (λ x. Some x) (sym c.in-Some-get.ensures.lookup.1) in
     let row = is_row rows c.requires.grammar.rows_hold _ r stands in
     let gives = code_same r.gives c.args.want c.if-eq-2.ensures in
-    let fits = subst (λ xs. Finds (Fits rows c.args.before r.slots xs text) c.in_ok-fitting.fitting) c.as_slice.ensures
-    (subst (λ xs. Finds (Fits rows c.args.before xs c.as_slice.result.now text) c.in_ok-fitting.fitting) c.as_slice-then-eq-2.ensures c.in_ok-fitting.ensures) in
-    let made = made_finds rows c.args.before r row.each_once c.if-row-before.true text c.args.want gives c.in_ok-fitting.fitting c.in_ok-more.more c.in_ok-more.ensures fits in
+    let fitting = c.sequences.new.found in
+    let fits = subst (λ xs. Finds (Fits rows c.args.before r.slots xs text) fitting) c.as_slice.ensures
+    (subst (λ xs. Finds (Fits rows c.args.before xs c.as_slice.result.now text) fitting) c.as_slice-then-eq-2.ensures c.in_ok-sequences.ensures) in
+    let added = c.in_ok-add_nodes.ensures in
+    let made = made_finds rows c.args.before r row.each_once c.if-row-before.true text c.args.want gives fitting added.0 added.1 fits in
     let turn = entry_found rows c.args.before c.requires.grammar.rows_hold leaves b e c.requires.order c.requires.within c.args.want c.as_slice-entry-items.result.now full c.loop-entry.entry-index _ r entry c.if-entry-end.true (code_same _ c.args.want c.if-eq.ensures) stands
-    c.loop-entry.found c.in_ok-more.more c.joined-found.result c.loop-entry.invariant made c.joined-found.ensures in
-    entry_stop rows c.args.before c.requires.grammar.rows_hold leaves b e c.requires.order c.requires.within c.args.want c.as_slice-entry-items.result.now full (c.loop-entry.entry-index + 1) c.joined-found.result c.in-Two.field-0 c.in-Two.field-1 c.in-Two.is turn
+    c.loop-entry.found added.0 c.add_nodes.new.found c.loop-entry.invariant made added.2 in
+    entry_stop rows c.args.before c.requires.grammar.rows_hold leaves b e c.requires.order c.requires.within c.args.want c.as_slice-entry-items.result.now full (c.loop-entry.entry-index + 1) c.add_nodes.new.found c.in-Two.field-0 c.in-Two.field-1 c.in-Two.is turn
 
-pub trees-nodes-requires-clause-count : goal.trees-nodes-requires-clause-count
-trees-nodes-requires-clause-count t c =
+pub trees-add_nodes-requires-clause-count : goal.trees-add_nodes-requires-clause-count
+trees-add_nodes-requires-clause-count t c =
     let rows = c.args.rows.now in
     let r = c.in-Some-get.row.now in
     let text = span c.args.leaves.now c.args.begin c.args.end in
-    let fits = subst (λ xs. Finds (Fits rows c.args.before r.slots xs text) c.in_ok-fitting.fitting) c.as_slice.ensures
-    (subst (λ xs. Finds (Fits rows c.args.before xs c.as_slice.result.now text) c.in_ok-fitting.fitting) c.as_slice-then-eq-2.ensures c.in_ok-fitting.ensures) in
+    let fitting = c.sequences.new.found in
+    let fits = subst (λ xs. Finds (Fits rows c.args.before r.slots xs text) fitting) c.as_slice.ensures
+    (subst (λ xs. Finds (Fits rows c.args.before xs c.as_slice.result.now text) fitting) c.as_slice-then-eq-2.ensures c.in_ok-sequences.ensures) in
     each_found (Fits rows c.args.before r.slots r.items text) (λ (us : List Tree). length us ≡ length (slot_order r.items))
-    (λ us h. fits_count rows c.args.before c.requires.grammar.rows_hold r.slots r.items text us h) c.in_ok-fitting.fitting fits
+    (λ us h. fits_count rows c.args.before c.requires.grammar.rows_hold r.slots r.items text us h) fitting fits
 
 pub trees-loop-entry-preserved : goal.trees-loop-entry-preserved
 trees-loop-entry-preserved t c =
@@ -200,16 +200,18 @@ trees-loop-entry-preserved t c =
     let skip = λ (none : (r : Production) (u : Tree) → x.end ≡ e → x.code ≡ c.args.want → slice_get rows x.row ≡ Some r → IsOf rows c.args.before r text c.args.want u → ⊥).
     entry_skip rows c.args.before ok leaves b e c.requires.order c.requires.within c.args.want entries full n x at none c.loop-entry.found c.loop-entry.invariant in
     elim c.if-entry-end.branch [
-      | trees-then-entry-end+then-eq+in-Some-get+then-row-before+then-eq-2+in_ok-fitting+in_ok-more+in_default-found w ↦
+      | trees-then-entry-end+then-eq+in-Some-get+then-row-before+then-eq-2+in_ok-sequences+in_ok-add_nodes+in_default-found w ↦
           let r = w.in-Some-get.row.now in
           let stands = slice_get-get_or rows x.row r w.in-Some-get.ensures.lookup.3.0 ∙ ap (λ x. Some x) (sym w.in-Some-get.ensures.lookup.1) in
           let row = is_row rows ok x.row r stands in
           let gives = code_same r.gives c.args.want w.if-eq-2.ensures in
-          let fits = subst (λ xs. Finds (Fits rows c.args.before r.slots xs text) w.in_ok-fitting.fitting) w.as_slice.ensures
-          (subst (λ xs. Finds (Fits rows c.args.before xs w.as_slice.result.now text) w.in_ok-fitting.fitting) w.as_slice-then-eq-2.ensures w.in_ok-fitting.ensures) in
-          let made = made_finds rows c.args.before r row.each_once w.if-row-before.true text c.args.want gives w.in_ok-fitting.fitting w.in_ok-more.more w.in_ok-more.ensures fits in
+          let fitting = w.sequences.new.found in
+          let fits = subst (λ xs. Finds (Fits rows c.args.before r.slots xs text) fitting) w.as_slice.ensures
+          (subst (λ xs. Finds (Fits rows c.args.before xs w.as_slice.result.now text) fitting) w.as_slice-then-eq-2.ensures w.in_ok-sequences.ensures) in
+          let added = w.in_ok-add_nodes.ensures in
+          let made = made_finds rows c.args.before r row.each_once w.if-row-before.true text c.args.want gives fitting added.0 added.1 fits in
           entry_found rows c.args.before ok leaves b e c.requires.order c.requires.within c.args.want entries full n x r at w.if-entry-end.true (code_same x.code c.args.want w.if-eq.ensures) stands
-          c.loop-entry.found w.in_ok-more.more c.if-entry-end.found c.loop-entry.invariant made (w.found-is ∙ w.joined-found.ensures)
+          c.loop-entry.found added.0 c.if-entry-end.found c.loop-entry.invariant made (w.found-is ∙ added.2)
       | trees-then-entry-end+then-eq+in-Some-get+else-row-before w ↦
           let r = w.in-Some-get.row.now in
           let stands = slice_get-get_or rows x.row r w.in-Some-get.ensures.lookup.3.0 ∙ ap (λ x. Some x) (sym w.in-Some-get.ensures.lookup.1) in
@@ -245,8 +247,9 @@ sequences-returns-then-has_const t c =
     let split = cons_of c.args.items.now (Const record { 0 = 0 }) (Const c.in-Const.sym) c.in-Const.len_at_least first in
     let next = c.has_const.ensures.within c.if-has_const.true in
     let at = c.has_const.ensures.stands c.if-has_const.true in
-    IfOk-weaker c.sequences.result (Finds (Fits rows c.args.before c.args.slots.now rest (span leaves (b + 1) e))) (Finds (Fits rows c.args.before c.args.slots.now c.args.items.now (span leaves b e)))
-    (λ f h. subst (λ xs. Finds (Fits rows c.args.before c.args.slots.now xs (span leaves b e)) f) (sym split)
+    let f = c.sequences.new.found in
+    on_ok_weaker c.sequences.result (λ (h : Finds (Fits rows c.args.before c.args.slots.now rest (span leaves (b + 1) e)) f).
+    subst (λ xs. Finds (Fits rows c.args.before c.args.slots.now xs (span leaves b e)) f) (sym split)
     (const_turn rows c.args.before leaves c.args.slots.now b e c.requires.order c.requires.within c.in-Const.sym rest (omega (arith, next)) at f h)) c.sequences.ensures
 
 pub sequences-returns-else-has_const : goal.sequences-returns-else-has_const
@@ -262,6 +265,20 @@ sequences-returns-else-has_const t c =
     (λ i at. off c.has_const.result (c.has_const.ensures.sees (omega (arith, i)) at) c.if-has_const.false) us
     (subst (λ xs. Fits rows c.args.before c.args.slots.now xs (span leaves b e) us) split h)
 
+pub sequences-trees-requires : goal.sequences-trees-requires
+sequences-trees-requires t c =
+    let n = c.args.end - c.args.begin in
+    let rows = c.args.rows.now in
+    let slot = slice_get-get_or c.args.slots.now c.in-Slot.k c.in-Some.code.now c.in-Some.ensures.lookup.3.0 ∙ ap (λ x. Some x) (sym c.in-Some.ensures.lookup.1) in
+    let first : get_or c.args.items.now 0 (Const record { 0 = 0 }) ≡ Slot c.in-Slot.k = search rules in
+    let split = cons_of c.args.items.now (Const record { 0 = 0 }) (Slot c.in-Slot.k) c.in-Slot.len_at_least first in
+    let rest = take (length c.args.items.now - 1) (drop 1 c.args.items.now) in
+    let none : length rest ≡ 0 = eqb-true (length rest) 0 (sym c.is_empty.ensures ∙ c.if-is_empty.true) in
+    let to_split = items_to_split rows n c.args.slots.now c.in-Slot.k c.in-Some.code.now rest slot in
+    let to_tree = split_to_tree rows n n c.in-Some.code.now rest (omega (arith, none)) in
+    let all = subst (λ xs. split_weight rows c.in-Some.code.now rest n < items_weight rows c.args.slots.now xs n) (sym split) to_split in
+    (omega (arith, all, to_tree, c.decreases), (c.requires.grammar, (c.requires.full, (c.requires.order, c.requires.within))))
+
 pub sequences-returns-then-is_empty : goal.sequences-returns-then-is_empty
 sequences-returns-then-is_empty t c =
     let rows = c.args.rows.now in
@@ -272,9 +289,10 @@ sequences-returns-then-is_empty t c =
     let rest = take (length c.args.items.now - 1) (drop 1 c.args.items.now) in
     let none : length rest ≡ 0 = eqb-true (length rest) 0 (sym c.is_empty.ensures ∙ c.if-is_empty.true) in
     let alone : c.args.items.now ≡ Slot c.in-Slot.k ∷ [] = split ∙ ap (λ xs. Slot c.in-Slot.k ∷ xs) (nothing_of rest (omega (arith, none))) in
-    let empty : c.from_vec-then-is_empty.result ≡ [] = c.from_vec-then-is_empty.ensures ∙ c.new-then-is_empty.ensures.items in
-    let last = c.in_ok-last-in-Some.last in
-    let found = last_slot rows c.args.before c.args.slots.now c.in-Slot.k c.in-Some.code.now slot text last c.in_ok-last-in-Some.ensures in
-    IfOk-weaker c.paired.result (λ all. all ≡ paired last (One c.from_vec-then-is_empty.result)) (Finds (Fits rows c.args.before c.args.slots.now c.args.items.now text)) (λ f is.
+    let last = c.trees.new.found in
+    let f = c.write_last.new.found in
+    let found = last_slot rows c.args.before c.args.slots.now c.in-Slot.k c.in-Some.code.now slot text last c.in_ok-trees-in-Some.ensures in
+    on_ok_weaker c.write_last.result (λ (is : f ≡ paired last (One [])).
     subst (λ xs. Finds (Fits rows c.args.before c.args.slots.now xs text) f) (sym alone)
-    (subst (Finds (Fits rows c.args.before c.args.slots.now (Slot c.in-Slot.k ∷ []) text)) (sym (is ∙ ap (λ us. paired last (One us)) empty)) found)) c.paired.ensures
+    (subst (Finds (Fits rows c.args.before c.args.slots.now (Slot c.in-Slot.k ∷ []) text)) (sym is) found)) c.write_last.ensures
+
