@@ -6,7 +6,7 @@ ghost use Rattle.formula_parse.specs.Finds.{Finds};
 ghost use Rattle.formula_parse.specs.Fits.{Fits, IsLeaf, IsDivided};
 ghost use Rattle.formula_parse.specs.Charts.{span, IsChart, IsEntry, Reaches};
 
-use crate::found::{Found, add_pairs, write_last};
+use crate::found::{Found, add_pairs, discard, write_last};
 use crate::making::add_nodes;
 use crate::reach::{Entry, reach_from};
 use mm_base::{List, Memory, Sym, Tree, Typecode};
@@ -22,6 +22,14 @@ fn leaf(leaves: &[Leaf], want: Typecode) -> Found<Tree>
         [Leaf::Work(code, number)] if *code == want => Found::One(Tree::Work(*code, *number)),
         _ => Found::Nothing,
     }
+}
+
+/// Finds the tree of a text that is one variable.
+#[inline(never)]
+fn write_leaf(leaves: &[Leaf], want: Typecode, found: &mut Found<Tree>)
+    ensures { Finds (IsLeaf leaves.now want) found.new }
+{
+    *found = leaf(leaves, want);
 }
 
 /// Whether the chart has the part, with that typecode.
@@ -50,6 +58,7 @@ fn has_const(leaves: &[Leaf], begin: usize, end: usize, sym: Sym) -> bool
 }
 
 /// Whether the chart lets the items lead from one place to another.
+#[inline(never)]
 fn may_fit(
     alloc: Global,
     leaves: &[Leaf],
@@ -88,14 +97,14 @@ pub fn trees(
     requires within { end ≤ length leaves.now }
     ensures { OnOk result (Finds (Parses rows.now before (span leaves.now begin end) want) found.new) }
 {
-    *found = leaf(&leaves[begin..end], want);
+    write_leaf(&leaves[begin..end], want, found);
     if let Some(entries) = chart.get(begin) {
         for entry in entries.as_slice() {
             if entry.end == end && entry.code == want {
                 if let Some(row) = rows.get(entry.row) {
                     if row.at < before && row.gives == want {
                         let mut fitting = Found::Nothing;
-                        sequences(
+                        let searched = sequences(
                             alloc,
                             rows,
                             before,
@@ -106,8 +115,14 @@ pub fn trees(
                             begin,
                             end,
                             &mut fitting,
-                        )?;
-                        add_nodes(row, fitting, found)?;
+                        );
+                        match searched {
+                            Ok(()) => add_nodes(row, fitting, found)?,
+                            Err(fault) => {
+                                discard(fitting);
+                                return Err(fault);
+                            }
+                        }
                         if let Found::Two(_, _) = found {
                             return Ok(());
                         }
@@ -168,8 +183,14 @@ fn sequences(
             Some(code) => {
                 if rest.is_empty() {
                     let mut last = Found::Nothing;
-                    trees(alloc, rows, before, leaves, chart, begin, end, *code, &mut last)?;
-                    return write_last(alloc, last, found);
+                    let searched = trees(alloc, rows, before, leaves, chart, begin, end, *code, &mut last);
+                    return match searched {
+                        Ok(()) => write_last(alloc, last, found),
+                        Err(fault) => {
+                            discard(last);
+                            Err(fault)
+                        }
+                    };
                 }
                 divisions(
                     alloc, rows, before, leaves, chart, *code, rest, slots, begin, end, found,
@@ -181,6 +202,7 @@ fn sequences(
 
 /// The same for a slot of that typecode, followed by items: each place of division is tried.
 #[cycle(parse)]
+#[inline(never)]
 fn divisions(
     alloc: Global,
     rows: &[Production],
@@ -213,12 +235,22 @@ fn divisions(
             continue;
         }
         let mut first = Found::Nothing;
-        trees(alloc, rows, before, leaves, chart, begin, middle, code, &mut first)?;
+        if let Err(fault) = trees(alloc, rows, before, leaves, chart, begin, middle, code, &mut first) {
+            discard(first);
+            return Err(fault);
+        }
         let mut rest = Found::Nothing;
-        sequences(
+        let searched = sequences(
             alloc, rows, before, leaves, chart, items, slots, middle, end, &mut rest,
-        )?;
-        add_pairs(first, rest, found)?;
+        );
+        match searched {
+            Ok(()) => add_pairs(first, rest, found)?,
+            Err(fault) => {
+                discard(first);
+                discard(rest);
+                return Err(fault);
+            }
+        }
         if let Found::Two(_, _) = found {
             return Ok(());
         }

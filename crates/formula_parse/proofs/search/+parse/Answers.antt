@@ -25,7 +25,7 @@ use Rattle.mm_model.specs.Rows.{slot_order}
 use Rattle.mm_model.proofs.RowLaws.{is_row}
 use Rattle.formula_parse.proofs.Weights.{tree_weight, split_weight, items_weight, split_to_tree, split_to_items, tree_to_items, items_to_rest, items_to_split}
 use Rattle.formula_parse.proofs.search.+parse.Goals as goal
-use Rattle.formula_parse.proofs.search.+parse.Goals.{trees-then-entry-end+then-eq+in-Some-get+then-row-before+then-eq-2+in_ok-sequences+in_ok-add_nodes+in_default-found, trees-then-entry-end+then-eq+in-Some-get+else-row-before, trees-else-row-before-via-then-row-before+else-eq-2, trees-else-row-before-via-else-row-before, trees-then-entry-end+then-eq+in_default-get, trees-else-entry-end, trees-else-entry-end-via-then-entry-end+else-eq, trees-else-entry-end-via-else-entry-end}
+use Rattle.formula_parse.proofs.search.+parse.Goals.{trees-then-entry-end+then-eq+in-Some-get+then-row-before+then-eq-2+in-Ok+in_ok-add_nodes-in-Ok+in_default-found, trees-then-entry-end+then-eq+in-Some-get+else-row-before, trees-else-row-before-via-then-row-before+else-eq-2, trees-else-row-before-via-else-row-before, trees-then-entry-end+then-eq+in_default-get, trees-else-entry-end, trees-else-entry-end-via-then-entry-end+else-eq, trees-else-entry-end-via-else-entry-end}
 use Rattle.mm_model.specs.declared.rows.Production.{Production}
 use Rattle.formula_parse.specs.Fits.{IsOf}
 use Rattle.formula_parse.specs.Charts.{entry_of}
@@ -63,21 +63,21 @@ divisions-trees-requires t c =
     let less = split_to_tree c.args.rows.now (c.args.begin + c.loop-n.n + 1 - c.args.begin) (c.args.end - c.args.begin) c.args.code c.args.items.now (omega arith) in
     (omega (arith, less, c.decreases), (c.requires.grammar, (c.requires.full, (omega arith, omega (arith, c.requires.within)))))
 
-pub divisions-sequences-requires : goal.divisions-sequences-requires
-divisions-sequences-requires t c =
+pub divisions-sequences-searched-requires : goal.divisions-sequences-searched-requires
+divisions-sequences-searched-requires t c =
     let less = split_to_items c.args.rows.now (c.args.end - (c.args.begin + c.loop-n.n + 1)) (c.args.end - c.args.begin) c.args.slots.now c.args.code c.args.items.now (omega arith) in
     (omega (arith, less, c.decreases), (c.requires.grammar, (c.requires.full, (omega arith, c.requires.within))))
 
 pub divisions-returns-in-Two : goal.divisions-returns-in-Two
 divisions-returns-in-Two t c =
     let turn = part_found c.args.rows.now c.args.before c.requires.grammar.rows_hold c.args.leaves.now c.args.chart.now c.requires.full c.args.slots.now c.args.items.now c.args.code c.args.begin c.args.end c.requires.order c.requires.within
-    c.loop-n.n (omega arith) c.loop-n.found c.trees.new.found c.sequences.new.found (paired c.trees.new.found c.sequences.new.found) c.add_pairs.new.found c.loop-n.invariant c.in_ok-trees.ensures c.in_ok-sequences.ensures refl c.in_ok-add_pairs.ensures in
+    c.loop-n.n (omega arith) c.loop-n.found c.trees.new.found c.sequences-searched.new.found (paired c.trees.new.found c.sequences-searched.new.found) c.add_pairs.new.found c.loop-n.invariant c.in_default.ensures c.in-Ok.ensures refl c.in_ok-add_pairs-in-Ok.ensures in
     place_stop c.args.rows.now c.args.before c.requires.grammar.rows_hold c.args.slots.now c.args.items.now c.args.code (span c.args.leaves.now c.args.begin c.args.end) (c.loop-n.n + 1) c.add_pairs.new.found c.in-Two.field-0 c.in-Two.field-1 c.in-Two.is turn
 
 pub divisions-loop-n-preserved : goal.divisions-loop-n-preserved
 divisions-loop-n-preserved t c =
     part_found c.args.rows.now c.args.before c.requires.grammar.rows_hold c.args.leaves.now c.args.chart.now c.requires.full c.args.slots.now c.args.items.now c.args.code c.args.begin c.args.end c.requires.order c.requires.within
-    c.loop-n.n (omega arith) c.loop-n.found c.trees.new.found c.sequences.new.found (paired c.trees.new.found c.sequences.new.found) c.add_pairs.new.found c.loop-n.invariant c.in_ok-trees.ensures c.in_ok-sequences.ensures refl c.in_ok-add_pairs.ensures
+    c.loop-n.n (omega arith) c.loop-n.found c.trees.new.found c.sequences-searched.new.found (paired c.trees.new.found c.sequences-searched.new.found) c.add_pairs.new.found c.loop-n.invariant c.in_default.ensures c.in-Ok.ensures refl c.in_ok-add_pairs-in-Ok.ensures
 
 pub divisions-returns : goal.divisions-returns
 divisions-returns t c = part_end c.args.rows.now c.args.before c.requires.grammar.rows_hold c.args.leaves.now c.args.chart.now c.requires.full c.args.slots.now c.args.items.now c.args.code c.args.begin c.args.end c.requires.order c.requires.within
@@ -120,8 +120,8 @@ sequences-returns-else-begin-end t c =
     λ us h. end_none c.args.rows.now c.args.before c.args.leaves.now c.args.slots.now c.args.begin c.args.end c.requires.order c.requires.within c.if-begin-end.false us
     (subst (λ xs. Fits c.args.rows.now c.args.before c.args.slots.now xs (span c.args.leaves.now c.args.begin c.args.end) us) empty h)
 
-pub trees-sequences-requires : goal.trees-sequences-requires
-trees-sequences-requires t c =
+pub trees-sequences-searched-requires : goal.trees-sequences-searched-requires
+trees-sequences-searched-requires t c =
     let n = c.args.end - c.args.begin in
     let rows = c.args.rows.now in
     let row = c.in-Some-get.row.now in
@@ -145,7 +145,7 @@ trees-returns-after-loop-entry t c =
 pub trees-returns-in_default : goal.trees-returns-in_default
 trees-returns-in_default t c =
     nothing_there c.args.rows.now c.args.before c.requires.grammar.rows_hold c.args.leaves.now c.args.begin c.args.end c.requires.order c.requires.within c.args.want
-    (omega (arith, c.in_default.ensures.lookup.3, c.requires.full.count)) c.leaf.result c.leaf.ensures
+    (omega (arith, c.in_default.ensures.lookup.3, c.requires.full.count)) c.write_leaf.new.found c.write_leaf.ensures
 
 pub trees-returns-in-Two : goal.trees-returns-in-Two
 trees-returns-in-Two t c =
@@ -161,10 +161,10 @@ trees-returns-in-Two t c =
     let stands = slice_get-get_or rows _ r c.in-Some-get.ensures.lookup.3.0 ∙ ap (λ x. Some x) (sym c.in-Some-get.ensures.lookup.1) in
     let row = is_row rows c.requires.grammar.rows_hold _ r stands in
     let gives = code_same r.gives c.args.want c.if-eq-2.ensures in
-    let fitting = c.sequences.new.found in
+    let fitting = c.sequences-searched.new.found in
     let fits = subst (λ xs. Finds (Fits rows c.args.before r.slots xs text) fitting) c.as_slice.ensures
-    (subst (λ xs. Finds (Fits rows c.args.before xs c.as_slice.result.now text) fitting) c.as_slice-then-eq-2.ensures c.in_ok-sequences.ensures) in
-    let added = c.in_ok-add_nodes.ensures in
+    (subst (λ xs. Finds (Fits rows c.args.before xs c.as_slice.result.now text) fitting) c.as_slice-then-eq-2.ensures c.in-Ok.ensures) in
+    let added = c.in_ok-add_nodes-in-Ok.ensures in
     let made = made_finds rows c.args.before r row.each_once c.if-row-before.true text c.args.want gives fitting added.0 added.1 fits in
     let turn = entry_found rows c.args.before c.requires.grammar.rows_hold leaves b e c.requires.order c.requires.within c.args.want c.as_slice-entry-items.result.now full c.loop-entry.entry-index _ r entry c.if-entry-end.true (code_same _ c.args.want c.if-eq.ensures) stands
     c.loop-entry.found added.0 c.add_nodes.new.found c.loop-entry.invariant made added.2 in
@@ -175,9 +175,9 @@ trees-add_nodes-requires-clause-count t c =
     let rows = c.args.rows.now in
     let r = c.in-Some-get.row.now in
     let text = span c.args.leaves.now c.args.begin c.args.end in
-    let fitting = c.sequences.new.found in
+    let fitting = c.sequences-searched.new.found in
     let fits = subst (λ xs. Finds (Fits rows c.args.before r.slots xs text) fitting) c.as_slice.ensures
-    (subst (λ xs. Finds (Fits rows c.args.before xs c.as_slice.result.now text) fitting) c.as_slice-then-eq-2.ensures c.in_ok-sequences.ensures) in
+    (subst (λ xs. Finds (Fits rows c.args.before xs c.as_slice.result.now text) fitting) c.as_slice-then-eq-2.ensures c.in-Ok.ensures) in
     each_found (Fits rows c.args.before r.slots r.items text) (λ (us : List Tree). length us ≡ length (slot_order r.items))
     (λ us h. fits_count rows c.args.before c.requires.grammar.rows_hold r.slots r.items text us h) fitting fits
 
@@ -200,15 +200,15 @@ trees-loop-entry-preserved t c =
     let skip = λ (none : (r : Production) (u : Tree) → x.end ≡ e → x.code ≡ c.args.want → slice_get rows x.row ≡ Some r → IsOf rows c.args.before r text c.args.want u → ⊥).
     entry_skip rows c.args.before ok leaves b e c.requires.order c.requires.within c.args.want entries full n x at none c.loop-entry.found c.loop-entry.invariant in
     elim c.if-entry-end.branch [
-      | trees-then-entry-end+then-eq+in-Some-get+then-row-before+then-eq-2+in_ok-sequences+in_ok-add_nodes+in_default-found w ↦
+      | trees-then-entry-end+then-eq+in-Some-get+then-row-before+then-eq-2+in-Ok+in_ok-add_nodes-in-Ok+in_default-found w ↦
           let r = w.in-Some-get.row.now in
           let stands = slice_get-get_or rows x.row r w.in-Some-get.ensures.lookup.3.0 ∙ ap (λ x. Some x) (sym w.in-Some-get.ensures.lookup.1) in
           let row = is_row rows ok x.row r stands in
           let gives = code_same r.gives c.args.want w.if-eq-2.ensures in
-          let fitting = w.sequences.new.found in
+          let fitting = w.sequences-searched.new.found in
           let fits = subst (λ xs. Finds (Fits rows c.args.before r.slots xs text) fitting) w.as_slice.ensures
-          (subst (λ xs. Finds (Fits rows c.args.before xs w.as_slice.result.now text) fitting) w.as_slice-then-eq-2.ensures w.in_ok-sequences.ensures) in
-          let added = w.in_ok-add_nodes.ensures in
+          (subst (λ xs. Finds (Fits rows c.args.before xs w.as_slice.result.now text) fitting) w.as_slice-then-eq-2.ensures w.in-Ok.ensures) in
+          let added = w.in_ok-add_nodes-in-Ok.ensures in
           let made = made_finds rows c.args.before r row.each_once w.if-row-before.true text c.args.want gives fitting added.0 added.1 fits in
           entry_found rows c.args.before ok leaves b e c.requires.order c.requires.within c.args.want entries full n x r at w.if-entry-end.true (code_same x.code c.args.want w.if-eq.ensures) stands
           c.loop-entry.found added.0 c.if-entry-end.found c.loop-entry.invariant made (w.found-is ∙ added.2)
@@ -265,8 +265,8 @@ sequences-returns-else-has_const t c =
     (λ i at. off c.has_const.result (c.has_const.ensures.sees (omega (arith, i)) at) c.if-has_const.false) us
     (subst (λ xs. Fits rows c.args.before c.args.slots.now xs (span leaves b e) us) split h)
 
-pub sequences-trees-requires : goal.sequences-trees-requires
-sequences-trees-requires t c =
+pub sequences-trees-searched-requires : goal.sequences-trees-searched-requires
+sequences-trees-searched-requires t c =
     let n = c.args.end - c.args.begin in
     let rows = c.args.rows.now in
     let slot = slice_get-get_or c.args.slots.now c.in-Slot.k c.in-Some.code.now c.in-Some.ensures.lookup.3.0 ∙ ap (λ x. Some x) (sym c.in-Some.ensures.lookup.1) in
@@ -279,8 +279,8 @@ sequences-trees-requires t c =
     let all = subst (λ xs. split_weight rows c.in-Some.code.now rest n < items_weight rows c.args.slots.now xs n) (sym split) to_split in
     (omega (arith, all, to_tree, c.decreases), (c.requires.grammar, (c.requires.full, (c.requires.order, c.requires.within))))
 
-pub sequences-returns-then-is_empty : goal.sequences-returns-then-is_empty
-sequences-returns-then-is_empty t c =
+pub sequences-returns-in-Ok : goal.sequences-returns-in-Ok
+sequences-returns-in-Ok t c =
     let rows = c.args.rows.now in
     let text = span c.args.leaves.now c.args.begin c.args.end in
     let slot = slice_get-get_or c.args.slots.now c.in-Slot.k c.in-Some.code.now c.in-Some.ensures.lookup.3.0 ∙ ap (λ x. Some x) (sym c.in-Some.ensures.lookup.1) in
@@ -289,9 +289,9 @@ sequences-returns-then-is_empty t c =
     let rest = take (length c.args.items.now - 1) (drop 1 c.args.items.now) in
     let none : length rest ≡ 0 = eqb-true (length rest) 0 (sym c.is_empty.ensures ∙ c.if-is_empty.true) in
     let alone : c.args.items.now ≡ Slot c.in-Slot.k ∷ [] = split ∙ ap (λ xs. Slot c.in-Slot.k ∷ xs) (nothing_of rest (omega (arith, none))) in
-    let last = c.trees.new.found in
+    let last = c.trees-searched.new.found in
     let f = c.write_last.new.found in
-    let found = last_slot rows c.args.before c.args.slots.now c.in-Slot.k c.in-Some.code.now slot text last c.in_ok-trees-in-Some.ensures in
+    let found = last_slot rows c.args.before c.args.slots.now c.in-Slot.k c.in-Some.code.now slot text last c.in-Ok.ensures in
     on_ok_weaker c.write_last.result (λ (is : f ≡ paired last (One [])).
     subst (λ xs. Finds (Fits rows c.args.before c.args.slots.now xs text) f) (sym alone)
     (subst (Finds (Fits rows c.args.before c.args.slots.now (Slot c.in-Slot.k ∷ []) text)) (sym is) found)) c.write_last.ensures
