@@ -42,6 +42,9 @@ picked_in ts (k ∷ order) t us e = picked_by ts (slice_get ts k) k (pick ts ord
 slot_code : (slots : List Typecode) (k : ℕ) (want code : Typecode) → slice_get slots k ≡ Some want → code ≡ want → slice_get slots k ≡ Some code
 slot_code slots k want code at is = at ∙ ap (λ c. Some c) (sym is)
 
+reaches_at : (leaves : List Leaf) (chart : List (List Entry)) (slots : List Typecode) (items : List Item) (p q e : ℕ) → p ≡ q → Reaches leaves chart slots items q e → Reaches leaves chart slots items p e
+reaches_at leaves chart slots items p q e is h = subst (λ k. Reaches leaves chart slots items k e) (sym is) h
+
 leaf_code : (b : ℕ) (leaves e : List Leaf) (code : Typecode) (t : Tree) → IsLeaf e code t → ((x : Leaf) (xs : List Leaf) → e ≡ x ∷ xs → slice_get leaves b ≡ Some x) → length e ≡ 1 × ((x : Leaf) × (slice_get leaves b ≡ Some x) × HasCode x code)
 leaf_code b leaves [] code t h at = absurd h
 leaf_code b leaves (leaf.Const s ∷ e) code t h at = absurd h
@@ -75,7 +78,7 @@ module _ (rows : List Production) (before : ℕ) (ok : AreRows rows) (leaves : L
       let next : b + 1 ≤ b + n = omega (arith, pos, span_length leaves b (b + n) (omega arith) (omega arith)) in
       let first = each s.first s.more s.us_is (b + n) s.want (omega arith) (omega arith) front in
       let x = first.entry in
-      filled.by_slot first.is_in.0 x first.is_in.1 i r k items at below is (slot_code r.slots k s.want first.entry.code s.code_is first.has_code) r (Slot k) items e at is (subst (λ p. Reaches leaves chart r.slots items p e) (sym first.ends)
+      filled.by_slot first.is_in.0 x first.is_in.1 i r k items at below is (slot_code r.slots k s.want first.entry.code s.code_is first.has_code) r (Slot k) items e at is (reaches_at leaves chart r.slots items first.entry.end (b + n) e first.ends
       (fits_reaches rows before ok leaves chart (b + 1) full r.slots items (b + n) e s.more next within m rest))
 
   row_entry : (e : ℕ) (want : Typecode) (i : ℕ) (r : Production) (t : Tree) → b ≤ e → e ≤ length leaves → slice_get rows i ≡ Some r → (h : IsOf rows before r (span leaves b e) want t) → Each HasTree h.children → IsIn entries (entry_of e r.gives i)

@@ -45,7 +45,11 @@ fn nodes(row: &Production, found: Found<List<Tree>>) -> Result<Found<Tree>, Memo
 
 /// Adds the nodes of the sequences that were found.
 #[inline(never)]
-pub fn add_nodes(row: &Production, fitting: Found<List<Tree>>, found: &mut Found<Tree>) -> Result<(), Memory>
+pub fn add_nodes(
+    row: &Production,
+    fitting: Found<List<Tree>>,
+    found: &mut Found<Tree>,
+) -> Result<(), Memory>
     requires once { EachOnce (length row.now.slots) (slot_order row.now.items) }
     requires count { EachFound (λ us. length us ≡ length (slot_order row.now.items)) fitting }
     ensures { OnOk result ((more : Found Tree) × AreMade row.now fitting more × (found.new ≡ spec.joined found.old more)) }

@@ -40,7 +40,17 @@ fn search(
 {
     let chart = chart(alloc, rows, before, leaves)?;
     let mut found = Found::Nothing;
-    trees(alloc, rows, before, leaves, &chart, 0, leaves.len(), want, &mut found)?;
+    trees(
+        alloc,
+        rows,
+        before,
+        leaves,
+        &chart,
+        0,
+        leaves.len(),
+        want,
+        &mut found,
+    )?;
     Ok(found)
 }
 

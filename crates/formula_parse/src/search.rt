@@ -183,7 +183,9 @@ fn sequences(
             Some(code) => {
                 if rest.is_empty() {
                     let mut last = Found::Nothing;
-                    let searched = trees(alloc, rows, before, leaves, chart, begin, end, *code, &mut last);
+                    let searched = trees(
+                        alloc, rows, before, leaves, chart, begin, end, *code, &mut last,
+                    );
                     return match searched {
                         Ok(()) => write_last(alloc, last, found),
                         Err(fault) => {
@@ -235,7 +237,9 @@ fn divisions(
             continue;
         }
         let mut first = Found::Nothing;
-        if let Err(fault) = trees(alloc, rows, before, leaves, chart, begin, middle, code, &mut first) {
+        if let Err(fault) = trees(
+            alloc, rows, before, leaves, chart, begin, middle, code, &mut first,
+        ) {
             discard(first);
             return Err(fault);
         }

@@ -180,16 +180,23 @@ fn an_equation_of_sets_has_two_trees(rt: HostRuntime) -> Result<(), Fail> {
     Ok(())
 }
 
-// The stack is enough for the deepest trees.
+// The stack is enough for the deepest trees, with a sign before each formula or behind it.
 #[test]
-fn a_formula_of_4095_negations_has_a_tree(rt: HostRuntime) -> Result<(), Fail> {
+fn a_formula_of_4094_signs_has_a_tree(rt: HostRuntime) -> Result<(), Fail> {
     let mut rows = Vec::new(rt.alloc());
     add(&mut rows, 1, WFF, &[token(8), Item::Slot(0)], &[WFF])?;
+    add(&mut rows, 2, WFF, &[Item::Slot(0), token(7)], &[WFF])?;
     let g = grammar(rows)?.ok_or("no rows")?;
-    let mut leaves = vec![in rt.alloc(); constant(8); 4_094]?;
-    leaves.push(variable(9, WFF))?;
-    let tree = parsed(rt.alloc(), &g, 2, &leaves, WFF)?;
-    assert_eq!(rt; nodes(&tree), 4_095);
-    assert_eq!(rt; text(rt.alloc(), &g, &tree)?.as_slice(), leaves.as_slice());
+    let mut before = vec![in rt.alloc(); constant(8); 4_094]?;
+    before.push(variable(9, WFF))?;
+    let mut behind = vec![in rt.alloc(); variable(9, WFF)]?;
+    for _ in 0..4_094 {
+        behind.push(constant(7))?;
+    }
+    for leaves in [&before, &behind] {
+        let tree = parsed(rt.alloc(), &g, 3, leaves, WFF)?;
+        assert_eq!(rt; nodes(&tree), 4_095);
+        assert_eq!(rt; text(rt.alloc(), &g, &tree)?.as_slice(), leaves.as_slice());
+    }
     Ok(())
 }

@@ -1,8 +1,6 @@
 use Rattle.std.proofs.lemmas.Bool.{eqb-true}
-use Rattle.std.proofs.lemmas.Bool.Decides.{nat_tests}
-use Rattle.std.proofs.Common.{rules, slice_get, true, ◌==◌, [], ◌∷◌, get_or, refl, ◌≡◌, ℕ, ◌+◌, ◌-◌, ◌<◌, length, take, drop, List, subst, sym, ap, ◌∙◌, arith, Some}
+use Rattle.std.proofs.Common.{rules, slice_get, [], ◌∷◌, get_or, refl, ◌≡◌, ℕ, ◌+◌, ◌-◌, ◌<◌, length, take, drop, List, subst, sym, ap, ◌∙◌, arith, Some}
 use Rattle.mm_base.specs.declared.tree.Tree.{Tree}
-use Rattle.mm_model.specs.Typed.{Parses}
 use Rattle.formula_parse.specs.Finds.{Finds, paired}
 use Rattle.formula_parse.specs.declared.found.Found.TheVariants.{One}
 use Rattle.formula_parse.proofs.LastSlot.{last_slot}
@@ -29,12 +27,6 @@ use Rattle.formula_parse.proofs.search.+parse.Goals.{trees-then-entry-end+then-e
 use Rattle.mm_model.specs.declared.rows.Production.{Production}
 use Rattle.formula_parse.specs.Fits.{IsOf}
 use Rattle.formula_parse.specs.Charts.{entry_of}
-use Rattle.mm_base.specs.declared.symbols.Sym.{Sym}
-
-sym_same : (a b : Sym) → true ≡ (a.0 == b.0) → a ≡ b
-sym_same a b e =
-    let is : a.0 ≡ b.0 = grind (arith, nat_tests) in
-    ap (λ (n : ℕ). let s : Sym = record { 0 = n } in s) is
 
 nothing_of : {X : Type 0} (xs : List X) → length xs < 1 → xs ≡ []
 nothing_of [] l = refl
@@ -295,4 +287,3 @@ sequences-returns-in-Ok t c =
     on_ok_weaker c.write_last.result (λ (is : f ≡ paired last (One [])).
     subst (λ xs. Finds (Fits rows c.args.before c.args.slots.now xs text) f) (sym alone)
     (subst (Finds (Fits rows c.args.before c.args.slots.now (Slot c.in-Slot.k ∷ []) text)) (sym is) found)) c.write_last.ensures
-
