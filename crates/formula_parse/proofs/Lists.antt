@@ -1,0 +1,33 @@
+-- Lists that grow, element by element.
+use Rattle.std.specs.Prelude.{◌≡◌, ◌<◌, ◌≤◌, ◌+◌, ℕ, List, length, Some, slice_get}
+use Rattle.std.proofs.Common.{arith, ap, ◌∙◌, subst, ⊎_elim}
+use Rattle.std.proofs.lemmas.Bool.{cases_lt}
+use Rattle.formula_parse.specs.Charts.{IsIn, Stays}
+use Rattle.formula_parse.proofs.Places.{some_at}
+
+pub stays_refl : {X : Type 0} (xs : List X) → Stays xs xs
+stays_refl xs j x e = e
+
+pub stays_then : {X : Type 0} (xs ys zs : List X) → Stays xs ys → Stays ys zs → Stays xs zs
+stays_then xs ys zs h k j x e = k j x (h j x e)
+
+pub stays_in : {X : Type 0} (xs ys : List X) → Stays xs ys → (x : X) → IsIn xs x → IsIn ys x
+stays_in xs ys h x i = (i.0, h i.0 x i.1)
+
+-- what stands early in the longer list stood in the shorter one
+pub stays_back : {X : Type 0} (xs ys : List X) → Stays xs ys → (j : ℕ) → j < length xs → (x : X) → slice_get ys j ≡ Some x → slice_get xs j ≡ Some x
+stays_back xs ys h j l x e =
+    let at = some_at xs j l in
+    let there = h j at.0 at.1 in
+    let same : at.0 ≡ x = cc in
+    at.1 ∙ ap (λ y. Some y) same
+
+-- at a place below the next: before it, or at it
+pub at_turn : {X : Type 0} (P : X → Type 0) (xs : List X) (n : ℕ) (x : X) → slice_get xs n ≡ Some x → ((j : ℕ) (y : X) → j < n → slice_get xs j ≡ Some y → P y) → P x
+    → (j : ℕ) (y : X) → j < n + 1 → slice_get xs j ≡ Some y → P y
+at_turn P xs n x at before here j y l e = ⊎_elim (λ (i : j < n). before j y i e)
+    (λ (i : n ≤ j).
+    let is : j ≡ n = omega arith in
+    let there : slice_get xs n ≡ Some y = subst (λ k. slice_get xs k ≡ Some y) is e in
+    let same : x ≡ y = cc in
+    subst P same here) (cases_lt j n)

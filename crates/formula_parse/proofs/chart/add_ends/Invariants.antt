@@ -1,0 +1,7 @@
+use Rattle.std.proofs.Common.{◌≡◌, ◌<◌, ℕ, slice_get, Some}
+use Rattle.formula_parse.specs.Charts.{IsIn, Stays, IsOnce, entry_of}
+use Rattle.formula_parse.proofs.chart.add_ends.Given as goal
+
+abbrev pub invariant-loop-end : goal.invariant-loop-end
+invariant-loop-end l = Stays l.fn.entries.items l.entries.items × (IsOnce l.fn.entries.items → IsOnce l.entries.items)
+    × ((j e : ℕ) → j < l.end-index → slice_get l.ends j ≡ Some e → IsIn l.entries.items (entry_of e l.production.gives l.row))

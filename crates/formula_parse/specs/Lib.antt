@@ -1,0 +1,6 @@
+pub mod Answers
+pub mod Charts
+pub mod Finds
+pub mod Fits
+pub mod Made
+pub mod Starts

@@ -1,0 +1,136 @@
+ghost use Rattle.std.specs.Prelude.{◌≡◌, ◌+◌, ℕ, IfOk, OnOk, slice_get, Some};
+ghost use Rattle.mm_base.specs.declared.symbols.Typecode.{Typecode};
+ghost use Rattle.mm_model.specs.declared.rows.Leaf.TheVariants.{Const};
+ghost use Rattle.formula_parse.specs.Charts.{IsIn, Stays, IsEntry, Reaches};
+
+use mm_base::{List, Memory, Sym, Typecode};
+use mm_model::{Item, Leaf};
+use std::alloc::Global;
+
+/// One way to read the text from a place: it ends there, with that typecode, by that row.
+#[derive(Clone, Copy, Debug, PartialEq, Eq)]
+pub struct Entry {
+    pub end: usize,
+    pub code: Typecode,
+    /// The row, or the number of all rows for a variable.
+    pub row: usize,
+}
+
+/// Adds a place that does not stand there.
+fn add(places: &mut Vec<usize>, place: usize) -> Result<(), Memory>
+    ensures stays { OnOk result (Stays places.old.items places.new.items) }
+    ensures stands { OnOk result (IsIn places.new.items place) }
+{
+    if !places.contains(&place) {
+        places.push(place)?;
+    }
+    Ok(())
+}
+
+/// The places behind a constant.
+fn after_const(
+    alloc: Global,
+    leaves: &[Leaf],
+    places: &[usize],
+    sym: Sym,
+) -> Result<Vec<usize>, Memory>
+    ensures { IfOk result (λ next. (q : ℕ) → IsIn places.now q → slice_get leaves.now q ≡ Some (Const sym) → IsIn next.items (q + 1)) }
+{
+    let mut next = Vec::new(alloc);
+    for place in places {
+        match leaves.get(*place) {
+            Some(Leaf::Const(other)) if *other == sym => next.push(*place + 1)?,
+            _ => {}
+        }
+    }
+    Ok(next)
+}
+
+/// Adds the ends of the entries of a typecode.
+fn add_ends(next: &mut Vec<usize>, entries: &[Entry], code: Typecode) -> Result<(), Memory>
+    ensures stays { OnOk result (Stays next.old.items next.new.items) }
+    ensures ends { OnOk result ((x : Entry) → IsIn entries.now x → x.code ≡ code → IsIn next.new.items x.end) }
+{
+    for entry in entries {
+        if entry.code == code {
+            add(next, entry.end)?;
+        }
+    }
+    Ok(())
+}
+
+/// The ends of the entries of a typecode that begin at some places.
+fn after_slot(
+    alloc: Global,
+    chart: &[List<Entry>],
+    places: &[usize],
+    code: Typecode,
+) -> Result<Vec<usize>, Memory>
+    ensures { IfOk result (λ next. (q m : ℕ) → IsIn places.now q → IsEntry chart.now q m code → IsIn next.items m) }
+{
+    let mut next = Vec::new(alloc);
+    for place in places {
+        if let Some(entries) = chart.get(*place) {
+            add_ends(&mut next, entries.as_slice(), code)?;
+        }
+    }
+    Ok(next)
+}
+
+/// Where the items may end, from some places on.
+fn reach(
+    alloc: Global,
+    leaves: &[Leaf],
+    chart: &[List<Entry>],
+    items: &[Item],
+    slots: &[Typecode],
+    places: Vec<usize>,
+) -> Result<Vec<usize>, Memory>
+    ensures { IfOk result (λ ends. (q e : ℕ) → IsIn places.items q → Reaches leaves.now chart.now slots.now items.now q e → IsIn ends.items e) }
+{
+    match items {
+        [] => Ok(places),
+        [Item::Const(sym), rest @ ..] => {
+            let next = after_const(alloc, leaves, &places, *sym)?;
+            reach(alloc, leaves, chart, rest, slots, next)
+        }
+        [Item::Slot(k), rest @ ..] => match slots.get(*k as usize) {
+            None => Ok(Vec::new(alloc)),
+            Some(code) => {
+                let next = after_slot(alloc, chart, &places, *code)?;
+                reach(alloc, leaves, chart, rest, slots, next)
+            }
+        },
+    }
+}
+
+/// Where the items may end, from one place on.
+pub fn reach_from(
+    alloc: Global,
+    leaves: &[Leaf],
+    chart: &[List<Entry>],
+    items: &[Item],
+    slots: &[Typecode],
+    place: usize,
+) -> Result<Vec<usize>, Memory>
+    ensures { IfOk result (λ ends. (e : ℕ) → Reaches leaves.now chart.now slots.now items.now place e → IsIn ends.items e) }
+{
+    match items {
+        [Item::Const(sym), rest @ ..] => match leaves.get(place) {
+            Some(Leaf::Const(other)) if *other == *sym => reach_from(
+                alloc,
+                leaves,
+                chart,
+                rest,
+                slots,
+                place + 1,
+            ),
+            _ => Ok(Vec::new(alloc)),
+        },
+        _ => {
+            let mut places = Vec::new(alloc);
+            places.push(place)?;
+            reach(alloc, leaves, chart, items, slots, places)
+        }
+    }
+}

@@ -1,0 +1,4 @@
+pub mod Checks
+pub mod Joins
+pub mod Selections
+pub mod SelectionsExamples

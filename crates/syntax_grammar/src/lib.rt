@@ -1,0 +1,10 @@
+//! The productions of a database, without the chains that close a cycle.
+#![tactic(auto)]
+
+mod checks;
+mod grammar;
+mod joins;
+
+pub use checks::{are_rows, slot_place};
+pub use grammar::{Grammar, keep_rows};
+pub use mm_model::{Item, Production};
