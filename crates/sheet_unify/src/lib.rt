@@ -22,4 +22,3 @@ pub use faults::{OpenFault, UnifyFault};
 pub use reader::open_database;
 pub use report::{ReportLine, ReportVerdict, report_lines};
 pub use unify::{Options, Outcome, ProofStyle, unify_sheet};
-
