@@ -1,16 +1,15 @@
 -- The reader's codes are those of the definitions.
-use Rattle.std.proofs.Common.{◌≡◌, ℕ, zero, suc, ◌+◌, ◌<◌, ◌≤◌, Bool, true, false, cond, not, ◌||◌, ◌&&◌, eqb, List, [], ◌∷◌, ◌++◌, length, take, drop, map, reverse, Option, None, Some, refl, sym, ap, ◌∙◌, subst, codes, position, nat_eq, nat_lt, arith}
+use Rattle.std.proofs.Common.{◌≡◌, ℕ, ◌<◌, Bool, true, false, cond, not, ◌||◌, eqb, List, [], ◌∷◌, ◌++◌, length, take, map, reverse, Option, None, Some, refl, sym, ap, ◌∙◌, subst, codes, position, nat_eq, nat_lt, arith}
 use Rattle.std.specs.List.{list_any, list_all}
 use Rattle.std.specs.Str.{bytes_eq}
-use Rattle.std.proofs.lemmas.Bool.{cases_Bool, or_parts}
+use Rattle.std.proofs.lemmas.Bool.{or_parts}
 use Rattle.std.proofs.lemmas.Bool.Decides.{nat_tests}
 use Rattle.std.proofs.lemmas.List.Folds.{list_any-append}
 use Rattle.mm_base.specs.declared.symbols.Sym.{Sym}
 use Rattle.mm_model.specs.Labels.{is_label_byte}
 use Rattle.mm_model.specs.Words.{Word, word}
-use Rattle.mm_model.specs.Statements.{Statement, is_word, is_one_of, is_empty, is_first, is_typed, labelled, ended, unended, has_keyword, symbols_in, second, contains, constants, variables, variables_ever, typed, labels, path}
+use Rattle.mm_model.specs.Statements.{Statement, is_word, is_one_of, is_empty, is_typed, labelled, ended, unended, has_keyword, symbols_in, second, contains, constants, variables, variables_ever, typed, labels, path}
 use Rattle.mm_tokens.specs.declared.token.TokenKind.{TokenKind}
-use Rattle.mm_tokens.specs.declared.token.TokenKind.TheVariants as token
 use Rattle.mm_frames.specs.declared.reader.Reader.{Reader}
 use Rattle.mm_frames.specs.declared.reader.Stage.{Stage}
 use Rattle.mm_frames.specs.declared.reader.Stage.TheVariants as stage
@@ -26,11 +25,10 @@ use Rattle.mm_frames.proofs.Names.{found-is, none-absent}
 use Rattle.mm_frames.proofs.Lists.{added, types, constants-cons, variables_ever-cons, variables-plain, typed-plain}
 use Rattle.mm_frames.proofs.Marks.{Marks}
 use Rattle.mm_frames.proofs.Paths.{path-plain}
-use Rattle.mm_frames.proofs.State.{IsState, IsPlain, new_variables, is_flagged, list_any-reverse, variable_is, variable_none}
-use Rattle.mm_frames.proofs.Shapes.{IsBegun, IsOpen, IsProof, symbols-of, keyword-is}
+use Rattle.mm_frames.proofs.State.{IsPlain, new_variables, is_flagged, list_any-reverse, variable_is, variable_none}
+use Rattle.mm_frames.proofs.Shapes.{IsBegun, IsOpen, symbols-of, keyword-is}
 use Rattle.mm_frames.proofs.Grown.{IsOther, plain-begun}
-use Rattle.mm_frames.proofs.SoFar
-use Rattle.mm_frames.proofs.SoFar.{keyword, IsName, IsKind, formula_names, listed_names, names_for, IsClear, IsLabelled, StageIs, StateIs, IsReader, variable_marks, typed_marks, Means, MeansConstant, MeansVariable, means}
+use Rattle.mm_frames.proofs.SoFar.{keyword, formula_names, listed_names, names_for, StageIs, StateIs, IsReader, variable_marks, typed_marks, Means, means}
 use Rattle.mm_frames.proofs.Codes
 
 -- ---- the statement that is not ended is plain

@@ -1,12 +1,11 @@
 -- The code of a token, by how far its statement has come.
-use Rattle.std.proofs.Common.{◌≡◌, ℕ, zero, suc, Bool, true, false, cond, not, ◌||◌, ◌&&◌, eqb, List, [], ◌∷◌, length, take, map, Option, None, Some, refl, codes, nat_lt, nat_le, arith}
-use Rattle.std.specs.List.{list_any, list_all, take_while}
-use Rattle.std.specs.Str.{bytes_eq}
+use Rattle.std.proofs.Common.{◌≡◌, ℕ, suc, Bool, true, false, cond, not, ◌||◌, ◌&&◌, eqb, List, [], ◌∷◌, length, take, Option, None, Some, refl, codes, nat_lt, nat_le, arith}
+use Rattle.std.specs.List.{list_any, list_all}
 use Rattle.std.proofs.lemmas.Bool.Decides.{nat_tests}
 use Rattle.mm_model.specs.Labels.{is_label_byte}
 use Rattle.mm_model.specs.Faults.{first_code_within}
 use Rattle.mm_model.specs.Words.{Word, word}
-use Rattle.mm_model.specs.Statements.{Statement, token_rules, is_one_of, is_word, is_empty, labelled, unended, ended, contains, labels, path, is_constant, is_variable, is_typed, variables_ever}
+use Rattle.mm_model.specs.Statements.{token_rules, is_one_of, is_word, is_empty, labelled, unended, ended, contains, labels, path, is_constant, is_variable, is_typed, variables_ever}
 use Rattle.mm_frames.proofs.Shapes.{IsBegun, IsOpen, IsProof}
 
 abbrev pub code_at : List Word → Word → List Word → Option ℕ

@@ -1,9 +1,7 @@
 -- What the reader keeps behind a keyword, and behind any token, is that of the statements so far.
-use Rattle.std.proofs.Common.{◌≡◌, ℕ, zero, suc, ◌+◌, ◌<◌, ◌≤◌, Bool, true, false, cond, not, ◌||◌, ◌&&◌, eqb, List, [], ◌∷◌, ◌++◌, length, take, drop, map, Option, None, Some, inl, inr, refl, sym, ap, ◌∙◌, subst, codes, position, nat_eq, nat_lt, arith}
-use Rattle.std.specs.List.{list_any, list_all}
+use Rattle.std.proofs.Common.{◌≡◌, ℕ, Bool, true, false, cond, not, ◌||◌, eqb, List, [], ◌∷◌, ◌++◌, length, take, map, Option, None, Some, inl, inr, refl, sym, ap, ◌∙◌, subst, codes}
+use Rattle.std.specs.List.{list_any}
 use Rattle.std.specs.Str.{bytes_eq}
-use Rattle.std.proofs.lemmas.Bool.Decides.{nat_tests}
-use Rattle.std.proofs.lemmas.List.{map-append}
 use Rattle.mm_base.specs.declared.symbols.Sym.{Sym}
 use Rattle.mm_model.specs.Words.{Word, word}
 use Rattle.mm_model.specs.Statements.{Statement, is, is_word, is_one_of, is_empty, labelled, labels_in, symbols_in, ends_statement, ended, unended}
@@ -14,20 +12,17 @@ use Rattle.mm_frames.specs.declared.reader.Stage.{Stage}
 use Rattle.mm_frames.specs.declared.reader.Stage.TheVariants as stage
 use Rattle.mm_frames.specs.declared.reader.StatementKind.{StatementKind}
 use Rattle.mm_frames.specs.declared.reader.StatementKind.TheVariants as kind
-use Rattle.mm_frames.specs.declared.reader.Meaning.{Meaning}
-use Rattle.mm_frames.specs.declared.reader.Meaning.TheVariants as meant
 use Rattle.mm_frames.specs.declared.scopes.Scope.{Scope}
 use Rattle.mm_frames.specs.Kinds.{is_extra}
-use Rattle.mm_frames.specs.Reading.{meaning_of, label_code, with_label, constant_code, with_constant, variable_code_at, with_variable_at, distinct_code, with_distinct, floating_code, with_floating, typecode_code, typed_code, formula_code, with_symbol, symbol_code, with_symbol_of, word_code_at, with_word_at, between_code_at, labelled_code_at, with_stage, equals_code_at, with_proof, end_code_at, with_end, with_open, close_code_at, with_close_at, step_code, with_token}
+use Rattle.mm_frames.specs.Reading.{word_code_at, with_word_at, between_code_at, labelled_code_at, with_stage, equals_code_at, with_proof, end_code_at, with_end, with_open, close_code_at, with_close_at, step_code, with_token}
 use Rattle.mm_frames.proofs.Numbers.{name_of, Within}
-use Rattle.mm_frames.proofs.Names.{found-is, none-absent, name_of-more, name_of-last, length-more, names-more, within-more, within-add}
 use Rattle.mm_frames.proofs.Lists.{added, types, ended-on, unended-on}
 use Rattle.std.proofs.lemmas.Bool.{cases_Bool}
-use Rattle.mm_frames.proofs.State.{IsState, IsPlain, Alike, is_flagged, state-alike, opens, closes}
-use Rattle.mm_frames.proofs.Growth.{Grows, alike-empty, alike-drop, alike-grows, constant-more, variable-more, variable-again, typed-more, label-more}
-use Rattle.mm_frames.proofs.Shapes.{IsBegun, IsOpen, IsProof, stops}
-use Rattle.mm_frames.proofs.Grown.{IsOther, new_second, grows-same, grows-word, open-word, proof-goes, proof-begins}
-use Rattle.mm_frames.proofs.SoFar.{keyword, IsName, IsKind, formula_names, listed_names, names_for, IsClear, IsLabelled, StageIs, StateIs, IsReaderAt, IsReader, variable_marks, typed_marks, Means, MeansConstant, MeansVariable, means}
+use Rattle.mm_frames.proofs.State.{IsState, IsPlain, state-alike, opens, closes}
+use Rattle.mm_frames.proofs.Growth.{Grows, alike-empty, alike-drop, alike-grows}
+use Rattle.mm_frames.proofs.Shapes.{IsBegun, IsOpen}
+use Rattle.mm_frames.proofs.Grown.{IsOther, grows-same, proof-begins}
+use Rattle.mm_frames.proofs.SoFar.{keyword, IsKind, formula_names, names_for, IsClear, StageIs, StateIs, IsReaderAt, IsReader, variable_marks, typed_marks}
 use Rattle.mm_frames.proofs.Agrees.{other-keyword}
 use Rattle.mm_frames.proofs.WordGoes.{word-goes}
 
@@ -207,8 +202,8 @@ equals-goes u e after r at from (stage.Symbols kind.Provable) st h f l none = pr
 equals-goes u e after r at from (stage.Proof from_) st h f l none = absurd (some-none 29 none)
 
 -- `$.`
-ends : (u : Statement) (e : List Statement) (after : List Word) (r : Reader) (at : ℕ) (k : List ℕ) → IsOther k → IsBegun u k → StateIs (u ∷ e) r → IsReaderAt [] ((u ++ word at (codes "$.") ∷ []) ∷ e) after (with_end r)
-ends u e after r at k p o st =
+ends : (u : Statement) (e : List Statement) (after : List Word) (r : Reader) (at start : ℕ) (k : List ℕ) → IsOther k → IsBegun u k → StateIs (u ∷ e) r → IsReaderAt [] ((u ++ word at (codes "$.") ∷ []) ∷ e) after (with_end r start)
+ends u e after r at start k p o st =
     let w : Word = word at (codes "$.") in
     let grown : StateIs ((u ++ w ∷ []) ∷ e) r = state-alike (u ∷ e) ((u ++ w ∷ []) ∷ e) r.symbols r.constants r.variables r.typed r.labels (variable_marks r.scopes) (typed_marks r.scopes) (alike-grows u (u ++ w ∷ []) e (grows-same u k w p o (λ s. refl))) st in
     record {
@@ -218,11 +213,11 @@ ends u e after r at k p o st =
       listed_known = tt;
     }
 
-end-goes : (u : Statement) (e : List Statement) (after : List Word) (r : Reader) (at : ℕ) (s : Stage) → StateIs (u ∷ e) r → StageIs u (word at (codes "$.") ∷ after) r s → end_code_at s r ≡ None → IsReaderAt [] ((u ++ word at (codes "$.") ∷ []) ∷ e) after (with_end r)
-end-goes u e after r at stage.Between st h none = absurd (some-none 29 none)
-end-goes u e after r at stage.Labelled st h none = absurd (some-none 29 none)
-end-goes u e after r at (stage.Symbols k) st h none = ends u e after r at (keyword k) (other-keyword k) h.begun st
-end-goes u e after r at (stage.Proof from) st h none = ends u e after r at (codes "$p") (other-keyword kind.Provable) h.begun st
+end-goes : (u : Statement) (e : List Statement) (after : List Word) (r : Reader) (at start : ℕ) (s : Stage) → StateIs (u ∷ e) r → StageIs u (word at (codes "$.") ∷ after) r s → end_code_at s r ≡ None → IsReaderAt [] ((u ++ word at (codes "$.") ∷ []) ∷ e) after (with_end r start)
+end-goes u e after r at start stage.Between st h none = absurd (some-none 29 none)
+end-goes u e after r at start stage.Labelled st h none = absurd (some-none 29 none)
+end-goes u e after r at start (stage.Symbols k) st h none = ends u e after r at start (keyword k) (other-keyword k) h.begun st
+end-goes u e after r at start (stage.Proof from) st h none = ends u e after r at start (codes "$p") (other-keyword kind.Provable) h.begun st
 
 -- `${`
 open-goes : (u : Statement) (e : List Statement) (after : List Word) (r : Reader) (at : ℕ) (s : Stage) → s ≡ r.stage → StateIs (u ∷ e) r → StageIs u (word at (codes "${") ∷ after) r s → Within (length r.symbols) (map (λ (s : Sym). s.0) r.formula) → Within (length r.symbols) r.listed → between_code_at s r ≡ None → IsReaderAt [] ((u ++ word at (codes "${") ∷ []) ∷ e) after (with_open r)
@@ -274,48 +269,48 @@ goes-on before after at b bs r d h =
     let first : IsReaderAt (unended (w ∷ before)) (ended before) after r = subst (λ (u : Statement). IsReaderAt u (ended before) after r) (sym (unended-on w before no_end)) h in
     subst (λ (e : List Statement). IsReaderAt (unended (w ∷ before)) e after r) (sym (ended-on w before no_end)) first
 
-pub goes : (before after : List Word) (r : Reader) (w : Word) (k : TokenKind) (next : Option TokenKind) (end_ : ℕ) → IsReader before (w ∷ after) r → IsKind k w.bytes → is_extra next ≡ list_any (λ v. not (is_one_of labelled v)) (take 1 after)
-    → step_code r k w.bytes next ≡ None → IsReader (w ∷ before) after (with_token r k w.bytes end_)
-goes before after r w token.Word next end_ o is x none =
+pub goes : (before after : List Word) (r : Reader) (w : Word) (k : TokenKind) (next : Option TokenKind) (start end_ : ℕ) → IsReader before (w ∷ after) r → IsKind k w.bytes → is_extra next ≡ list_any (λ v. not (is_one_of labelled v)) (take 1 after)
+    → step_code r k w.bytes next ≡ None → IsReader (w ∷ before) after (with_token r k w.bytes start end_)
+goes before after r w token.Word next start end_ o is x none =
     let n = is.first ∷ is.rest in
     let st : StageIs (unended before) (word w.start n ∷ after) r r.stage = subst (λ (m : List ℕ). StageIs (unended before) (word w.start m ∷ after) r r.stage) is.eq o.stage in
     let none_n : word_code_at r.stage r n next ≡ None = ap (λ (m : List ℕ). word_code_at r.stage r m next) (sym is.eq) ∙ none in
     let there = goes-on before after w.start is.first is.rest (with_word_at r.stage r n) is.no_dollar (word-goes (unended before) (ended before) after r w.start is.first is.rest next r.stage refl is.no_dollar is.none_behind x o.state st o.formula_known o.listed_known none_n) in
     subst (λ (m : List ℕ). IsReader (word w.start m ∷ before) after (with_word_at r.stage r m)) (sym is.eq) there
-goes before after r w token.Constants next end_ o is x none =
+goes before after r w token.Constants next start end_ o is x none =
     let h : StageIs (unended before) (word w.start (codes "$c") ∷ after) r r.stage = subst (λ (n : List ℕ). StageIs (unended before) (word w.start n ∷ after) r r.stage) is o.stage in
-    as-bytes before after w.start w.bytes (codes "$c") (with_token r token.Constants w.bytes end_) is (constants-begins (unended before) (ended before) after r w.start r.stage o.state h o.formula_known o.listed_known (none-below (not (is_empty r.scopes)) 11 (between_code_at r.stage r) none).1)
-goes before after r w token.Variables next end_ o is x none =
+    as-bytes before after w.start w.bytes (codes "$c") (with_token r token.Constants w.bytes start end_) is (constants-begins (unended before) (ended before) after r w.start r.stage o.state h o.formula_known o.listed_known (none-below (not (is_empty r.scopes)) 11 (between_code_at r.stage r) none).1)
+goes before after r w token.Variables next start end_ o is x none =
     let h : StageIs (unended before) (word w.start (codes "$v") ∷ after) r r.stage = subst (λ (n : List ℕ). StageIs (unended before) (word w.start n ∷ after) r r.stage) is o.stage in
-    as-bytes before after w.start w.bytes (codes "$v") (with_token r token.Variables w.bytes end_) is (variables-begins (unended before) (ended before) after r w.start r.stage o.state h o.formula_known o.listed_known none)
-goes before after r w token.Distinct next end_ o is x none =
+    as-bytes before after w.start w.bytes (codes "$v") (with_token r token.Variables w.bytes start end_) is (variables-begins (unended before) (ended before) after r w.start r.stage o.state h o.formula_known o.listed_known none)
+goes before after r w token.Distinct next start end_ o is x none =
     let h : StageIs (unended before) (word w.start (codes "$d") ∷ after) r r.stage = subst (λ (n : List ℕ). StageIs (unended before) (word w.start n ∷ after) r r.stage) is o.stage in
-    as-bytes before after w.start w.bytes (codes "$d") (with_token r token.Distinct w.bytes end_) is (distinct-begins (unended before) (ended before) after r w.start r.stage o.state h o.formula_known o.listed_known none)
-goes before after r w token.Floating next end_ o is x none =
+    as-bytes before after w.start w.bytes (codes "$d") (with_token r token.Distinct w.bytes start end_) is (distinct-begins (unended before) (ended before) after r w.start r.stage o.state h o.formula_known o.listed_known none)
+goes before after r w token.Floating next start end_ o is x none =
     let h : StageIs (unended before) (word w.start (codes "$f") ∷ after) r r.stage = subst (λ (n : List ℕ). StageIs (unended before) (word w.start n ∷ after) r r.stage) is o.stage in
-    as-bytes before after w.start w.bytes (codes "$f") (with_token r token.Floating w.bytes end_) is (floating-begins (unended before) (ended before) after r w.start r.stage o.state h o.formula_known o.listed_known none)
-goes before after r w token.Essential next end_ o is x none =
+    as-bytes before after w.start w.bytes (codes "$f") (with_token r token.Floating w.bytes start end_) is (floating-begins (unended before) (ended before) after r w.start r.stage o.state h o.formula_known o.listed_known none)
+goes before after r w token.Essential next start end_ o is x none =
     let h : StageIs (unended before) (word w.start (codes "$e") ∷ after) r r.stage = subst (λ (n : List ℕ). StageIs (unended before) (word w.start n ∷ after) r r.stage) is o.stage in
-    as-bytes before after w.start w.bytes (codes "$e") (with_token r token.Essential w.bytes end_) is (essential-begins (unended before) (ended before) after r w.start r.stage o.state h o.formula_known o.listed_known none)
-goes before after r w token.Axiom next end_ o is x none =
+    as-bytes before after w.start w.bytes (codes "$e") (with_token r token.Essential w.bytes start end_) is (essential-begins (unended before) (ended before) after r w.start r.stage o.state h o.formula_known o.listed_known none)
+goes before after r w token.Axiom next start end_ o is x none =
     let h : StageIs (unended before) (word w.start (codes "$a") ∷ after) r r.stage = subst (λ (n : List ℕ). StageIs (unended before) (word w.start n ∷ after) r r.stage) is o.stage in
-    as-bytes before after w.start w.bytes (codes "$a") (with_token r token.Axiom w.bytes end_) is (axiom-begins (unended before) (ended before) after r w.start r.stage o.state h o.formula_known o.listed_known none)
-goes before after r w token.Provable next end_ o is x none =
+    as-bytes before after w.start w.bytes (codes "$a") (with_token r token.Axiom w.bytes start end_) is (axiom-begins (unended before) (ended before) after r w.start r.stage o.state h o.formula_known o.listed_known none)
+goes before after r w token.Provable next start end_ o is x none =
     let h : StageIs (unended before) (word w.start (codes "$p") ∷ after) r r.stage = subst (λ (n : List ℕ). StageIs (unended before) (word w.start n ∷ after) r r.stage) is o.stage in
-    as-bytes before after w.start w.bytes (codes "$p") (with_token r token.Provable w.bytes end_) is (provable-begins (unended before) (ended before) after r w.start r.stage o.state h o.formula_known o.listed_known none)
-goes before after r w token.Equals next end_ o is x none =
+    as-bytes before after w.start w.bytes (codes "$p") (with_token r token.Provable w.bytes start end_) is (provable-begins (unended before) (ended before) after r w.start r.stage o.state h o.formula_known o.listed_known none)
+goes before after r w token.Equals next start end_ o is x none =
     let h : StageIs (unended before) (word w.start (codes "$=") ∷ after) r r.stage = subst (λ (n : List ℕ). StageIs (unended before) (word w.start n ∷ after) r r.stage) is o.stage in
-    as-bytes before after w.start w.bytes (codes "$=") (with_token r token.Equals w.bytes end_) is (equals-goes (unended before) (ended before) after r w.start end_ r.stage o.state h o.formula_known o.listed_known none)
-goes before after r w token.End next end_ o is x none =
+    as-bytes before after w.start w.bytes (codes "$=") (with_token r token.Equals w.bytes start end_) is (equals-goes (unended before) (ended before) after r w.start end_ r.stage o.state h o.formula_known o.listed_known none)
+goes before after r w token.End next start end_ o is x none =
     let h : StageIs (unended before) (word w.start (codes "$.") ∷ after) r r.stage = subst (λ (n : List ℕ). StageIs (unended before) (word w.start n ∷ after) r r.stage) is o.stage in
-    as-bytes before after w.start w.bytes (codes "$.") (with_token r token.End w.bytes end_) is (end-goes (unended before) (ended before) after r w.start r.stage o.state h none)
-goes before after r w token.OpenBlock next end_ o is x none =
+    as-bytes before after w.start w.bytes (codes "$.") (with_token r token.End w.bytes start end_) is (end-goes (unended before) (ended before) after r w.start start r.stage o.state h none)
+goes before after r w token.OpenBlock next start end_ o is x none =
     let h : StageIs (unended before) (word w.start (codes "${") ∷ after) r r.stage = subst (λ (n : List ℕ). StageIs (unended before) (word w.start n ∷ after) r r.stage) is o.stage in
-    as-bytes before after w.start w.bytes (codes "${") (with_token r token.OpenBlock w.bytes end_) is (open-goes (unended before) (ended before) after r w.start r.stage refl o.state h o.formula_known o.listed_known none)
-goes before after r w token.CloseBlock next end_ o is x none =
+    as-bytes before after w.start w.bytes (codes "${") (with_token r token.OpenBlock w.bytes start end_) is (open-goes (unended before) (ended before) after r w.start r.stage refl o.state h o.formula_known o.listed_known none)
+goes before after r w token.CloseBlock next start end_ o is x none =
     let h : StageIs (unended before) (word w.start (codes "$}") ∷ after) r r.stage = subst (λ (n : List ℕ). StageIs (unended before) (word w.start n ∷ after) r r.stage) is o.stage in
-    as-bytes before after w.start w.bytes (codes "$}") (with_token r token.CloseBlock w.bytes end_) is (close-goes (unended before) (ended before) after r w.start r.stage r.scopes refl refl o.state h o.formula_known o.listed_known none)
-goes before after r w token.OpenInclude next end_ o is x none = absurd (some-none 10 none)
-goes before after r w token.CloseInclude next end_ o is x none = absurd (some-none 29 none)
-goes before after r w token.OpenComment next end_ o is x none = absurd is
-goes before after r w token.CloseComment next end_ o is x none = absurd is
+    as-bytes before after w.start w.bytes (codes "$}") (with_token r token.CloseBlock w.bytes start end_) is (close-goes (unended before) (ended before) after r w.start r.stage r.scopes refl refl o.state h o.formula_known o.listed_known none)
+goes before after r w token.OpenInclude next start end_ o is x none = absurd (some-none 10 none)
+goes before after r w token.CloseInclude next start end_ o is x none = absurd (some-none 29 none)
+goes before after r w token.OpenComment next start end_ o is x none = absurd is
+goes before after r w token.CloseComment next start end_ o is x none = absurd is

@@ -1,11 +1,11 @@
 -- What a token makes of the statement that is not ended.
-use Rattle.std.proofs.Common.{◌≡◌, ℕ, zero, suc, Bool, true, false, cond, not, ◌||◌, ◌&&◌, eqb, List, [], ◌∷◌, ◌++◌, length, take, drop, map, refl, sym, ap, ◌∙◌, subst, codes, append-nil}
-use Rattle.std.specs.List.{list_any, take_while}
+use Rattle.std.proofs.Common.{◌≡◌, ℕ, Bool, true, false, cond, not, ◌||◌, List, [], ◌∷◌, ◌++◌, map, refl, sym, ap, ◌∙◌, codes, append-nil}
+use Rattle.std.specs.List.{take_while}
 use Rattle.std.specs.Str.{bytes_eq}
 use Rattle.std.proofs.lemmas.List.{map-append}
 use Rattle.mm_model.specs.Words.{Word, word}
-use Rattle.mm_model.specs.Statements.{Statement, is, is_word, body, labels_in, symbols_in, in_proof, has_keyword, second}
-use Rattle.mm_frames.proofs.Lists.{added, types}
+use Rattle.mm_model.specs.Statements.{Statement, is, is_word, symbols_in, has_keyword, second}
+use Rattle.mm_frames.proofs.Lists.{added}
 use Rattle.mm_frames.proofs.State.{IsPlain}
 use Rattle.mm_frames.proofs.Growth.{Grows}
 use Rattle.mm_frames.proofs.Shapes.{IsBegun, IsOpen, IsProof, begun-more, labels-more, words-more, words-same, symbols-of, symbols-more, symbols-same, keyword-same, keyword-is, stops, stops-more, stops-still, proof-more}

@@ -1,5 +1,5 @@
 -- What the reader's lists become as the statement that is not ended grows.
-use Rattle.std.proofs.Common.{◌≡◌, ℕ, zero, suc, ◌+◌, ◌<◌, ◌≤◌, Bool, true, false, cond, not, ◌||◌, ◌&&◌, eqb, ltb, List, [], ◌∷◌, ◌++◌, length, take, drop, map, reverse, Option, Some, None, refl, sym, ap, ◌∙◌, arith, subst, codes, nat_eq, flat_map, slice_get, unwrap_or, inl, inr, append_assoc, append-nil}
+use Rattle.std.proofs.Common.{flat_map, ◌≡◌, ℕ, zero, suc, ◌<◌, ◌≤◌, Bool, true, false, ◌||◌, eqb, ltb, List, [], ◌∷◌, ◌++◌, length, map, reverse, refl, sym, ap, ◌∙◌, arith, subst, codes, nat_eq, inl, inr, append_assoc, append-nil}
 use Rattle.std.specs.List.{list_any}
 use Rattle.std.specs.Str.{bytes_eq}
 use Rattle.std.proofs.lemmas.Bool.{cases_Bool, or_parts}
@@ -7,13 +7,15 @@ use Rattle.std.proofs.lemmas.Bool.Decides.{nat_tests}
 use Rattle.std.proofs.lemmas.Slice.Eq.{bytes_eq-Decides}
 use Rattle.std.proofs.lemmas.List.{reverse-append, map-append}
 use Rattle.std.proofs.lemmas.List.Folds.{list_any-append}
-use Rattle.mm_model.specs.Words.{Word, word}
-use Rattle.mm_model.specs.Statements.{Statement, has_keyword, symbols_in, labels_in, contains, constants, variables_ever, variables, typed, labels, path, active}
+use Rattle.mm_model.specs.Words.{Word}
+use Rattle.mm_model.specs.Statements.{Statement, symbols_in, labels_in, contains, constants, variables_ever, labels}
 use Rattle.mm_frames.proofs.Lists.{added, types, labels-cons, constants-cons, variables_ever-cons}
 use Rattle.mm_frames.proofs.Marks.{kept, Marks, kept-plain, marks-plain, marks-back}
-use Rattle.mm_frames.proofs.Numbers.{name_of, Injective, Within}
+use Rattle.mm_model.specs.Frames.{without_repeats}
+use Rattle.mm_frames.proofs.Repeats.{repeats-new, repeats-old}
+use Rattle.mm_frames.proofs.Numbers.{name_of, Within}
 use Rattle.mm_frames.proofs.Names.{name_of-more, name_of-last, length-more, names-more, within-more, within-add, within-absent, absent-at, injective-more}
-use Rattle.mm_frames.proofs.State.{IsState, IsPlain, Alike, new_variables, new_types, is_flagged}
+use Rattle.mm_frames.proofs.State.{adds, label_names, flat-last, IsState, IsPlain, Alike, new_variables, new_types, is_flagged}
 
 -- ---- the empty statement
 
@@ -24,6 +26,8 @@ alike-empty e = record {
   same_variables = sym (kept-plain new_variables [] e refl refl);
   same_types = sym (kept-plain new_types [] e refl refl);
   same_labels = refl;
+  same_adds = sym (flat-last adds [] e ∙ append-nil (flat_map adds (reverse e)));
+  same_ordered = sym (flat-last label_names [] e ∙ append-nil (flat_map label_names (reverse e)));
   v_marks = λ ms h. marks-plain new_variables [] e 0 ms refl refl h;
   t_marks = λ ms h. marks-plain new_types [] e 0 ms refl refl h;
 }
@@ -35,6 +39,8 @@ alike-drop e = record {
   same_variables = kept-plain new_variables [] e refl refl;
   same_types = kept-plain new_types [] e refl refl;
   same_labels = refl;
+  same_adds = flat-last adds [] e ∙ append-nil (flat_map adds (reverse e));
+  same_ordered = flat-last label_names [] e ∙ append-nil (flat_map label_names (reverse e));
   v_marks = λ ms h. marks-back new_variables [] e 0 ms refl refl h;
   t_marks = λ ms h. marks-back new_types [] e 0 ms refl refl h;
 }
@@ -48,6 +54,35 @@ pub record Grows (u v : Statement) (cs vs ts ls : List (List ℕ)) : Type 0 wher
   pub more_variables : added (codes "$v") symbols_in v ≡ added (codes "$v") symbols_in u ++ vs
   pub more_types : added (codes "$f") types v ≡ added (codes "$f") types u ++ ts
   pub more_labels : map (λ (w : Word). w.bytes) (labels_in v) ≡ ls ++ map (λ (w : Word). w.bytes) (labels_in u)
+
+-- the symbols declared, and the labels, in order
+adds-same : (u v : Statement) (e : List Statement) → added (codes "$c") symbols_in v ≡ added (codes "$c") symbols_in u ++ [] → added (codes "$v") symbols_in v ≡ added (codes "$v") symbols_in u ++ [] → flat_map adds (reverse (u ∷ e)) ≡ flat_map adds (reverse (v ∷ e))
+adds-same u v e c h =
+    flat-last adds u e
+    ∙ ap (λ l. flat_map adds (reverse e) ++ (l ++ added (codes "$v") symbols_in u)) (sym (append-nil (added (codes "$c") symbols_in u)) ∙ sym c)
+    ∙ ap (λ l. flat_map adds (reverse e) ++ (added (codes "$c") symbols_in v ++ l)) (sym (append-nil (added (codes "$v") symbols_in u)) ∙ sym h)
+    ∙ sym (flat-last adds v e)
+
+ordered-same : (u v : Statement) (e : List Statement) → map (λ (w : Word). w.bytes) (labels_in v) ≡ map (λ (w : Word). w.bytes) (labels_in u) → flat_map label_names (reverse (u ∷ e)) ≡ flat_map label_names (reverse (v ∷ e))
+ordered-same u v e h = flat-last label_names u e ∙ ap (λ l. flat_map label_names (reverse e) ++ l) (sym h) ∙ sym (flat-last label_names v e)
+
+-- one more constant, where the statement is no `$v`, and one more variable
+adds-constant : (u v : Statement) (e : List Statement) (n : List ℕ) → added (codes "$v") symbols_in u ≡ [] → added (codes "$c") symbols_in v ≡ added (codes "$c") symbols_in u ++ n ∷ [] → added (codes "$v") symbols_in v ≡ added (codes "$v") symbols_in u ++ [] → flat_map adds (reverse (v ∷ e)) ≡ flat_map adds (reverse (u ∷ e)) ++ n ∷ []
+adds-constant u v e n none c h =
+    let x = flat_map adds (reverse e) in
+    let a = added (codes "$c") symbols_in u in
+    let last : added (codes "$v") symbols_in v ≡ [] = h ∙ append-nil (added (codes "$v") symbols_in u) ∙ none in
+    let now : adds v ≡ a ++ n ∷ [] = ap (λ l. l ++ added (codes "$v") symbols_in v) c ∙ ap (λ l. (a ++ n ∷ []) ++ l) last ∙ append-nil (a ++ n ∷ []) in
+    let was : adds u ≡ a = ap (λ l. a ++ l) none ∙ append-nil a in
+    flat-last adds v e ∙ ap (λ l. x ++ l) now ∙ sym (append_assoc x a (n ∷ [])) ∙ ap (λ l. (x ++ l) ++ n ∷ []) (sym was) ∙ ap (λ l. l ++ n ∷ []) (sym (flat-last adds u e))
+
+adds-variable : (u v : Statement) (e : List Statement) (n : List ℕ) → added (codes "$c") symbols_in v ≡ added (codes "$c") symbols_in u ++ [] → added (codes "$v") symbols_in v ≡ added (codes "$v") symbols_in u ++ n ∷ [] → flat_map adds (reverse (v ∷ e)) ≡ flat_map adds (reverse (u ∷ e)) ++ n ∷ []
+adds-variable u v e n c h =
+    let x = flat_map adds (reverse e) in
+    let a = added (codes "$c") symbols_in u in
+    let b = added (codes "$v") symbols_in u in
+    let now : adds v ≡ (a ++ b) ++ n ∷ [] = ap (λ l. l ++ added (codes "$v") symbols_in v) (c ∙ append-nil a) ∙ ap (λ l. a ++ l) h ∙ sym (append_assoc a b (n ∷ [])) in
+    flat-last adds v e ∙ ap (λ l. x ++ l) now ∙ sym (append_assoc x (adds u) (n ∷ [])) ∙ ap (λ l. l ++ n ∷ []) (sym (flat-last adds u e))
 
 kept-grows : (g : Statement → List (List ℕ)) (u v : Statement) (e : List Statement) (xs : List (List ℕ)) → IsPlain u → IsPlain v → g v ≡ g u ++ xs → kept (λ s. reverse (g s)) (v ∷ e) ≡ reverse xs ++ kept (λ s. reverse (g s)) (u ∷ e)
 kept-grows g u v e xs p q h =
@@ -67,6 +102,8 @@ alike-grows u v e g = record {
   same_ever = variables_ever-cons u e ∙ ap (λ l. l ++ variables_ever e) (sym (append-nil (added (codes "$v") symbols_in u)) ∙ sym g.more_variables) ∙ sym (variables_ever-cons v e);
   same_variables = sym (kept-grows (added (codes "$v") symbols_in) u v e [] g.plain g.plain_after g.more_variables);
   same_types = sym (kept-grows (added (codes "$f") types) u v e [] g.plain g.plain_after g.more_types);
+  same_adds = adds-same u v e g.new_constants g.more_variables;
+  same_ordered = ordered-same u v e g.more_labels;
   same_labels = labels-cons u e ∙ ap (λ l. l ++ labels e) (sym g.more_labels) ∙ sym (labels-cons v e);
   v_marks = λ ms h. marks-grows new_variables u v e ms g.plain g.plain_after h;
   t_marks = λ ms h. marks-grows new_types u v e ms g.plain g.plain_after h;
@@ -121,9 +158,9 @@ contains-append xs ys n = list_any-append (bytes_eq n) xs ys
 -- ---- a new constant
 
 pub constant-more : (u v : Statement) (e : List Statement) (symbols : List (List ℕ)) (constant : List Bool) (variables_ typed_ : List ℕ) (labels_ : List (List ℕ)) (vs ts : List ℕ) (n : List ℕ)
-    → Grows u v (n ∷ []) [] [] [] → list_any (bytes_eq n) symbols ≡ false
+    → Grows u v (n ∷ []) [] [] [] → list_any (bytes_eq n) symbols ≡ false → added (codes "$v") symbols_in u ≡ []
     → IsState (u ∷ e) symbols constant variables_ typed_ labels_ vs ts → IsState (v ∷ e) (symbols ++ n ∷ []) (constant ++ true ∷ []) variables_ typed_ labels_ vs ts
-constant-more u v e symbols constant variables_ typed_ labels_ vs ts n g absent s =
+constant-more u v e symbols constant variables_ typed_ labels_ vs ts n g absent no_variables s =
     let a = added (codes "$c") symbols_in u in
     let long = length-more symbols n in
     let now : constants (v ∷ e) ≡ (a ++ n ∷ []) ++ constants e = constants-cons v e ∙ ap (λ l. l ++ constants e) g.new_constants in
@@ -169,6 +206,8 @@ constant-more u v e symbols constant variables_ typed_ labels_ vs ts n g absent 
       are_labels = s.are_labels ∙ ap (λ l. reverse l) (labels-cons u e ∙ ap (λ l. l ++ labels e) (sym g.more_labels) ∙ sym (labels-cons v e));
       are_v_marks = marks-grows new_variables u v e vs g.plain g.plain_after s.are_v_marks;
       are_t_marks = marks-grows new_types u v e ts g.plain g.plain_after s.are_t_marks;
+      are_symbols = ap (λ l. l ++ n ∷ []) s.are_symbols ∙ repeats-new (flat_map adds (reverse (u ∷ e))) n (ap (λ l. contains l n) (sym s.are_symbols) ∙ absent) ∙ ap (λ l. without_repeats [] l) (sym (adds-constant u v e n no_variables g.new_constants g.more_variables));
+      are_ordered = s.are_ordered ∙ ordered-same u v e g.more_labels;
     }
   where
     or_false_x : (a x : Bool) → x ≡ false → (a || (x || false)) ≡ a
@@ -235,6 +274,8 @@ variable-more u v e symbols constant variables_ typed_ labels_ vs ts n g absent 
       are_labels = s.are_labels ∙ ap (λ l. reverse l) (labels-cons u e ∙ ap (λ l. l ++ labels e) (sym g.more_labels) ∙ sym (labels-cons v e));
       are_v_marks = marks-grows new_variables u v e vs g.plain g.plain_after s.are_v_marks;
       are_t_marks = marks-grows new_types u v e ts g.plain g.plain_after s.are_t_marks;
+      are_symbols = ap (λ l. l ++ n ∷ []) s.are_symbols ∙ repeats-new (flat_map adds (reverse (u ∷ e))) n (ap (λ l. contains l n) (sym s.are_symbols) ∙ absent) ∙ ap (λ l. without_repeats [] l) (sym (adds-variable u v e n g.new_constants g.more_variables));
+      are_ordered = s.are_ordered ∙ ordered-same u v e g.more_labels;
     }
   where
     no_flag : false ≡ true → ⊥
@@ -275,6 +316,8 @@ variable-again u v e symbols constant variables_ typed_ labels_ vs ts i g hi fla
       are_labels = s.are_labels ∙ ap (λ l. reverse l) (labels-cons u e ∙ ap (λ l. l ++ labels e) (sym g.more_labels) ∙ sym (labels-cons v e));
       are_v_marks = marks-grows new_variables u v e vs g.plain g.plain_after s.are_v_marks;
       are_t_marks = marks-grows new_types u v e ts g.plain g.plain_after s.are_t_marks;
+      are_symbols = s.are_symbols ∙ repeats-old (flat_map adds (reverse (u ∷ e))) n (ap (λ l. contains l n) (sym s.are_symbols) ∙ stands symbols n i hi ((bytes_eq-Decides n n).1 refl)) ∙ ap (λ l. without_repeats [] l) (sym (adds-variable u v e n g.new_constants g.more_variables));
+      are_ordered = s.are_ordered ∙ ordered-same u v e g.more_labels;
     }
   where
     no_flag : false ≡ true → ⊥
@@ -315,14 +358,16 @@ typed-more u v e symbols constant variables_ typed_ labels_ vs ts i g hi s =
       are_labels = s.are_labels ∙ ap (λ l. reverse l) (labels-cons u e ∙ ap (λ l. l ++ labels e) (sym g.more_labels) ∙ sym (labels-cons v e));
       are_v_marks = marks-grows new_variables u v e vs g.plain g.plain_after s.are_v_marks;
       are_t_marks = marks-grows new_types u v e ts g.plain g.plain_after s.are_t_marks;
+      are_symbols = s.are_symbols ∙ ap (λ l. without_repeats [] l) (adds-same u v e g.new_constants g.more_variables);
+      are_ordered = s.are_ordered ∙ ordered-same u v e g.more_labels;
     }
 
 -- ---- a label
 
 pub label-more : (u v : Statement) (e : List Statement) (symbols : List (List ℕ)) (constant : List Bool) (variables_ typed_ : List ℕ) (labels_ : List (List ℕ)) (vs ts : List ℕ) (n : List ℕ)
-    → Grows u v [] [] [] (n ∷ [])
+    → Grows u v [] [] [] (n ∷ []) → map (λ (w : Word). w.bytes) (labels_in u) ≡ []
     → IsState (u ∷ e) symbols constant variables_ typed_ labels_ vs ts → IsState (v ∷ e) symbols constant variables_ typed_ (labels_ ++ n ∷ []) vs ts
-label-more u v e symbols constant variables_ typed_ labels_ vs ts n g s =
+label-more u v e symbols constant variables_ typed_ labels_ vs ts n g no_label s =
     let same : constants (v ∷ e) ≡ constants (u ∷ e) = constants-cons v e ∙ ap (λ l. l ++ constants e) (g.new_constants ∙ append-nil (added (codes "$c") symbols_in u)) ∙ sym (constants-cons u e) in
     let ever : variables_ever (v ∷ e) ≡ variables_ever (u ∷ e) = variables_ever-cons v e ∙ ap (λ l. l ++ variables_ever e) (g.more_variables ∙ append-nil (added (codes "$v") symbols_in u)) ∙ sym (variables_ever-cons u e) in
     let now : labels (v ∷ e) ≡ n ∷ labels (u ∷ e) = labels-cons v e ∙ ap (λ l. l ++ labels e) g.more_labels ∙ ap (λ l. n ∷ l) (sym (labels-cons u e)) in
@@ -339,4 +384,6 @@ label-more u v e symbols constant variables_ typed_ labels_ vs ts n g s =
       are_labels = ap (λ l. l ++ n ∷ []) s.are_labels ∙ sym (reverse-append (n ∷ []) (labels (u ∷ e))) ∙ ap (λ l. reverse l) (sym now);
       are_v_marks = marks-grows new_variables u v e vs g.plain g.plain_after s.are_v_marks;
       are_t_marks = marks-grows new_types u v e ts g.plain g.plain_after s.are_t_marks;
+      are_symbols = s.are_symbols ∙ ap (λ l. without_repeats [] l) (adds-same u v e g.new_constants g.more_variables);
+      are_ordered = ap (λ l. l ++ n ∷ []) (s.are_ordered ∙ flat-last label_names u e ∙ ap (λ l. flat_map label_names (reverse e) ++ l) no_label ∙ append-nil (flat_map label_names (reverse e))) ∙ sym (flat-last label_names v e ∙ ap (λ l. flat_map label_names (reverse e) ++ l) (g.more_labels ∙ ap (λ l. n ∷ l) no_label));
     }

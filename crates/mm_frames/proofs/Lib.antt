@@ -1,3 +1,8 @@
+pub mod Queries
+pub mod Final
+pub mod MoreGoes
+pub mod More
+pub mod Repeats
 pub mod Loop
 pub mod FaultAt
 pub mod TokenFacts

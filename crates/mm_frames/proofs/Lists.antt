@@ -1,10 +1,9 @@
 -- What a token does to the statements, and what a statement does to each list of names.
-use Rattle.std.proofs.Common.{◌≡◌, ℕ, suc, ◌<◌, Bool, true, false, cond, List, [], ◌∷◌, ◌++◌, length, drop, map, filter, refl, sym, ap, ◌∙◌, codes, flat_map, append_assoc}
-use Rattle.std.proofs.lemmas.Grind.{flat_map-append}
+use Rattle.std.proofs.Common.{◌≡◌, ℕ, suc, ◌<◌, true, false, cond, List, [], ◌∷◌, ◌++◌, length, drop, map, refl, sym, ap, ◌∙◌, codes, flat_map, append_assoc}
 use Rattle.std.proofs.lemmas.List.{map-append}
 use Rattle.mm_model.specs.Words.{Word}
 use Rattle.mm_model.specs.Statements.{Statement, ends_statement, ended, unended, has_keyword, with_keyword, symbols_in, labels_in, second, path, active_on, active, constants, variables_ever, variables, typed, labels}
-use Rattle.mm_frames.proofs.Paths.{cond_then, cond_else, active-open, active-plain, active-close, nested, EndsIn}
+use Rattle.mm_frames.proofs.Paths.{cond_then, cond_else, active-open, active-plain, active-close, nested}
 
 -- ---- tokens
 

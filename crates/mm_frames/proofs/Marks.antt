@@ -1,9 +1,9 @@
 -- What the reader keeps of the active statements, as a list that is cut back at `$}`.
-use Rattle.std.proofs.Common.{◌≡◌, ℕ, zero, suc, ◌+◌, ◌<◌, ◌≤◌, Bool, true, false, cond, List, [], ◌∷◌, ◌++◌, length, take, drop, reverse, refl, sym, ap, ◌∙◌, subst, arith, codes, flat_map}
+use Rattle.std.proofs.Common.{◌≡◌, ℕ, suc, ◌<◌, true, false, List, [], ◌∷◌, ◌++◌, length, take, drop, reverse, refl, sym, ap, ◌∙◌, subst, arith, codes, flat_map}
 use Rattle.std.proofs.lemmas.Grind.{flat_map-append}
 use Rattle.std.proofs.lemmas.List.{reverse-append, length-reverse}
-use Rattle.mm_model.specs.Statements.{Statement, has_keyword, with_keyword, path, active_on, active}
-use Rattle.mm_frames.proofs.Paths.{active_on-skip, active_on-keep, active_on-fresh, active-open, active-plain, active-close, path-open, path-close, path-plain, nested, length-drop-lt, drop-tail}
+use Rattle.mm_model.specs.Statements.{Statement, has_keyword, path, active_on, active}
+use Rattle.mm_frames.proofs.Paths.{active_on-skip, active_on-keep, active-open, active-plain, active-close, path-open, path-close, path-plain, nested, length-drop-lt, drop-tail}
 use Rattle.mm_frames.proofs.Lists.{added, listed, listed-cons}
 
 -- what g takes of each active statement, the nearest first

@@ -1,14 +1,11 @@
 -- How far the statement that is not ended has come.
-use Rattle.std.proofs.Common.{◌≡◌, ℕ, zero, suc, ◌+◌, Bool, true, false, cond, not, ◌||◌, ◌&&◌, eqb, List, [], ◌∷◌, ◌++◌, length, take, drop, map, filter, refl, sym, ap, ◌∙◌, arith, subst, codes, inl, inr, append_assoc, append-nil}
+use Rattle.std.proofs.Common.{◌≡◌, ℕ, suc, ◌+◌, Bool, true, false, not, ◌||◌, List, [], ◌∷◌, ◌++◌, take, drop, map, refl, sym, ap, ◌∙◌, arith, codes, inl, inr}
 use Rattle.std.specs.List.{list_any, prefix_len, take_while}
 use Rattle.std.proofs.lemmas.Bool.{cases_Bool}
 use Rattle.std.proofs.lemmas.List.{map-append}
 use Rattle.std.proofs.lemmas.List.Folds.{list_any-append}
 use Rattle.mm_model.specs.Words.{Word, word}
-use Rattle.mm_model.specs.Statements.{Statement, is, is_empty, is_word, is_label_alone, body, labels_in, symbols_in, in_proof, has_keyword, second}
-use Rattle.mm_frames.proofs.Lists.{added, types}
-use Rattle.mm_frames.proofs.State.{IsPlain, or-false}
-use Rattle.mm_frames.proofs.Growth.{Grows}
+use Rattle.mm_model.specs.Statements.{Statement, is, is_empty, is_word, is_label_alone, body, labels_in, symbols_in, in_proof, has_keyword}
 
 -- a statement that has this keyword, and these tokens behind it
 pub record IsBegun (u : Statement) (k : List ℕ) : Type 0 where

@@ -1,9 +1,9 @@
 -- What the reader has read: its lists are those of the statements so far, and its stage is how far the last one has come.
-use Rattle.std.proofs.Common.{◌≡◌, ℕ, zero, suc, ◌+◌, ◌<◌, ◌≤◌, Bool, true, false, cond, not, ◌||◌, ◌&&◌, eqb, List, [], ◌∷◌, ◌++◌, length, take, drop, map, Option, None, Some, refl, sym, ap, ◌∙◌, subst, codes, position, nat_eq, arith}
+use Rattle.std.proofs.Common.{◌≡◌, ℕ, ◌<◌, Bool, true, false, cond, not, ◌||◌, eqb, List, [], ◌∷◌, length, take, map, Option, None, Some, refl, sym, ◌∙◌, subst, codes, position, nat_eq}
 use Rattle.std.specs.List.{list_any}
 use Rattle.std.specs.Str.{bytes_eq}
 use Rattle.mm_base.specs.declared.symbols.Sym.{Sym}
-use Rattle.mm_model.specs.Words.{Word, word}
+use Rattle.mm_model.specs.Words.{Word}
 use Rattle.mm_model.specs.Statements.{Statement, is_word, is_one_of, labelled, ended, unended, contains, constants, variables, variables_ever, typed}
 use Rattle.mm_tokens.specs.declared.token.TokenKind.{TokenKind}
 use Rattle.mm_tokens.specs.declared.token.TokenKind.TheVariants as token

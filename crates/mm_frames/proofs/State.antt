@@ -1,16 +1,18 @@
 -- The lists that the reader keeps, tied to the statements so far.
-use Rattle.std.proofs.Common.{◌≡◌, ℕ, zero, suc, ◌+◌, ◌<◌, ◌≤◌, Bool, true, false, cond, not, ◌||◌, ◌&&◌, eqb, List, [], ◌∷◌, ◌++◌, length, take, drop, map, reverse, Option, Some, None, refl, sym, ap, ◌∙◌, arith, subst, codes, nat_eq, flat_map, slice_get, unwrap_or, inl, inr, append_assoc}
-use Rattle.std.specs.List.{list_any, list_all}
+use Rattle.std.proofs.Common.{◌≡◌, ℕ, zero, suc, ◌<◌, Bool, true, false, ◌||◌, List, [], ◌∷◌, ◌++◌, append-nil, length, take, map, reverse, refl, sym, ap, ◌∙◌, codes, nat_eq, flat_map, slice_get, unwrap_or, inl, inr}
+use Rattle.std.specs.List.{list_any}
 use Rattle.std.specs.Str.{bytes_eq}
 use Rattle.std.proofs.lemmas.Bool.{cases_Bool}
-use Rattle.std.proofs.lemmas.List.{reverse-append, length-reverse, map-append}
+use Rattle.std.proofs.lemmas.List.{reverse-append, length-reverse}
 use Rattle.std.proofs.lemmas.List.Folds.{list_any-append}
+use Rattle.std.proofs.lemmas.Grind.{flat_map-append}
 use Rattle.mm_model.specs.Words.{Word, word}
-use Rattle.mm_model.specs.Statements.{Statement, has_keyword, symbols_in, labels_in, contains, constants, variables_ever, variables, typed, labels, path, active}
-use Rattle.mm_frames.proofs.Lists.{added, types, labels-cons, constants-cons, variables_ever-cons}
-use Rattle.mm_frames.proofs.Marks.{kept, Marks, kept-close, kept-open, kept-plain, marks-close, marks-open, marks-plain, listed-is}
+use Rattle.mm_model.specs.Frames.{without_repeats}
+use Rattle.mm_model.specs.Statements.{labels_in, Statement, has_keyword, symbols_in, contains, constants, variables_ever, variables, typed, labels, active}
+use Rattle.mm_frames.proofs.Lists.{added, types}
+use Rattle.mm_frames.proofs.Marks.{kept, Marks, kept-close, kept-open, marks-close, marks-open, listed-is}
 use Rattle.mm_frames.proofs.Numbers.{name_of, Injective, Within, bridge, bridge_none}
-use Rattle.mm_frames.proofs.Names.{name_of-more, name_of-last, length-more, names-more, within-more, within-add, within-absent, absent-at, injective-more}
+use Rattle.mm_frames.proofs.Names.{absent-at}
 
 -- the variables that a `$v` adds, and the one that a `$f` gives a typecode, the nearest first
 abbrev pub new_variables : Statement → List (List ℕ)
@@ -21,6 +23,13 @@ new_types s = reverse (added (codes "$f") types s)
 
 abbrev pub is_flagged : List Bool → ℕ → Bool
 is_flagged flags i = unwrap_or (slice_get flags i) false
+
+-- the symbols that a statement may declare, and its label
+abbrev pub adds : Statement → List (List ℕ)
+adds s = added (codes "$c") symbols_in s ++ added (codes "$v") symbols_in s
+
+abbrev pub label_names : Statement → List (List ℕ)
+label_names s = map (λ (w : Word). w.bytes) (labels_in s)
 
 -- `e` are the statements so far, the nearest first
 pub record IsState (e : List Statement) (symbols : List (List ℕ)) (constant : List Bool) (variables typed : List ℕ) (labels_ : List (List ℕ)) (v_marks t_marks : List ℕ) : Type 0 where
@@ -36,6 +45,8 @@ pub record IsState (e : List Statement) (symbols : List (List ℕ)) (constant : 
   pub are_labels : labels_ ≡ reverse (labels e)
   pub are_v_marks : Marks new_variables e 0 v_marks
   pub are_t_marks : Marks new_types e 0 t_marks
+  pub are_symbols : symbols ≡ without_repeats [] (flat_map adds (reverse e))
+  pub are_ordered : labels_ ≡ flat_map label_names (reverse e)
 
 -- ---- statements that show the same
 
@@ -51,6 +62,8 @@ pub record Alike (e f : List Statement) : Type 0 where
   pub same_variables : kept new_variables e ≡ kept new_variables f
   pub same_types : kept new_types e ≡ kept new_types f
   pub same_labels : labels e ≡ labels f
+  pub same_adds : flat_map adds (reverse e) ≡ flat_map adds (reverse f)
+  pub same_ordered : flat_map label_names (reverse e) ≡ flat_map label_names (reverse f)
   pub v_marks : (ms : List ℕ) → Marks new_variables e 0 ms → Marks new_variables f 0 ms
   pub t_marks : (ms : List ℕ) → Marks new_types e 0 ms → Marks new_types f 0 ms
 
@@ -68,7 +81,13 @@ state-alike e f symbols constant variables typed labels_ vs ts a s = record {
   are_labels = s.are_labels ∙ ap (λ l. reverse l) a.same_labels;
   are_v_marks = a.v_marks vs s.are_v_marks;
   are_t_marks = a.t_marks ts s.are_t_marks;
+  are_symbols = s.are_symbols ∙ ap (λ l. without_repeats [] l) a.same_adds;
+  are_ordered = s.are_ordered ∙ a.same_ordered;
 }
+
+-- the last statement gives the end of such a list
+pub flat-last : {X : Type 0} (h : Statement → List X) (s : Statement) (e : List Statement) → flat_map h (reverse (s ∷ e)) ≡ flat_map h (reverse e) ++ h s
+flat-last h s e = ap (λ ss. flat_map h ss) (reverse-append (s ∷ []) e) ∙ flat_map-append h (reverse e) (s ∷ []) ∙ ap (λ l. flat_map h (reverse e) ++ l) (append-nil (h s))
 
 -- ---- `$}`
 
@@ -109,6 +128,8 @@ closes at e symbols constant variables typed labels_ v t vs ts s =
       are_labels = s.are_labels;
       are_v_marks = marks-close new_variables c e v vs refl refl s.are_v_marks;
       are_t_marks = marks-close new_types c e t ts refl refl s.are_t_marks;
+      are_symbols = s.are_symbols ∙ ap (λ l. without_repeats [] l) (sym (flat-last adds c e ∙ append-nil (flat_map adds (reverse e))));
+      are_ordered = s.are_ordered ∙ sym (flat-last label_names c e ∙ append-nil (flat_map label_names (reverse e)));
     }
 
 -- ---- `${`
@@ -137,6 +158,8 @@ opens at e symbols constant variables typed labels_ vs ts s =
       are_labels = s.are_labels;
       are_v_marks = marks-open new_variables c e (length variables) vs refl refl v_len s.are_v_marks;
       are_t_marks = marks-open new_types c e (length typed) ts refl refl t_len s.are_t_marks;
+      are_symbols = s.are_symbols ∙ ap (λ l. without_repeats [] l) (sym (flat-last adds c e ∙ append-nil (flat_map adds (reverse e))));
+      are_ordered = s.are_ordered ∙ sym (flat-last label_names c e ∙ append-nil (flat_map label_names (reverse e)));
     }
 
 -- ---- what a known name means

@@ -1,6 +1,5 @@
 -- The tokens of a text without a fault: their kinds, and where they stand.
-use Rattle.std.proofs.Common.{◌≡◌, ℕ, zero, suc, ◌+◌, ◌-◌, ◌<◌, ◌≤◌, Bool, true, false, cond, not, ◌||◌, ◌&&◌, eqb, List, [], ◌∷◌, ◌++◌, length, take, drop, map, Option, None, Some, refl, sym, ap, ◌∙◌, subst, codes, arith, inl, inr, append_assoc, option_map, find, slice_range, unwrap_or}
-use mathlib.Core.List.{reverse_aux}
+use Rattle.std.proofs.Common.{◌≡◌, ℕ, suc, ◌+◌, ◌-◌, ◌≤◌, Bool, true, false, cond, not, ◌||◌, ◌&&◌, eqb, List, [], ◌∷◌, ◌++◌, length, take, drop, Option, None, Some, refl, sym, ap, ◌∙◌, subst, codes, arith, inl, inr, append_assoc, option_map, slice_range, unwrap_or}
 use Rattle.std.specs.List.{list_any}
 use Rattle.std.specs.Str.{bytes_eq}
 use Rattle.std.proofs.lemmas.Bool.{cases_Bool, or_parts}
@@ -9,7 +8,6 @@ use Rattle.std.proofs.lemmas.Slice.Eq.{bytes_eq-Decides}
 use Rattle.mm_model.specs.Faults.{Fault, fault, or_else, earlier, first_code, first_fault}
 use Rattle.mm_model.specs.Words.{Word, word, words, words_from, put_before, is_white}
 use Rattle.mm_model.specs.Tokens.{keywords, is_open_comment, is_close_comment, is_bad_keyword, in_comment, word_rules, bad_keyword, comment_in_comment, tokens_where, tokens, bad_byte, words_fault, token_fault}
-use Rattle.mm_tokens.specs.declared.token.TokenKind.{TokenKind}
 use Rattle.mm_tokens.specs.declared.token.TokenKind.TheVariants as token
 use Rattle.mm_tokens.specs.Kinds.{keyword_kind}
 use Rattle.mm_frames.proofs.Paths.{cond_then, cond_else}

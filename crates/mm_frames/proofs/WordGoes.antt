@@ -1,14 +1,13 @@
 -- What the reader keeps behind a token is that of the statements so far.
-use Rattle.std.proofs.Common.{◌≡◌, ℕ, zero, suc, ◌+◌, ◌<◌, ◌≤◌, Bool, true, false, cond, not, ◌||◌, ◌&&◌, eqb, List, [], ◌∷◌, ◌++◌, length, take, drop, map, Option, None, Some, refl, sym, ap, ◌∙◌, subst, codes, position, nat_eq, nat_lt, arith}
+use Rattle.std.proofs.Common.{◌≡◌, ℕ, suc, ◌<◌, Bool, true, false, cond, not, eqb, List, [], ◌∷◌, ◌++◌, length, take, map, Option, None, Some, refl, sym, ap, ◌∙◌, subst, codes, position, nat_eq, nat_lt, arith}
 use Rattle.std.specs.List.{list_any, list_all}
 use Rattle.std.specs.Str.{bytes_eq}
 use Rattle.std.proofs.lemmas.Bool.Decides.{nat_tests}
 use Rattle.std.proofs.lemmas.List.{map-append}
 use Rattle.mm_base.specs.declared.symbols.Sym.{Sym}
 use Rattle.mm_model.specs.Words.{Word, word}
-use Rattle.mm_model.specs.Statements.{Statement, is, is_word, is_one_of, is_empty, labelled, ends_statement, ended, unended, in_proof}
+use Rattle.mm_model.specs.Statements.{symbols_in, Statement, is, is_word, is_one_of, is_empty, labelled}
 use Rattle.mm_tokens.specs.declared.token.TokenKind.{TokenKind}
-use Rattle.mm_tokens.specs.declared.token.TokenKind.TheVariants as token
 use Rattle.mm_frames.specs.declared.reader.Reader.{Reader}
 use Rattle.mm_frames.specs.declared.reader.Stage.{Stage}
 use Rattle.mm_frames.specs.declared.reader.Stage.TheVariants as stage
@@ -16,18 +15,16 @@ use Rattle.mm_frames.specs.declared.reader.StatementKind.{StatementKind}
 use Rattle.mm_frames.specs.declared.reader.StatementKind.TheVariants as kind
 use Rattle.mm_frames.specs.declared.reader.Meaning.{Meaning}
 use Rattle.mm_frames.specs.declared.reader.Meaning.TheVariants as meant
-use Rattle.mm_frames.specs.declared.scopes.Scope.{Scope}
 use Rattle.mm_frames.specs.Kinds.{is_extra}
-use Rattle.mm_frames.specs.Reading.{meaning_of, label_code, with_label, constant_code, with_constant, variable_code_at, with_variable_at, distinct_code, with_distinct, floating_code, with_floating, typecode_code, typed_code, formula_code, with_symbol, symbol_code, with_symbol_of, word_code_at, with_word_at, between_code_at, labelled_code_at, with_stage, equals_code_at, with_proof, end_code_at, with_end, with_open, close_code_at, with_close_at, step_code, with_token}
+use Rattle.mm_frames.specs.Reading.{meaning_of, label_code, with_label, constant_code, with_constant, variable_code_at, with_variable_at, distinct_code, with_distinct, with_floating, typecode_code, typed_code, formula_code, with_symbol, symbol_code, with_symbol_of, word_code_at, with_word_at}
 use Rattle.mm_frames.proofs.Numbers.{name_of, Within}
-use Rattle.mm_frames.proofs.Names.{found-is, none-absent, name_of-more, name_of-last, length-more, names-more, within-more, within-add}
-use Rattle.mm_frames.proofs.Lists.{ended-on, unended-on}
-use Rattle.mm_frames.proofs.State.{IsState, IsPlain, Alike, is_flagged, state-alike, opens, closes}
-use Rattle.mm_frames.proofs.Growth.{Grows, alike-empty, alike-drop, alike-grows, constant-more, variable-more, variable-again, typed-more, label-more}
-use Rattle.mm_frames.proofs.Shapes.{IsBegun, IsOpen, IsProof, stops}
-use Rattle.mm_frames.proofs.Grown.{IsOther, new_second, grows-same, grows-word, open-word, proof-goes, proof-begins}
-use Rattle.mm_frames.proofs.SoFar.{keyword, IsName, IsKind, formula_names, listed_names, names_for, IsClear, IsLabelled, StageIs, StateIs, IsReaderAt, IsReader, variable_marks, typed_marks, Means, MeansConstant, MeansVariable, means}
-use Rattle.mm_frames.proofs.Agrees.{other-keyword}
+use Rattle.mm_frames.proofs.Names.{found-is, none-absent, name_of-more, name_of-last, length-more, within-more, within-add}
+use Rattle.mm_frames.proofs.State.{is_flagged, state-alike}
+use Rattle.mm_frames.proofs.Growth.{Grows, alike-grows, constant-more, variable-more, variable-again, typed-more, label-more}
+use Rattle.mm_frames.proofs.Shapes.{IsOpen}
+use Rattle.mm_frames.proofs.Grown.{new_second, grows-same, grows-word, open-word, proof-goes}
+use Rattle.mm_frames.proofs.SoFar.{keyword, formula_names, listed_names, names_for, IsClear, StageIs, StateIs, IsReaderAt, variable_marks, typed_marks, Means, means}
+use Rattle.mm_frames.proofs.Agrees.{added-none, other-keyword}
 
 -- ---- codes that are none
 
@@ -47,7 +44,7 @@ two-codes false c d h = some-none d h
 
 -- ---- names
 
-formula-more : (symbols : List (List ℕ)) (n : List ℕ) (fs : List Sym) → Within (length symbols) (map (λ (s : Sym). s.0) fs) → map (λ (s : Sym). name_of (symbols ++ n ∷ []) s.0) fs ≡ map (λ (s : Sym). name_of symbols s.0) fs
+pub formula-more : (symbols : List (List ℕ)) (n : List ℕ) (fs : List Sym) → Within (length symbols) (map (λ (s : Sym). s.0) fs) → map (λ (s : Sym). name_of (symbols ++ n ∷ []) s.0) fs ≡ map (λ (s : Sym). name_of symbols s.0) fs
 formula-more symbols n [] h = refl
 formula-more symbols n (s ∷ fs) h = let a = name_of-more symbols n s.0 h.0 in let b = formula-more symbols n fs h.1 in cc
 
@@ -84,7 +81,7 @@ label-goes e at b bs after r next d ds x st clear f l none =
     let n = b ∷ bs in
     let extra = (none-below (is_extra next) 19 (cond (not (list_all Rattle.mm_model.specs.Labels.is_label_byte n)) (Some 20) None) (none-below (list_any (bytes_eq n) r.labels) 17 (cond (is_extra next) (Some 19) (cond (not (list_all Rattle.mm_model.specs.Labels.is_label_byte n)) (Some 20) None)) none).1).0 in
     record {
-      state = label-more [] (word at n ∷ []) e r.symbols r.constants r.variables r.typed r.labels (variable_marks r.scopes) (typed_marks r.scopes) n (label-grows at b bs d ds) st;
+      state = label-more [] (word at n ∷ []) e r.symbols r.constants r.variables r.typed r.labels (variable_marks r.scopes) (typed_marks r.scopes) n (label-grows at b bs d ds) refl st;
       stage = (record { label = word at n; is = refl; is_name = name-is-word at b bs d ds; next = sym x ∙ extra }, record { formula = clear.formula; listed = clear.listed });
       formula_known = f;
       listed_known = l;
@@ -99,7 +96,7 @@ constant-goes u e after r w h q o is_stage st f l none =
     let last : Sym = record { 0 = length r.symbols } in
     let names : formula_names r ++ n ∷ [] ≡ map (λ (s : Sym). name_of (r.symbols ++ n ∷ []) s.0) (r.formula ++ last ∷ []) = ap (λ l. l ++ n ∷ []) (sym (formula-more r.symbols n r.formula f)) ∙ sym (formula-end (r.symbols ++ n ∷ []) r.formula last n (name_of-last r.symbols n)) in
     record {
-      state = constant-more u (u ++ w ∷ []) e r.symbols r.constants r.variables r.typed r.labels (variable_marks r.scopes) (typed_marks r.scopes) n (grows-word u (codes "$c") w (formula_names r) (other-keyword kind.Constants) o h) absent st;
+      state = constant-more u (u ++ w ∷ []) e r.symbols r.constants r.variables r.typed r.labels (variable_marks r.scopes) (typed_marks r.scopes) n (grows-word u (codes "$c") w (formula_names r) (other-keyword kind.Constants) o h) absent (added-none (codes "$v") (codes "$c") symbols_in u o.begun refl) st;
       stage = subst (λ (s : Stage). StageIs (u ++ w ∷ []) after (with_constant r n) s) (sym is_stage) (as-open (u ++ w ∷ []) (codes "$c") (formula_names r ++ n ∷ []) (map (λ (s : Sym). name_of (r.symbols ++ n ∷ []) s.0) (r.formula ++ last ∷ [])) names (open-word u (codes "$c") w (formula_names r) o h q));
       formula_known = subst (λ (k : ℕ). Within k (map (λ (s : Sym). s.0) (r.formula ++ last ∷ []))) (sym long) (within-formula (suc (length r.symbols)) r.formula last (within-more (length r.symbols) (map (λ (s : Sym). s.0) r.formula) f) (omega arith));
       listed_known = subst (λ (k : ℕ). Within k r.listed) (sym long) (within-more (length r.symbols) r.listed l);
@@ -142,7 +139,7 @@ distinct-goes u e after r w (meant.Variable s) mean h q o is_stage st f l none =
     record {
       state = state-alike (u ∷ e) ((u ++ w ∷ []) ∷ e) r.symbols r.constants r.variables r.typed r.labels (variable_marks r.scopes) (typed_marks r.scopes) (alike-grows u (u ++ w ∷ []) e (grows-word u (codes "$d") w (listed_names r) (other-keyword kind.Distinct) o h)) st;
       stage = subst (λ (s' : Stage). StageIs (u ++ w ∷ []) after (with_distinct r (meant.Variable s)) s') (sym is_stage) (as-open (u ++ w ∷ []) (codes "$d") (listed_names r ++ n ∷ []) (map (λ i. name_of r.symbols i) (r.listed ++ s.0 ∷ [])) names (open-word u (codes "$d") w (listed_names r) o h q));
-      formula_known = f;
+      formula_known = within-formula (length r.symbols) r.formula s f mean.known;
       listed_known = within-add (length r.symbols) r.listed s.0 l mean.known;
     }
 

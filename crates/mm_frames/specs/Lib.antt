@@ -1,3 +1,5 @@
+pub mod Contents
 pub mod Faults
+pub mod Kept
 pub mod Kinds
 pub mod Reading

@@ -1,8 +1,7 @@
 -- What the reader does with a token: the code of its fault, and what the reader keeps where it has none.
-use Rattle.std.specs.Prelude.{◌≡◌, ℕ, ◌+◌, ◌<◌, ◌^◌, ◌==◌, Bool, true, false, not, ◌&&◌, List, [], ◌∷◌, ◌++◌, length, take, Option, None, Some, if◌then◌else◌, nat_eq, nat_lt, position, slice_get, unwrap_or}
+use Rattle.std.specs.Prelude.{◌≡◌, ℕ, ◌+◌, ◌<◌, ◌^◌, Bool, true, false, not, ◌&&◌, List, [], ◌∷◌, ◌++◌, length, take, Option, None, Some, if◌then◌else◌, nat_eq, nat_lt, position, slice_get, unwrap_or}
 use Rattle.std.specs.List.{list_any, list_all}
 use Rattle.std.specs.Str.{bytes_eq}
-use Rattle.mm_base.specs.declared.symbols.Sym.{Sym}
 use Rattle.mm_model.specs.Names.{Name, sym}
 use Rattle.mm_model.specs.Labels.{is_label_byte}
 use Rattle.mm_model.specs.Statements.{is_empty}
@@ -15,18 +14,30 @@ use Rattle.mm_frames.specs.declared.reader.Meaning.{Meaning}
 use Rattle.mm_frames.specs.declared.reader.Meaning.TheVariants as meant
 use Rattle.mm_frames.specs.declared.reader.Stage.{Stage}
 use Rattle.mm_frames.specs.declared.reader.Stage.TheVariants as stage
+use Rattle.mm_frames.specs.declared.reader.Entry.{Entry}
+use Rattle.mm_frames.specs.declared.reader.EntryKind.{EntryKind}
+use Rattle.mm_frames.specs.declared.reader.EntryKind.TheVariants as entry
 use Rattle.mm_frames.specs.declared.scopes.Scope.{Scope}
 use Rattle.mm_frames.specs.declared.reader.StatementKind.{StatementKind}
 use Rattle.mm_frames.specs.declared.reader.StatementKind.TheVariants as kind
 use Rattle.mm_frames.specs.Kinds.{is_extra}
 
 abbrev pub first_reader : Reader
-first_reader = record { symbols = []; constants = []; labels = []; variables = []; typed = []; scopes = []; stage = stage.Between; formula = []; listed = [] }
+first_reader = record { symbols = []; constants = []; labels = []; variables = []; typed = []; scopes = []; stage = stage.Between; formula = []; listed = []; begins = 0; entries = []; positions = [] }
+
+-- where a statement begins, its byte is kept
+abbrev pub noted_at : Stage → Reader → ℕ → Reader
+noted_at stage.Between r start = record r { begins = start }
+noted_at s r start = r
+
+abbrev pub noted : Reader → ℕ → Reader
+noted r start = noted_at r.stage r start
 
 -- another symbol and another label can be numbered, and the number of the next symbol is no active variable
 pub record IsReady (r : Reader) : Type 0 where
   pub symbols_room : length r.symbols + 1 < 2 ^ 32
   pub labels_room : length r.labels + 1 < 2 ^ 32
+  pub places_room : length r.entries < 2 ^ 32
   pub next_is_new : list_any (nat_eq (length r.symbols)) r.variables ≡ false
 
 -- the error is want of memory, or this code at this byte
@@ -71,7 +82,7 @@ abbrev pub label_code : Reader → Name → Option TokenKind → Option ℕ
 label_code r n next = if list_any (bytes_eq n) r.labels then Some 17 else (if is_extra next then Some 19 else (if not (list_all is_label_byte n) then Some 20 else None))
 
 abbrev pub with_label : Reader → Name → Reader
-with_label r n = record r { labels = r.labels ++ n ∷ []; stage = stage.Labelled }
+with_label r n = record r { labels = r.labels ++ n ∷ []; positions = r.positions ++ length r.entries ∷ []; stage = stage.Labelled }
 
 -- ---- a symbol of `$c`
 
@@ -88,7 +99,7 @@ distinct_code r (meant.Variable s) = if list_any (nat_eq s.0) r.listed then Some
 distinct_code r m = Some 13
 
 abbrev pub with_distinct : Reader → Meaning → Reader
-with_distinct r (meant.Variable s) = record r { listed = r.listed ++ s.0 ∷ [] }
+with_distinct r (meant.Variable s) = record r { listed = r.listed ++ s.0 ∷ []; formula = r.formula ++ s ∷ [] }
 with_distinct r m = r
 
 -- ---- a symbol of `$v`
@@ -237,11 +248,26 @@ end_code_at s r = Some 29
 abbrev pub end_code : Reader → Option ℕ
 end_code r = end_code_at r.stage r
 
-abbrev pub with_end : Reader → Reader
-with_end r = record r { stage = stage.Between; formula = []; listed = [] }
+-- the statement so far, as one that is ended
+abbrev pub entry_of : Reader → StatementKind → Option (ℕ × ℕ) → Entry
+entry_of r k proof = record { kind = entry.Statement k; start = r.begins; symbols = r.formula; proof = proof }
+
+abbrev pub ended_entry_at : Stage → Reader → ℕ → Entry
+ended_entry_at (stage.Proof from) r start = entry_of r kind.Provable (Some (from, start))
+ended_entry_at (stage.Symbols k) r start = entry_of r k None
+ended_entry_at s r start = entry_of r kind.Constants None
+
+abbrev pub ended_entry : Reader → ℕ → Entry
+ended_entry r start = ended_entry_at r.stage r start
+
+abbrev pub with_end : Reader → ℕ → Reader
+with_end r start = record r { stage = stage.Between; formula = []; listed = []; entries = r.entries ++ ended_entry r start ∷ [] }
+
+abbrev pub with_block : Reader → EntryKind → Reader
+with_block r k = record r { entries = r.entries ++ (record { kind = k; start = r.begins; symbols = []; proof = None }) ∷ [] }
 
 abbrev pub with_open : Reader → Reader
-with_open r = record r { scopes = record { variables = length r.variables; typed = length r.typed } ∷ r.scopes }
+with_open r = with_block (record r { scopes = record { variables = length r.variables; typed = length r.typed } ∷ r.scopes }) entry.OpenBlock
 
 abbrev pub close_code_at : List Scope → Reader → Option ℕ
 close_code_at [] r = Some 23
@@ -252,7 +278,7 @@ close_code r = close_code_at r.scopes r
 
 abbrev pub with_close_at : List Scope → Reader → Reader
 with_close_at [] r = r
-with_close_at (s ∷ ss) r = record r { scopes = ss; variables = take s.variables r.variables; typed = take s.typed r.typed }
+with_close_at (s ∷ ss) r = with_block (record r { scopes = ss; variables = take s.variables r.variables; typed = take s.typed r.typed }) entry.CloseBlock
 
 abbrev pub with_close : Reader → Reader
 with_close r = with_close_at r.scopes r
@@ -275,20 +301,20 @@ step_code r token.CloseBlock n next = close_code r
 step_code r token.OpenInclude n next = Some 10
 step_code r k n next = Some 29
 
-abbrev pub with_token : Reader → TokenKind → Name → ℕ → Reader
-with_token r token.Word n end_ = with_word r n
-with_token r token.Constants n end_ = with_stage r kind.Constants
-with_token r token.Variables n end_ = with_stage r kind.Variables
-with_token r token.Distinct n end_ = with_stage r kind.Distinct
-with_token r token.Floating n end_ = with_stage r kind.Floating
-with_token r token.Essential n end_ = with_stage r kind.Essential
-with_token r token.Axiom n end_ = with_stage r kind.Axiom
-with_token r token.Provable n end_ = with_stage r kind.Provable
-with_token r token.Equals n end_ = with_proof r end_
-with_token r token.End n end_ = with_end r
-with_token r token.OpenBlock n end_ = with_open r
-with_token r token.CloseBlock n end_ = with_close r
-with_token r k n end_ = r
+abbrev pub with_token : Reader → TokenKind → Name → ℕ → ℕ → Reader
+with_token r token.Word n start end_ = with_word r n
+with_token r token.Constants n start end_ = with_stage r kind.Constants
+with_token r token.Variables n start end_ = with_stage r kind.Variables
+with_token r token.Distinct n start end_ = with_stage r kind.Distinct
+with_token r token.Floating n start end_ = with_stage r kind.Floating
+with_token r token.Essential n start end_ = with_stage r kind.Essential
+with_token r token.Axiom n start end_ = with_stage r kind.Axiom
+with_token r token.Provable n start end_ = with_stage r kind.Provable
+with_token r token.Equals n start end_ = with_proof r end_
+with_token r token.End n start end_ = with_end r start
+with_token r token.OpenBlock n start end_ = with_open r
+with_token r token.CloseBlock n start end_ = with_close r
+with_token r k n start end_ = r
 
 abbrev pub last_code_at : Stage → Reader → Option ℕ
 last_code_at stage.Between r = if is_empty r.scopes then None else Some 22

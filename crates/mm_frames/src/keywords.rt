@@ -4,8 +4,9 @@ ghost use Rattle.std.specs.Prelude.{◌≡◌};
 ghost use Rattle.mm_frames.specs.Reading.{is_constants, is_provable, needs_symbol};
 
 use crate::fault::ReadFault;
-use crate::reader::{Reader, Stage, StatementKind};
+use crate::reader::{Entry, EntryKind, Reader, Stage, StatementKind};
 use crate::scopes::Scope;
+use mm_base::{List, Memory};
 
 fn is_constants(kind: StatementKind) -> bool
     ensures { result ≡ is_constants kind }
@@ -27,8 +28,8 @@ fn needs_symbol(kind: StatementKind) -> bool
 }
 
 impl Reader {
-    ghost use Rattle.std.specs.Prelude.{◌≡◌, None, OnOk, IfErr};
-    ghost use Rattle.mm_frames.specs.Reading.{FailsAt, between_code, begins_code, labelled_code, with_stage, equals_code, with_proof, symbols_end_code, end_code, with_end, with_open, close_code, with_close};
+    ghost use Rattle.std.specs.Prelude.{◌≡◌, None, OnOk, IfOk, IfErr};
+    ghost use Rattle.mm_frames.specs.Reading.{FailsAt, between_code, begins_code, labelled_code, with_stage, equals_code, with_proof, symbols_end_code, end_code, entry_of, ended_entry, with_end, with_block, with_open, close_code, with_close};
 
     /// Only where a statement begins.
     fn between(&self, start: u32) -> Result<(), ReadFault>
@@ -111,14 +112,30 @@ impl Reader {
         }
     }
 
-    /// Whether a statement may end here.
-    fn may_end(&self, start: u32) -> Result<(), ReadFault>
+    /// The statement so far, as one that is ended.
+    fn ended(&self, kind: StatementKind, proof: Option<(u32, u32)>) -> Result<Entry, Memory>
+        ensures { IfOk result (λ e. e ≡ entry_of self.now kind proof) }
+    {
+        Ok(Entry {
+            kind: EntryKind::Statement(kind),
+            start: self.begins,
+            symbols: self.formula.copied()?,
+            proof,
+        })
+    }
+
+    /// The statement so far, if it may end at this `$.`.
+    fn ending(&self, start: u32) -> Result<Entry, ReadFault>
         ensures no_fault { OnOk result (end_code self.now ≡ None) }
+        ensures entry { IfOk result (λ e. e ≡ ended_entry self.now start) }
         ensures fault { IfErr result (λ e. FailsAt e start (end_code self.now)) }
     {
         match self.stage {
-            Stage::Proof(_) => Ok(()),
-            Stage::Symbols(kind) => self.symbols_end(kind, start),
+            Stage::Proof(from) => Ok(self.ended(StatementKind::Provable, Some((from, start)))?),
+            Stage::Symbols(kind) => {
+                self.symbols_end(kind, start)?;
+                Ok(self.ended(kind, None)?)
+            }
             _ => Err(ReadFault::StrayToken(start)),
         }
     }
@@ -126,13 +143,28 @@ impl Reader {
     /// `$.`
     pub fn end(&mut self, start: u32) -> Result<(), ReadFault>
         ensures no_fault { OnOk result (end_code self.old ≡ None) }
-        ensures next { OnOk result (self.new ≡ with_end self.old) }
+        ensures next { OnOk result (self.new ≡ with_end self.old start) }
         ensures fault { IfErr result (λ e. FailsAt e start (end_code self.old)) }
     {
-        self.may_end(start)?;
+        let entry = self.ending(start)?;
+        self.entries.push(entry)?;
         self.stage = Stage::Between;
         self.formula.cut(0);
         self.listed.cut(0);
+        Ok(())
+    }
+
+    /// A `${` or `$}`, as a statement.
+    fn block(&mut self, kind: EntryKind) -> Result<(), Memory>
+        ensures { OnOk result (self.new ≡ with_block self.old kind) }
+    {
+        let symbols = self.formula.none();
+        self.entries.push(Entry {
+            kind,
+            start: self.begins,
+            symbols,
+            proof: None,
+        })?;
         Ok(())
     }
 
@@ -148,6 +180,7 @@ impl Reader {
             typed: self.typed.len(),
         };
         self.scopes.open(scope)?;
+        self.block(EntryKind::OpenBlock)?;
         Ok(())
     }
 
@@ -163,6 +196,7 @@ impl Reader {
                 self.between(start)?;
                 self.variables.cut(scope.variables);
                 self.typed.cut(scope.typed);
+                self.block(EntryKind::CloseBlock)?;
                 Ok(())
             }
         }

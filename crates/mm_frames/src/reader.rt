@@ -2,7 +2,7 @@
 
 use crate::scopes::Scopes;
 use crate::stack::Stack;
-use mm_base::Sym;
+use mm_base::{List, Sym};
 use names::Names;
 use number_set::NumberSet;
 use std::alloc::Global;
@@ -17,6 +17,29 @@ pub enum StatementKind {
     Essential,
     Axiom,
     Provable,
+}
+
+/// What a statement is.
+#[derive(Clone, Copy, Debug)]
+pub enum EntryKind {
+    /// It has this keyword.
+    Statement(StatementKind),
+    /// `${`
+    OpenBlock,
+    /// `$}`
+    CloseBlock,
+}
+
+/// A statement of a database, by numbers.
+#[derive(Debug, Drop)]
+pub struct Entry {
+    pub kind: EntryKind,
+    /// The byte where it begins, from 0.
+    pub start: u32,
+    /// Its symbols in order; those of a proof are none.
+    pub symbols: List<Sym>,
+    /// Where its proof begins and ends; none where it is no `$p`.
+    pub proof: Option<(u32, u32)>,
 }
 
 /// How far the statement that is not ended has come.
@@ -57,15 +80,21 @@ pub struct Reader {
     pub typed: NumberSet,
     pub scopes: Scopes,
     pub stage: Stage,
-    /// The symbols of the statement so far, but those of a `$d`.
+    /// The symbols of the statement so far.
     pub formula: Stack<Sym>,
     /// The symbols of a `$d` so far.
     pub listed: NumberSet,
+    /// The byte where the statement begins.
+    pub begins: u32,
+    /// The statements that are ended, in order.
+    pub entries: Stack<Entry>,
+    /// The numbers of the statements of the labels, by label.
+    pub positions: Stack<u32>,
 }
 
 impl Reader {
     ghost use Rattle.std.specs.Prelude.{◌≡◌};
-    ghost use Rattle.mm_frames.specs.Reading.{first_reader};
+    ghost use Rattle.mm_frames.specs.Reading.{first_reader, noted};
 
     pub fn new(alloc: Global) -> Reader
         ensures { result ≡ first_reader }
@@ -80,6 +109,19 @@ impl Reader {
             stage: Stage::Between,
             formula: Stack::new(alloc),
             listed: NumberSet::new(alloc),
+            begins: 0,
+            entries: Stack::new(alloc),
+            positions: Stack::new(alloc),
+        }
+    }
+
+    /// Keeps where a statement begins, if one begins at this byte.
+    pub fn note(&mut self, start: u32)
+        ensures { self.new ≡ noted self.old start }
+    {
+        match self.stage {
+            Stage::Between => self.begins = start,
+            _ => {}
         }
     }
 }

@@ -5,6 +5,8 @@ ghost use Rattle.mm_model.specs.Tokens.{token_fault, tokens as tokens_of};
 ghost use Rattle.mm_model.specs.Statements.{statement_fault};
 ghost use Rattle.mm_tokens.specs.Tokens.{token_of};
 ghost use Rattle.mm_frames.specs.Faults.{IsFault};
+ghost use Rattle.mm_frames.specs.Contents.{contents_of};
+ghost use Rattle.mm_frames.specs.Kept.{contents_in};
 
 use crate::fault::ReadFault;
 use crate::frames::Frames;
@@ -30,11 +32,14 @@ fn read_statements(alloc: Global, text: &[u8], tokens: &[Token]) -> Result<Reade
     requires no_fault { token_fault text.now ≡ None }
     requires tokens { tokens.now ≡ map token_of (tokens_of text.now) }
     ensures no_fault { OnOk result (statement_fault text.now ≡ None) }
+    ensures few { IfOk result (λ r. length r.entries ≤ 2 ^ 28) }
+    ensures contents { IfOk result (λ r. contents_in r (length text.now) ≡ contents_of text.now) }
     ensures first_fault { IfErr result (λ e. IsFault e (statement_fault text.now)) }
 {
     let mut reader = Reader::new(alloc);
     for number in 0..tokens.len() {
         let next = next_kind(tokens, number);
+        reader.note(tokens[number].start);
         reader.step(text, tokens[number], next)?;
     }
     reader.finish(text.len() as u32)?;
@@ -47,6 +52,7 @@ pub fn read(alloc: Global, text: &[u8], tokens: &List<Token>) -> Result<Frames, 
     requires small { length text.now ≤ 2 ^ 28 }
     requires no_token_fault { token_fault text.now ≡ None }
     requires tokens { tokens.now ≡ map token_of (tokens_of text.now) }
+    ensures contents { IfOk result (λ f. f ≡ contents_of text.now) }
     ensures no_fault { OnOk result (statement_fault text.now ≡ None) }
 
     // The fault is the first one of the statements, unless memory runs out.
@@ -55,7 +61,15 @@ pub fn read(alloc: Global, text: &[u8], tokens: &List<Token>) -> Result<Frames, 
     let Reader {
         symbols,
         labels,
+        positions,
+        entries,
         ..
     } = read_statements(alloc, text, tokens.as_slice())?;
-    Ok(Frames { symbols, labels })
+    Ok(Frames {
+        symbols,
+        labels,
+        positions,
+        entries,
+        size: text.len() as u32,
+    })
 }

@@ -1,7 +1,7 @@
-ghost use Rattle.std.specs.Prelude.{◌≡◌, [], ◌∷◌, ◌++◌, length, take, OnOk, OnErr};
+ghost use Rattle.std.specs.Prelude.{◌≡◌, [], ◌∷◌, ◌++◌, length, take, OnOk, OnErr, IfOk};
 ghost use Rattle.mm_model.specs.Statements.{is_empty};
 
-use mm_base::Memory;
+use mm_base::{List, Memory};
 use std::alloc::Global;
 use std::marker::Model;
 
@@ -49,6 +49,13 @@ impl<T> Stack<T> {
         self.items.is_empty()
     }
 
+    /// A list without items.
+    pub fn none(&self) -> List<T>
+        ensures { result ≡ [] }
+    {
+        List::from_vec(Vec::new(*self.items.allocator()))
+    }
+
     pub fn into_vec(self) -> Vec<T>
         ensures { result.items ≡ self }
     {
@@ -71,5 +78,14 @@ impl<T: Drop> Stack<T> {
         ensures { self.new ≡ take len self.old }
     {
         self.items.truncate(len);
+    }
+}
+
+impl<T: Copy> Stack<T> {
+    /// Its items as a list of their own.
+    pub fn copied(&self) -> Result<List<T>, Memory>
+        ensures { IfOk result (λ list. list ≡ self.now) }
+    {
+        Ok(List::from_vec(Vec::from_slice(*self.items.allocator(), self.items.as_slice())?))
     }
 }

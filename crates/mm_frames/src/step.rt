@@ -19,7 +19,7 @@ impl Reader {
         requires order { token.start ≤ token.end }
         requires within { token.end ≤ length text.now }
         ensures no_fault { OnOk result (step_code self.old token.kind (slice_range text.now token.start token.end) next ≡ None) }
-        ensures next { OnOk result (self.new ≡ with_token self.old token.kind (slice_range text.now token.start token.end) token.end) }
+        ensures next { OnOk result (self.new ≡ with_token self.old token.kind (slice_range text.now token.start token.end) token.start token.end) }
         ensures fault { IfErr result (λ e. FailsAt e token.start (step_code self.old token.kind (slice_range text.now token.start token.end) next)) }
     {
         let start = token.start;

@@ -83,7 +83,9 @@ impl Reader {
         if !is_label(name) {
             return Err(ReadFault::BadLabel(start));
         }
+        let position = self.entries.len() as u32;
         self.labels.add(name)?;
+        self.positions.push(position)?;
         self.stage = Stage::Labelled;
         Ok(())
     }
@@ -116,6 +118,7 @@ impl Reader {
                     return Err(ReadFault::DistinctTwice(start));
                 }
                 self.listed.insert(symbol.0)?;
+                self.formula.push(symbol)?;
                 Ok(())
             }
             _ => Err(ReadFault::NotActive(start)),

@@ -1,4 +1,4 @@
-use Rattle.std.proofs.Common.{rules, ◌≡◌, ℕ, ◌+◌, ◌<◌, ◌≤◌, List, length, map, Option, option_map, slice_get, slice_index_or, subst, sym, ap, ◌∙◌, arith}
+use Rattle.std.proofs.Common.{rules, ◌≡◌, ℕ, ◌+◌, List, length, map, option_map, slice_get, slice_index_or, subst, sym, ap, ◌∙◌, arith}
 use Rattle.std.proofs.lemmas.List.{length-map}
 use Rattle.mm_model.specs.Tokens.{tokens}
 use Rattle.mm_model.specs.Statements.{statement_fault}
@@ -7,7 +7,9 @@ use Rattle.mm_tokens.specs.declared.token.TokenKind.TheVariants as kind
 use Rattle.mm_tokens.specs.Tokens.{token_of}
 use Rattle.mm_frames.specs.Faults.{IsFault}
 use Rattle.mm_frames.specs.declared.reader.Reader.{Reader}
-use Rattle.mm_frames.proofs.Loop.{GoesTo, starts, goes-to, fails-at, ready, order, ends-well, ends-badly}
+use Rattle.mm_frames.proofs.Loop.{GoesTo, starts, notes, goes-to, fails-at, ready, order, ends-well, ends-badly}
+use Rattle.mm_frames.proofs.Final.{contents-are}
+use Rattle.mm_frames.proofs.TokenFacts.{tokens-length}
 use Rattle.mm_frames.proofs.reading.read_statements.Goals as goal
 
 abbrev none : Token
@@ -28,32 +30,37 @@ loop-number-init c = subst (λ (r : Reader). GoesTo c.args.text.now 0 r) (sym c.
 
 pub step-requires-clause-ready : goal.step-requires-clause-ready
 step-requires-clause-ready c =
+    let inv : GoesTo c.args.text.now c.loop-number.number c.note.new.self = subst (λ (r : Reader). GoesTo c.args.text.now c.loop-number.number r) (sym c.note.ensures) (notes c.args.text.now c.loop-number.number (slice_index_or c.args.tokens.now c.loop-number.number none).start c.loop-number.reader c.loop-number.invariant) in
     let len = count-is c.args.text.now c.args.tokens.now c.requires.tokens in
-    ready c.args.text.now c.loop-number.number c.loop-number.reader c.requires.small (omega (arith, len)) c.loop-number.invariant
+    ready c.args.text.now c.loop-number.number c.note.new.self c.requires.small (omega (arith, len)) inv
 
 pub step-requires-clause-order : goal.step-requires-clause-order
 step-requires-clause-order c =
+    let inv : GoesTo c.args.text.now c.loop-number.number c.note.new.self = subst (λ (r : Reader). GoesTo c.args.text.now c.loop-number.number r) (sym c.note.ensures) (notes c.args.text.now c.loop-number.number (slice_index_or c.args.tokens.now c.loop-number.number none).start c.loop-number.reader c.loop-number.invariant) in
     let len = count-is c.args.text.now c.args.tokens.now c.requires.tokens in
-    (order c.args.text.now c.loop-number.number c.loop-number.reader (slice_index_or c.args.tokens.now c.loop-number.number none) none c.requires.no_fault (omega (arith, len)) c.loop-number.invariant (at-is c.args.text.now c.args.tokens.now c.loop-number.number c.requires.tokens)).0
+    (order c.args.text.now c.loop-number.number c.note.new.self (slice_index_or c.args.tokens.now c.loop-number.number none) none c.requires.no_fault (omega (arith, len)) inv (at-is c.args.text.now c.args.tokens.now c.loop-number.number c.requires.tokens)).0
 
 pub step-requires-clause-within : goal.step-requires-clause-within
 step-requires-clause-within c =
+    let inv : GoesTo c.args.text.now c.loop-number.number c.note.new.self = subst (λ (r : Reader). GoesTo c.args.text.now c.loop-number.number r) (sym c.note.ensures) (notes c.args.text.now c.loop-number.number (slice_index_or c.args.tokens.now c.loop-number.number none).start c.loop-number.reader c.loop-number.invariant) in
     let len = count-is c.args.text.now c.args.tokens.now c.requires.tokens in
-    (order c.args.text.now c.loop-number.number c.loop-number.reader (slice_index_or c.args.tokens.now c.loop-number.number none) none c.requires.no_fault (omega (arith, len)) c.loop-number.invariant (at-is c.args.text.now c.args.tokens.now c.loop-number.number c.requires.tokens)).1
+    (order c.args.text.now c.loop-number.number c.note.new.self (slice_index_or c.args.tokens.now c.loop-number.number none) none c.requires.no_fault (omega (arith, len)) inv (at-is c.args.text.now c.args.tokens.now c.loop-number.number c.requires.tokens)).1
 
 pub returns-in_err-step-clause-first_fault : goal.returns-in_err-step-clause-first_fault
 returns-in_err-step-clause-first_fault c =
+    let inv : GoesTo c.args.text.now c.loop-number.number c.note.new.self = subst (λ (r : Reader). GoesTo c.args.text.now c.loop-number.number r) (sym c.note.ensures) (notes c.args.text.now c.loop-number.number (slice_index_or c.args.tokens.now c.loop-number.number none).start c.loop-number.reader c.loop-number.invariant) in
     let len = count-is c.args.text.now c.args.tokens.now c.requires.tokens in
     let there : IsFault c.in_err-step.field-0.0 (statement_fault c.args.text.now) =
-    fails-at c.args.text.now c.loop-number.number c.loop-number.reader (slice_index_or c.args.tokens.now c.loop-number.number none) none c.next_kind-next.result c.in_err-step.field-0.0 c.requires.no_fault (omega (arith, len))
-    (c.next_kind-next.ensures ∙ next-is c.args.tokens.now (map token_of (tokens c.args.text.now)) c.loop-number.number c.requires.tokens) c.loop-number.invariant (at-is c.args.text.now c.args.tokens.now c.loop-number.number c.requires.tokens) c.in_err-step.ensures.fault in
+    fails-at c.args.text.now c.loop-number.number c.note.new.self (slice_index_or c.args.tokens.now c.loop-number.number none) none c.next_kind-next.result c.in_err-step.field-0.0 c.requires.no_fault (omega (arith, len))
+    (c.next_kind-next.ensures ∙ next-is c.args.tokens.now (map token_of (tokens c.args.text.now)) c.loop-number.number c.requires.tokens) inv (at-is c.args.text.now c.args.tokens.now c.loop-number.number c.requires.tokens) c.in_err-step.ensures.fault in
     search (rules, there)
 
 pub loop-number-preserved : goal.loop-number-preserved
 loop-number-preserved c =
+    let inv : GoesTo c.args.text.now c.loop-number.number c.note.new.self = subst (λ (r : Reader). GoesTo c.args.text.now c.loop-number.number r) (sym c.note.ensures) (notes c.args.text.now c.loop-number.number (slice_index_or c.args.tokens.now c.loop-number.number none).start c.loop-number.reader c.loop-number.invariant) in
     let len = count-is c.args.text.now c.args.tokens.now c.requires.tokens in
-    goes-to c.args.text.now c.loop-number.number c.loop-number.reader c.step.new.self (slice_index_or c.args.tokens.now c.loop-number.number none) none c.next_kind-next.result c.requires.no_fault (omega (arith, len))
-    (c.next_kind-next.ensures ∙ next-is c.args.tokens.now (map token_of (tokens c.args.text.now)) c.loop-number.number c.requires.tokens) c.loop-number.invariant (at-is c.args.text.now c.args.tokens.now c.loop-number.number c.requires.tokens)
+    goes-to c.args.text.now c.loop-number.number c.loop-number.reader c.note.new.self c.step.new.self (slice_index_or c.args.tokens.now c.loop-number.number none) none c.next_kind-next.result c.requires.no_fault (omega (arith, len))
+    (c.next_kind-next.ensures ∙ next-is c.args.tokens.now (map token_of (tokens c.args.text.now)) c.loop-number.number c.requires.tokens) inv c.note.ensures (at-is c.args.text.now c.args.tokens.now c.loop-number.number c.requires.tokens)
     c.in_ok-step.ensures.no_fault c.in_ok-step.ensures.next
 
 pub returns-in_err-finish-clause-first_fault : goal.returns-in_err-finish-clause-first_fault
@@ -66,3 +73,16 @@ pub returns-clause-no_fault : goal.returns-clause-no_fault
 returns-clause-no_fault c =
     let len = count-is c.args.text.now c.args.tokens.now c.requires.tokens in
     ends-well c.args.text.now c.loop-number.number c.loop-number.reader (omega (arith, len)) c.loop-number.invariant c.in_ok-finish.ensures.no_fault
+
+pub returns-clause-contents : goal.returns-clause-contents
+returns-clause-contents c =
+    let len = count-is c.args.text.now c.args.tokens.now c.requires.tokens in
+    contents-are c.args.text.now c.loop-number.number c.loop-number.reader (omega (arith, len)) c.loop-number.invariant c.in_ok-finish.ensures.no_fault
+
+pub returns-clause-few : goal.returns-clause-few
+returns-clause-few c =
+    let len = count-is c.args.text.now c.args.tokens.now c.requires.tokens in
+    let most = tokens-length c.args.text.now in
+    let entries = c.loop-number.invariant.few_entries in
+    let small = c.requires.small in
+    omega (arith, len, most, entries, small)
