@@ -104,29 +104,73 @@ fits = record { is_usable = refl; earlier = lit< tt; codes = two_codes; conclusi
 
 pub found_as_ax_5 : IsFound Q 46 dv.Given (ph_x ∷ []) steps wanted (Some (choice 22))
 found_as_ax_5 =
-    inr (unusable (ph_x ∷ []) 0 refl,
-    inr (unusable (ph_x ∷ []) 1 refl,
-    inr (unusable (ph_x ∷ []) 2 refl,
-    inr (unusable (ph_x ∷ []) 3 refl,
-    inr (unusable (ph_x ∷ []) 4 refl,
-    inr (unusable (ph_x ∷ []) 5 refl,
-    inr (unusable (ph_x ∷ []) 6 refl,
-    inr (has_hyps (ph_x ∷ []) 7 refl,
-    inr (not_ax_1 (ph_x ∷ []) 8 refl refl,
-    inr (not_ax_2 (ph_x ∷ []),
-    inr (unusable (ph_x ∷ []) 10 refl,
-    inr (unusable (ph_x ∷ []) 11 refl,
-    inr (unusable (ph_x ∷ []) 12 refl,
-    inr (unusable (ph_x ∷ []) 13 refl,
-    inr (unusable (ph_x ∷ []) 14 refl,
-    inr (unusable (ph_x ∷ []) 15 refl,
-    inr (unusable (ph_x ∷ []) 16 refl,
-    inr (unusable (ph_x ∷ []) 17 refl,
-    inr (unusable (ph_x ∷ []) 18 refl,
-    inr (has_hyps (ph_x ∷ []) 19 refl,
-    inr (unusable (ph_x ∷ []) 20 refl,
-    inr (has_hyps (ph_x ∷ []) 21 refl,
-    inl (refl, (by_ax_5, fits))))))))))))))))))))))))
+    inr (
+      unusable (ph_x ∷ []) 0 refl,
+      inr (
+        unusable (ph_x ∷ []) 1 refl,
+        inr (
+          unusable (ph_x ∷ []) 2 refl,
+          inr (
+            unusable (ph_x ∷ []) 3 refl,
+            inr (
+              unusable (ph_x ∷ []) 4 refl,
+              inr (
+                unusable (ph_x ∷ []) 5 refl,
+                inr (
+                  unusable (ph_x ∷ []) 6 refl,
+                  inr (
+                    has_hyps (ph_x ∷ []) 7 refl,
+                    inr (
+                      not_ax_1 (ph_x ∷ []) 8 refl refl,
+                      inr (
+                        not_ax_2 (ph_x ∷ []),
+                        inr (
+                          unusable (ph_x ∷ []) 10 refl,
+                          inr (
+                            unusable (ph_x ∷ []) 11 refl,
+                            inr (
+                              unusable (ph_x ∷ []) 12 refl,
+                              inr (
+                                unusable (ph_x ∷ []) 13 refl,
+                                inr (
+                                  unusable (ph_x ∷ []) 14 refl,
+                                  inr (
+                                    unusable (ph_x ∷ []) 15 refl,
+                                    inr (
+                                      unusable (ph_x ∷ []) 16 refl,
+                                      inr (
+                                        unusable (ph_x ∷ []) 17 refl,
+                                        inr (
+                                          unusable (ph_x ∷ []) 18 refl,
+                                          inr (
+                                            has_hyps (ph_x ∷ []) 19 refl,
+                                            inr (
+                                              unusable (ph_x ∷ []) 20 refl,
+                                              inr (
+                                                has_hyps (ph_x ∷ []) 21 refl,
+                                                inl (refl, (by_ax_5, fits)),
+                                              ),
+                                            ),
+                                          ),
+                                        ),
+                                      ),
+                                    ),
+                                  ),
+                                ),
+                              ),
+                            ),
+                          ),
+                        ),
+                      ),
+                    ),
+                  ),
+                ),
+              ),
+            ),
+          ),
+        ),
+      ),
+    )
 
 pub is_found : IsSearched Q 46 dv.Given (ph_x ∷ []) steps wanted (record wanted { reference = Some (codes "ax-5"); verdict = report.Found; by = Some by_ax_5 })
 is_found = IsSearched.found (simp leaves refl) found_as_ax_5 fits
@@ -165,39 +209,97 @@ lacks f =
     let is : ax_5 ≡ (f.0).assertion = some_is _ _ f.1.is_usable in
     let pairs : (f.0).assertion.frame.pairs ≡ ph_x ∷ [] = ap (λ (a : Assertion). a.frame.pairs) (sym is) in
     let lack : lack_of dv.Given [] f.0 ≡ Some ph_x =
-        ap (lack_over f.0) pairs ∙ of_values f.0 ∙ ap (λ t. lack_between t (value f.0 16)) one ∙ ap (lack_between ph) other ∙ of_ph_and_x in
+    ap (lack_over f.0) pairs ∙ of_values f.0 ∙ ap (λ t. lack_between t (value f.0 16)) one ∙ ap (lack_between ph) other ∙ of_ph_and_x in
     let no : None ≡ Some ph_x = sym f.1.no_lack ∙ lack in
     cc
 
 pub none_found : IsFound Q 46 dv.Given [] steps wanted None
 none_found =
-    inr (unusable ([]) 0 refl,
-    inr (unusable ([]) 1 refl,
-    inr (unusable ([]) 2 refl,
-    inr (unusable ([]) 3 refl,
-    inr (unusable ([]) 4 refl,
-    inr (unusable ([]) 5 refl,
-    inr (unusable ([]) 6 refl,
-    inr (has_hyps ([]) 7 refl,
-    inr (not_ax_1 ([]) 8 refl refl,
-    inr (not_ax_2 ([]),
-    inr (unusable ([]) 10 refl,
-    inr (unusable ([]) 11 refl,
-    inr (unusable ([]) 12 refl,
-    inr (unusable ([]) 13 refl,
-    inr (unusable ([]) 14 refl,
-    inr (unusable ([]) 15 refl,
-    inr (unusable ([]) 16 refl,
-    inr (unusable ([]) 17 refl,
-    inr (unusable ([]) 18 refl,
-    inr (has_hyps ([]) 19 refl,
-    inr (unusable ([]) 20 refl,
-    inr (has_hyps ([]) 21 refl,
-    inr (lacks,
-    inr (not_eqid ([]),
-    inr (unusable ([]) 24 refl,
-    inr (has_hyps ([]) 25 refl,
-    inr (unusable ([]) 26 refl,
-    inr (has_hyps ([]) 27 refl,
-    inr (not_ax_1 ([]) 28 refl refl,
-    refl)))))))))))))))))))))))))))))
+    inr (
+      unusable ([]) 0 refl,
+      inr (
+        unusable ([]) 1 refl,
+        inr (
+          unusable ([]) 2 refl,
+          inr (
+            unusable ([]) 3 refl,
+            inr (
+              unusable ([]) 4 refl,
+              inr (
+                unusable ([]) 5 refl,
+                inr (
+                  unusable ([]) 6 refl,
+                  inr (
+                    has_hyps ([]) 7 refl,
+                    inr (
+                      not_ax_1 ([]) 8 refl refl,
+                      inr (
+                        not_ax_2 ([]),
+                        inr (
+                          unusable ([]) 10 refl,
+                          inr (
+                            unusable ([]) 11 refl,
+                            inr (
+                              unusable ([]) 12 refl,
+                              inr (
+                                unusable ([]) 13 refl,
+                                inr (
+                                  unusable ([]) 14 refl,
+                                  inr (
+                                    unusable ([]) 15 refl,
+                                    inr (
+                                      unusable ([]) 16 refl,
+                                      inr (
+                                        unusable ([]) 17 refl,
+                                        inr (
+                                          unusable ([]) 18 refl,
+                                          inr (
+                                            has_hyps ([]) 19 refl,
+                                            inr (
+                                              unusable ([]) 20 refl,
+                                              inr (
+                                                has_hyps ([]) 21 refl,
+                                                inr (
+                                                  lacks,
+                                                  inr (
+                                                    not_eqid ([]),
+                                                    inr (
+                                                      unusable ([]) 24 refl,
+                                                      inr (
+                                                        has_hyps ([]) 25 refl,
+                                                        inr (
+                                                          unusable ([]) 26 refl,
+                                                          inr (
+                                                            has_hyps ([]) 27 refl,
+                                                            inr (
+                                                              not_ax_1 ([]) 28 refl refl,
+                                                              refl,
+                                                            ),
+                                                          ),
+                                                        ),
+                                                      ),
+                                                    ),
+                                                  ),
+                                                ),
+                                              ),
+                                            ),
+                                          ),
+                                        ),
+                                      ),
+                                    ),
+                                  ),
+                                ),
+                              ),
+                            ),
+                          ),
+                        ),
+                      ),
+                    ),
+                  ),
+                ),
+              ),
+            ),
+          ),
+        ),
+      ),
+    )
