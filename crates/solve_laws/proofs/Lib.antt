@@ -1,4 +1,6 @@
+mod Elements
 mod NewVariables
+mod NoFresh
 pub mod OneJudgement
 mod OneValuation
 mod PairSetLaws

@@ -1,5 +1,5 @@
 -- A most general valuation has no variable that the worksheet lacks: with a fresh leaf in its place the valuation still solves, and would be no instance.
-use Rattle.std.specs.Prelude.{◌≡◌, ◌==◌, ℕ, zero, suc, Bool, true, false, if◌then◌else◌, Contains, List, [], ◌∷◌, map, slice_index_or, Option, Some, None, refl}
+use Rattle.std.specs.Prelude.{◌≡◌, ◌==◌, ℕ, Bool, true, false, if◌then◌else◌, Contains, List, [], ◌∷◌, map, slice_index_or, Option, Some, None, refl}
 use Rattle.std.specs.List.{AllByRecursion}
 use Rattle.std.proofs.Common.{sym, ap, subst, ◌∙◌, arith, cond, inl, inr}
 use Rattle.std.proofs.lemmas.Bool.Decides.{nat_tests}
@@ -22,18 +22,9 @@ use Rattle.solve_model.proofs.TreeLaws.{replace-Var, replace-Work, replace-Fresh
 use Rattle.solve_laws.specs.Instances.{IsClosedTree, IsClosed}
 use Rattle.solve_laws.specs.NewVariables.{formula_variables, HasNot, NoNewVariable}
 use Rattle.solve_laws.specs.ReplacedTypes.{IsTypedAs, KeepsTypes}
+use Rattle.solve_laws.proofs.Elements.{nothing, only, here}
 use Rattle.solve_laws.proofs.ReplaceLaws.{replace-replace, replace-agree, Agree}
 use Rattle.solve_laws.proofs.ReplacedTypes.{code-Fresh, typed-Fresh, replaced_typed}
-
-nothing : {X : Type 0} (x : X) → Contains [] x → ⊥
-nothing x o = omega (arith, o.1)
-
-only : {X : Type 0} (x y : X) → Contains (y ∷ []) x → y ≡ x
-only x y (zero, l, e) = e
-only x y (suc k, l, e) = absurd (omega (arith, l))
-
-here : {X : Type 0} (x : X) → Contains (x ∷ []) x
-here x = (0, omega arith, refl)
 
 -- ---- replacements that agree on the variables and the open leaves of a tree
 

@@ -1,26 +1,12 @@
 -- A set of pairs holds the pairs that it is made of, each before the next.
-use Rattle.std.specs.Prelude.{◌≡◌, ◌⊎◌, ◌&&◌, ◌||◌, ◌==◌, ℕ, zero, suc, Bool, true, false, List, [], ◌∷◌, Contains, fold, nat_lt, if◌then◌else◌, refl}
+use Rattle.std.specs.Prelude.{◌≡◌, ◌⊎◌, ◌&&◌, ◌||◌, ◌==◌, ℕ, Bool, true, false, List, [], ◌∷◌, Contains, fold, nat_lt, if◌then◌else◌, refl}
 use Rattle.std.proofs.Common.{sym, ◌∙◌, arith, inl, inr}
 use Rattle.std.proofs.lemmas.Bool.Decides.{nat_tests}
 use Rattle.mm_base.specs.declared.symbols.Pair.{Pair}
 use Rattle.mm_model.specs.Names.{sym as symbol}
 use Rattle.solve_model.specs.PairSets.{same_pair, stands_before, put_pair, pair_set}
 use Rattle.solve_laws.specs.PairSetLaws.{PairSetHoldsSame, StandsBeforeNext, AreInOrder, PairSetIsInOrder}
-
--- ---- elements
-
-nothing : (x : Pair) → Contains [] x → ⊥
-nothing x h = omega (arith, h.1)
-
-first : (x y : Pair) (ys : List Pair) → y ≡ x → Contains (y ∷ ys) x
-first x y ys e = (0, omega arith, e)
-
-later : (x y : Pair) (ys : List Pair) → Contains ys x → Contains (y ∷ ys) x
-later x y ys (k, l, e) = (suc k, omega (arith, l), e)
-
-parted : (x y : Pair) (ys : List Pair) → Contains (y ∷ ys) x → (y ≡ x) ⊎ Contains ys x
-parted x y ys (zero, l, e) = inl e
-parted x y ys (suc k, l, e) = inr (k, omega (arith, l), e)
+use Rattle.solve_laws.proofs.Elements.{nothing, first, later, parted}
 
 -- ---- the tests
 

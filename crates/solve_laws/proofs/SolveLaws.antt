@@ -10,16 +10,18 @@ use Rattle.solve_model.specs.Trees.{Open, work, fresh, leaf_tree, Occurs}
 use Rattle.solve_model.specs.declared.bound.Bound.{Bound}
 use Rattle.solve_model.specs.Solutions.{copy, Valuation, Asked, Solves, PlacesFit, formula_value, formula, instance, open_value, no_step}
 use Rattle.solve_model.specs.MostGeneral.{Refinement, refine}
-use Rattle.solve_laws.specs.Instances.{followed, IsRead, IsClosedTree, AreRead, InstanceSolves}
+use Rattle.solve_laws.specs.Instances.{followed, FormulaHasNoFresh, IsClosedTree, AreRead, InstanceSolves}
+use Rattle.mm_model.specs.Typed.{HasNoFresh}
+use Rattle.solve_laws.proofs.NoFresh.{no_fresh_leaf}
 use Rattle.solve_laws.proofs.ReplaceLaws.{replace-replace, replace-agree}
 use Rattle.solve_model.proofs.TreeLaws.{replace-Var}
 
 module _ (g : Valuation) (r : Refinement) where
-  agree_at : (t : Tree) → IsRead (Some t) → (x : Open) → Occurs x t → refine r (open_value g x) ≡ open_value (followed g r) x
+  agree_at : (t : Tree) → HasNoFresh t → (x : Open) → Occurs x t → refine r (open_value g x) ≡ open_value (followed g r) x
   agree_at t h (work c n) o = refl
-  agree_at t h (fresh c n) o = absurd (h c n o)
+  agree_at t h (fresh c n) o = absurd (no_fresh_leaf c n t h o)
 
-  pub refine-formula_value : (i : ℕ) (o : Option Tree) → IsRead o → refine r (formula_value g i o) ≡ formula_value (followed g r) i o
+  pub refine-formula_value : (i : ℕ) (o : Option Tree) → FormulaHasNoFresh o → refine r (formula_value g i o) ≡ formula_value (followed g r) i o
   refine-formula_value i None h = refl
   refine-formula_value i (Some t) h =
       replace-replace (λ s c. Var s c) (λ s c. Var s c) r (open_value g) t

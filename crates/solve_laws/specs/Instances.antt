@@ -1,10 +1,10 @@
 -- Instances of a solution.
 use Rattle.std.specs.Prelude.{ℕ, List, slice_index_or, Option, Some, None}
 use Rattle.std.specs.List.{AllByRecursion}
-use Rattle.mm_base.specs.declared.symbols.Typecode.{Typecode}
 use Rattle.mm_base.specs.declared.tree.Tree.{Tree}
+use Rattle.mm_model.specs.Typed.{HasNoFresh}
 use Rattle.solve_model.specs.declared.bound.Bound.{Bound}
-use Rattle.solve_model.specs.Trees.{Open, fresh, Occurs}
+use Rattle.solve_model.specs.Trees.{Open, Occurs}
 use Rattle.solve_model.specs.Solutions.{Valuation, Asked, Solves, no_step}
 use Rattle.solve_model.specs.MostGeneral.{Refinement, refine}
 
@@ -13,12 +13,12 @@ abbrev pub followed : Valuation → Refinement → Valuation
 followed g r u = refine r (g u)
 
 -- a formula that was read has no fresh leaf
-abbrev pub IsRead : Option Tree → Type 0
-IsRead None = Unit {0}
-IsRead (Some t) = (c : Typecode) (n : ℕ) → Occurs (fresh c n) t → ⊥
+abbrev pub FormulaHasNoFresh : Option Tree → Type 0
+FormulaHasNoFresh None = Unit {0}
+FormulaHasNoFresh (Some t) = HasNoFresh t
 
 abbrev pub AreRead : Bound → Type 0
-AreRead bound = (i : ℕ) → IsRead (slice_index_or bound.steps i no_step).tree
+AreRead bound = (i : ℕ) → FormulaHasNoFresh (slice_index_or bound.steps i no_step).tree
 
 -- a tree of an assertion has no open leaf
 abbrev pub IsClosedTree : Tree → Type 0

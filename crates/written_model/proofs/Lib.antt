@@ -1,4 +1,5 @@
 mod BlankExample
+mod CompressedExample
 mod DoublingExamples
 mod FilledExamples
 mod FinishedExamples
