@@ -41,7 +41,8 @@ fn add_ends(
 ) -> Result<(), Memory>
     ensures stays { OnOk result (Stays entries.old.items entries.new.items) }
     ensures once { OnOk result (IsOnce entries.old.items → IsOnce entries.new.items) }
-    ensures stand { OnOk result ((e : ℕ) → IsIn ends.now e → IsIn entries.new.items (record { end = e; code = production.now.gives; row = row })) }
+    ensures stand { OnOk result ((e : ℕ) → IsIn ends.now e
+        → IsIn entries.new.items (record { end = e; code = production.now.gives; row = row })) }
 {
     for end in ends {
         add_entry(

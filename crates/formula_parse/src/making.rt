@@ -52,7 +52,8 @@ pub fn add_nodes(
 ) -> Result<(), Memory>
     requires once { EachOnce (length row.now.slots) (slot_order row.now.items) }
     requires count { EachFound (λ us. length us ≡ length (slot_order row.now.items)) fitting }
-    ensures { OnOk result ((more : Found Tree) × AreMade row.now fitting more × (found.new ≡ spec.joined found.old more)) }
+    ensures { OnOk result ((more : Found Tree)
+        × AreMade row.now fitting more × (found.new ≡ spec.joined found.old more)) }
 {
     let more = nodes(row, fitting)?;
     *found = joined(replace(found, Found::Nothing), more);

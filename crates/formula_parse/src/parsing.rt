@@ -58,8 +58,8 @@ fn search(
 /// have numbers below `before`. There are at most 4,095 leaves: a formula has at most 4,096 tokens, and the first is its
 /// typecode.
 ///
-/// Fails where there is no tree, where there are two or more, and where memory runs out. The usual grammars take time in
-/// proportion to the expression; any takes a power of it.
+/// Fails where there is no tree, where there are two or more, and where memory runs out. The time grows with the number
+/// of productions and, for the usual formulas, with their length; at worst with a power of it.
 pub fn parse(
     alloc: Global,
     g: &Grammar,

@@ -34,7 +34,8 @@ fn after_const(
     places: &[usize],
     sym: Sym,
 ) -> Result<Vec<usize>, Memory>
-    ensures { IfOk result (λ next. (q : ℕ) → IsIn places.now q → slice_get leaves.now q ≡ Some (Const sym) → IsIn next.items (q + 1)) }
+    ensures { IfOk result (λ next. (q : ℕ) → IsIn places.now q
+        → slice_get leaves.now q ≡ Some (Const sym) → IsIn next.items (q + 1)) }
 {
     let mut next = Vec::new(alloc);
     for place in places {
@@ -86,7 +87,8 @@ fn reach(
     slots: &[Typecode],
     places: Vec<usize>,
 ) -> Result<Vec<usize>, Memory>
-    ensures { IfOk result (λ ends. (q e : ℕ) → IsIn places.items q → Reaches leaves.now chart.now slots.now items.now q e → IsIn ends.items e) }
+    ensures { IfOk result (λ ends. (q e : ℕ) → IsIn places.items q
+        → Reaches leaves.now chart.now slots.now items.now q e → IsIn ends.items e) }
 {
     match items {
         [] => Ok(places),

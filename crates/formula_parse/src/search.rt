@@ -230,10 +230,10 @@ fn divisions(
     }
     for n in 0..end - begin - items.len() {
         let middle = begin + n + 1;
-        if !has(chart, begin, middle, code) {
+        if !may_fit(alloc, leaves, chart, items, slots, middle, end)? {
             continue;
         }
-        if !may_fit(alloc, leaves, chart, items, slots, middle, end)? {
+        if !has(chart, begin, middle, code) {
             continue;
         }
         let mut first = Found::Nothing;
