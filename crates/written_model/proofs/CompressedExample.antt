@@ -84,7 +84,7 @@ spells = (
 )
 
 is_code : IsProofCode style.Compressed mandatory tokens code
-is_code = (refl, record { bracketed = refl; labels = refl; steps = spells; there = (lit< tt, (lit< tt, (lit< tt, (lit< tt, (lit< tt, (lit< tt, (lit< tt, (lit< tt, (lit< tt, tt))))))))) })
+is_code = (refl, record { bracketed = refl; labels = refl; steps = spells; in_range = (lit< tt, (lit< tt, (lit< tt, (lit< tt, (lit< tt, (lit< tt, (lit< tt, (lit< tt, (lit< tt, tt))))))))) })
 
 pub proves_itself : ProvesItself P compressed (sheet_text (codes "u") (codes "?") lines)
 proves_itself = record {
