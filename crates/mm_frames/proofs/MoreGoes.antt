@@ -95,11 +95,6 @@ entries-on ds r q s a k = elim s.symbols [
       (ap (λ xs. map (shown q.symbols) xs) s.entries ∙ ap (λ l. map (shown l) r.entries) e.1 ∙ shown-more r.symbols n r.entries k ∙ a, subst (λ xs. Known (length q.symbols) xs) (sym s.entries) (subst (λ l. Known (length l) r.entries) (sym e.1) known))
 ]
 
-pub record Kept (r q : Reader) : Type 0 where
-  pub entries : q.entries ≡ r.entries
-  pub positions : q.positions ≡ r.positions
-  pub begins : q.begins ≡ r.begins
-
 more-on : (u v : Statement) (e : List Statement) (r q : Reader) → More u e r → (map (shown q.symbols) q.entries ≡ map described (reverse e)) × Known (length q.symbols) q.entries → q.positions ≡ r.positions → q.begins ≡ r.begins → labels_in v ≡ labels_in u → first_byte v ≡ r.begins → ProofIs v q.stage → Doubled q q.stage → More v e q
 more-on u v e r q m x p b l f h d = record {
   positions_are = p ∙ m.positions_are ∙ positions-same u v e l;

@@ -55,13 +55,6 @@ impl<T> Stack<T> {
     {
         List::from_vec(Vec::new(*self.items.allocator()))
     }
-
-    pub fn into_vec(self) -> Vec<T>
-        ensures { result.items ≡ self }
-    {
-        let Stack { items } = self;
-        items
-    }
 }
 
 impl<T: Drop> Stack<T> {

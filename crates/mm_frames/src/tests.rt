@@ -1,6 +1,7 @@
 ghost use Rattle.std.specs.Prelude.{◌≤◌, ◌^◌, length};
 
 use super::*;
+use mm_base::Sym;
 use mm_tokens::tokens;
 
 fn has_fault(rt: HostRuntime, text: &[u8], fault: ReadFault) -> bool
@@ -50,4 +51,32 @@ fn labels_and_hypotheses(rt: HostRuntime) {
     assert!(rt; has_fault(rt, b"$v x $. $d x $.", ReadFault::DistinctShort(13)));
     assert!(rt; has_fault(rt, b"$v x y $. $d x y x $.", ReadFault::DistinctTwice(17)));
     assert!(rt; has_fault(rt, b"$c a $. t $p a $.", ReadFault::NoProof(15)));
+}
+
+#[test]
+fn contents(rt: HostRuntime) {
+    let text = b"$c a $. $v x $. f $f a x $. t $p a x $= f $.".as_slice();
+    let found = tokens(rt.alloc(), text);
+    let frames = match found {
+        Err(_) => None,
+        Ok(tokens) => read(rt.alloc(), text, &tokens).ok(),
+    };
+    assert!(rt; frames.is_some());
+    if let Some(frames) = frames {
+        assert_eq!(rt; frames.end(), 4);
+        assert_eq!(rt; frames.labels(), 2);
+        assert!(rt; frames.symbol(b"x") == Some(Sym(1)));
+        assert!(rt; frames.label(b"x").is_none());
+        if let Some(label) = frames.label(b"t") {
+            if label.0 < frames.labels() {
+                assert!(rt; frames.label_name(label) == b"t".as_slice());
+                assert_eq!(rt; frames.position(label), 3);
+                assert!(rt; frames.proof(label) == Some((39, 42)));
+            }
+        }
+        if frames.end() == 4 {
+            assert_eq!(rt; frames.place_byte(2), 16);
+            assert_eq!(rt; frames.place_byte(4), 44);
+        }
+    }
 }
