@@ -22,9 +22,9 @@ use Rattle.mm_frames.specs.Kinds.{is_extra}
 use Rattle.mm_frames.specs.Reading.{meaning_of, label_code, constant_code, variable_code, variable_code_at, distinct_code, floating_code, formula_code, symbol_code, word_code, word_code_at, begins_code, between_code_at, labelled_code_at, equals_code_at, end_code_at, symbols_end_code, close_code_at, step_code}
 use Rattle.mm_frames.proofs.Numbers.{name_of, Within, bridge}
 use Rattle.mm_frames.proofs.Names.{found-is, none-absent}
-use Rattle.mm_frames.proofs.Lists.{added, types, constants-cons, variables_ever-cons, variables-plain, typed-plain}
+use Rattle.mm_model.proofs.Lists.{added, types, constants-cons, variables_ever-cons, variables-plain, typed-plain}
 use Rattle.mm_frames.proofs.Marks.{Marks}
-use Rattle.mm_frames.proofs.Paths.{path-plain}
+use Rattle.mm_model.proofs.Scopes.{path-plain}
 use Rattle.mm_frames.proofs.State.{IsPlain, new_variables, is_flagged, list_any-reverse, variable_is, variable_none}
 use Rattle.mm_frames.proofs.Shapes.{IsBegun, IsOpen, symbols-of, keyword-is}
 use Rattle.mm_frames.proofs.Grown.{IsOther, plain-begun}

@@ -16,7 +16,7 @@ use Rattle.mm_frames.specs.declared.scopes.Scope.{Scope}
 use Rattle.mm_frames.specs.Kinds.{is_extra}
 use Rattle.mm_frames.specs.Reading.{word_code_at, with_word_at, between_code_at, labelled_code_at, with_stage, equals_code_at, with_proof, end_code_at, with_end, with_open, close_code_at, with_close_at, step_code, with_token}
 use Rattle.mm_frames.proofs.Numbers.{name_of, Within}
-use Rattle.mm_frames.proofs.Lists.{added, types, ended-on, unended-on}
+use Rattle.mm_model.proofs.Lists.{added, types, ended-on, unended-on}
 use Rattle.std.proofs.lemmas.Bool.{cases_Bool}
 use Rattle.mm_frames.proofs.State.{IsState, IsPlain, state-alike, opens, closes}
 use Rattle.mm_frames.proofs.Growth.{Grows, alike-empty, alike-drop, alike-grows}

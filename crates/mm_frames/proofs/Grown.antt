@@ -5,7 +5,7 @@ use Rattle.std.specs.Str.{bytes_eq}
 use Rattle.std.proofs.lemmas.List.{map-append}
 use Rattle.mm_model.specs.Words.{Word, word}
 use Rattle.mm_model.specs.Statements.{Statement, is, is_word, symbols_in, has_keyword, second}
-use Rattle.mm_frames.proofs.Lists.{added}
+use Rattle.mm_model.proofs.Lists.{added}
 use Rattle.mm_frames.proofs.State.{IsPlain}
 use Rattle.mm_frames.proofs.Growth.{Grows}
 use Rattle.mm_frames.proofs.Shapes.{IsBegun, IsOpen, IsProof, begun-more, labels-more, words-more, words-same, symbols-of, symbols-more, symbols-same, keyword-same, keyword-is, stops, stops-more, stops-still, proof-more}

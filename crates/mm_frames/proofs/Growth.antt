@@ -9,7 +9,7 @@ use Rattle.std.proofs.lemmas.List.{reverse-append, map-append}
 use Rattle.std.proofs.lemmas.List.Folds.{list_any-append}
 use Rattle.mm_model.specs.Words.{Word}
 use Rattle.mm_model.specs.Statements.{Statement, symbols_in, labels_in, contains, constants, variables_ever, labels}
-use Rattle.mm_frames.proofs.Lists.{added, types, labels-cons, constants-cons, variables_ever-cons}
+use Rattle.mm_model.proofs.Lists.{added, types, labels-cons, constants-cons, variables_ever-cons}
 use Rattle.mm_frames.proofs.Marks.{kept, Marks, kept-plain, marks-plain, marks-back}
 use Rattle.mm_model.specs.Frames.{without_repeats}
 use Rattle.mm_frames.proofs.Repeats.{repeats-new, repeats-old}

@@ -13,11 +13,9 @@ pub mod Agrees
 pub mod Codes
 pub mod Growth
 pub mod Grown
-pub mod Lists
 pub mod Marks
 pub mod Names
 pub mod Numbers
-pub mod Paths
 pub mod SoFar
 pub mod Shapes
 pub mod State

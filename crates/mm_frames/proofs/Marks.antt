@@ -3,8 +3,8 @@ use Rattle.std.proofs.Common.{◌≡◌, ℕ, suc, ◌<◌, true, false, List, [
 use Rattle.std.proofs.lemmas.Grind.{flat_map-append}
 use Rattle.std.proofs.lemmas.List.{reverse-append, length-reverse}
 use Rattle.mm_model.specs.Statements.{Statement, has_keyword, path, active_on, active}
-use Rattle.mm_frames.proofs.Paths.{active_on-skip, active_on-keep, active-open, active-plain, active-close, path-open, path-close, path-plain, nested, length-drop-lt, drop-tail}
-use Rattle.mm_frames.proofs.Lists.{added, listed, listed-cons}
+use Rattle.mm_model.proofs.Scopes.{active_on-skip, active_on-keep, active-open, active-plain, active-close, path-open, path-close, path-plain, nested, length-drop-lt, drop-tail}
+use Rattle.mm_model.proofs.Lists.{added, listed, listed-cons}
 
 -- what g takes of each active statement, the nearest first
 abbrev pub kept : {X : Type 0} → (Statement → List X) → List Statement → List X

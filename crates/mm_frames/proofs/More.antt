@@ -16,7 +16,7 @@ use Rattle.mm_frames.specs.declared.reader.Stage.{Stage}
 use Rattle.mm_frames.specs.declared.reader.Stage.TheVariants as stage
 use Rattle.mm_frames.specs.declared.reader.StatementKind.TheVariants as kind
 use Rattle.mm_frames.specs.Contents.{kind_in, first_byte, proof_of}
-use Rattle.mm_frames.proofs.Paths.{cond_then, cond_else}
+use Rattle.mm_model.proofs.Scopes.{cond_then, cond_else}
 use Rattle.mm_frames.proofs.Numbers.{name_of, Within}
 use Rattle.mm_frames.proofs.Names.{within-more}
 use Rattle.mm_frames.proofs.WordGoes.{formula-more}

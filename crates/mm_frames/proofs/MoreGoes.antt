@@ -22,10 +22,10 @@ use Rattle.mm_frames.specs.declared.reader.Meaning.TheVariants as meant
 use Rattle.mm_frames.specs.declared.scopes.Scope.{Scope}
 use Rattle.mm_frames.specs.Contents.{kind_in, first_byte, proof_of}
 use Rattle.mm_frames.specs.Reading.{meaning_of, with_distinct, with_floating, with_symbol, with_variable_at, with_symbol_of, with_word_at, with_stage, with_proof, with_end, with_open, with_close_at, with_token, step_code, word_code_at, between_code_at, labelled_code_at, equals_code_at, end_code_at, close_code_at, ended_entry_at, entry_of}
-use Rattle.mm_frames.proofs.Paths.{cond_then, cond_else}
+use Rattle.mm_model.proofs.Scopes.{cond_then, cond_else}
 use Rattle.mm_frames.proofs.Numbers.{name_of, Within}
 use Rattle.mm_frames.proofs.Names.{length-more}
-use Rattle.mm_frames.proofs.Lists.{ended-on, unended-on}
+use Rattle.mm_model.proofs.Lists.{ended-on, unended-on}
 use Rattle.mm_frames.proofs.Shapes.{IsBegun, IsOpen, IsProof, begun-more, labels-more, symbols-of, symbols-same, keyword-is}
 use Rattle.mm_frames.proofs.SoFar.{keyword, IsKind, formula_names, names_for, IsClear, StageIs, IsReader}
 use Rattle.mm_frames.proofs.More.{Described, described, shown, Known, ProofIs, Doubled, More, shown-more, known-more, known-end, positions-of, positions-same, positions-empty, find-last, find-more, no-ends}

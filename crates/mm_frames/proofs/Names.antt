@@ -6,7 +6,7 @@ use Rattle.std.proofs.lemmas.Bool.{cases_Bool, or_parts}
 use Rattle.std.proofs.lemmas.Bool.Decides.{nat_tests}
 use Rattle.std.proofs.lemmas.Slice.Eq.{bytes_eq-Decides}
 use Rattle.mm_frames.proofs.Numbers.{name_of, Injective, Within}
-use Rattle.mm_frames.proofs.Paths.{cond_then, cond_else}
+use Rattle.mm_model.proofs.Scopes.{cond_then, cond_else}
 
 pub position-cons : {X : Type 0} (p : X → Bool) (x : X) (xs : List X) → position p (x ∷ xs) ≡ cond (p x) (Some 0) (option_map (λ n. suc n) (position p xs))
 position-cons p x xs =

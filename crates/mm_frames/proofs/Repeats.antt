@@ -5,7 +5,7 @@ use Rattle.std.proofs.lemmas.Bool.{cases_Bool}
 use Rattle.std.proofs.lemmas.Slice.Eq.{bytes_eq-Decides}
 use Rattle.mm_model.specs.Statements.{contains}
 use Rattle.mm_model.specs.Frames.{without_repeats}
-use Rattle.mm_frames.proofs.Paths.{cond_then, cond_else}
+use Rattle.mm_model.proofs.Scopes.{cond_then, cond_else}
 
 or_swap : (a b c : Bool) → ((a || b) || c) ≡ (b || (a || c))
 or_swap true true c = refl

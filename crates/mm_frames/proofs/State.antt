@@ -9,7 +9,7 @@ use Rattle.std.proofs.lemmas.Grind.{flat_map-append}
 use Rattle.mm_model.specs.Words.{Word, word}
 use Rattle.mm_model.specs.Frames.{without_repeats}
 use Rattle.mm_model.specs.Statements.{labels_in, Statement, has_keyword, symbols_in, contains, constants, variables_ever, variables, typed, labels, active}
-use Rattle.mm_frames.proofs.Lists.{added, types}
+use Rattle.mm_model.proofs.Lists.{added, types}
 use Rattle.mm_frames.proofs.Marks.{kept, Marks, kept-close, kept-open, marks-close, marks-open, listed-is}
 use Rattle.mm_frames.proofs.Numbers.{name_of, Injective, Within, bridge, bridge_none}
 use Rattle.mm_frames.proofs.Names.{absent-at}

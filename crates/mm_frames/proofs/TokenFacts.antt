@@ -10,7 +10,7 @@ use Rattle.mm_model.specs.Words.{Word, word, words, words_from, put_before, is_w
 use Rattle.mm_model.specs.Tokens.{keywords, is_open_comment, is_close_comment, is_bad_keyword, in_comment, word_rules, bad_keyword, comment_in_comment, tokens_where, tokens, bad_byte, words_fault, token_fault}
 use Rattle.mm_tokens.specs.declared.token.TokenKind.TheVariants as token
 use Rattle.mm_tokens.specs.Kinds.{keyword_kind}
-use Rattle.mm_frames.proofs.Paths.{cond_then, cond_else}
+use Rattle.mm_model.proofs.Scopes.{cond_then, cond_else}
 use Rattle.mm_frames.proofs.SoFar.{IsName, IsKind}
 
 -- a word stands in the text
