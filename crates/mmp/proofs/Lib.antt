@@ -1,3 +1,4 @@
 mod Outcome
 mod Parts
 mod Texts
+mod Words

@@ -5,8 +5,8 @@ use Rattle.mm_base.specs.declared.status.Status.{Status}
 use Rattle.mm_base.specs.declared.status.Status.TheVariants.{Finished, Unfinished, Database, Sheet, Words, Read, Write, Memory, Proof}
 use Rattle.mmp.specs.declared.answer.Answer.{Answer}
 use Rattle.mmp.specs.Answer.{usage}
-use Rattle.mmp.specs.Command.{Command, Reads, command_of}
-use Rattle.mmp.specs.Due.{IsDue, IsDueTexts, IsReadFault, MayAnswer, MayAnswerWords, IsSettled, Gives, IsGiven, NoReadFault, SaysReadFault}
+use Rattle.written_model.specs.CommandWords.{Command, command_of}
+use Rattle.mmp.specs.Due.{IsDue, IsDueTexts, MayAnswer, MayAnswerWords, IsSettled, Gives, IsGiven, NoReadFault, SaysReadFault}
 
 -- every status is settled, or one of the three failures
 kinds : (status : Status) → IsSettled status ⊎ ((status ≡ Read) ⊎ ((status ≡ Write) ⊎ (status ≡ Memory)))

@@ -1,12 +1,12 @@
 -- What a call may answer, from what was found under the two names and what the texts gave.
-use Rattle.std.proofs.Common.{◌≡◌, ◌≢◌, ◌⊎◌, ◌≤◌, ◌<◌, ◌^◌, ℕ, List, length, nat_lt, Option, Some, None, Result, Ok, Err, IfSome, IsSomeAnd, IfOk, MatchBool, MatchOption, true, false, refl, sym, ap, subst, codes, ◌∙◌, inl, inr, arith}
+use Rattle.std.proofs.Common.{◌≡◌, ◌≢◌, ◌≤◌, ◌<◌, ◌^◌, ℕ, List, length, nat_lt, Option, Some, None, Result, Ok, Err, IfSome, IsSomeAnd, IfOk, MatchOption, true, false, sym, ap, subst, codes, inl, inr, arith}
 use Rattle.std.proofs.lemmas.Bool.Decides.{nat_tests}
 use Rattle.mm_base.specs.Outside.{Files}
 use Rattle.mm_base.specs.declared.errors.Memory as memory
 use Rattle.mm_base.specs.declared.status.Status.{Status}
-use Rattle.mm_base.specs.declared.status.Status.TheVariants.{Finished, Unfinished, Database, Sheet, Words, Read, Write, Memory}
+use Rattle.mm_base.specs.declared.status.Status.TheVariants.{Database, Words, Read, Write, Memory}
 use Rattle.mmp.specs.declared.answer.Answer.{Answer}
-use Rattle.mmp.specs.Command.{Command}
+use Rattle.written_model.specs.CommandWords.{Command}
 use Rattle.mmp.specs.Unify.{IsAccepted, IsDatabaseRefusal, IsUnified, IsSheetAnswer, IsTextStatus}
 use Rattle.mmp.specs.Due.{IsDueTexts, IsDueSheet, MayAnswer}
 use Rattle.mm_model.specs.Faults.{Fault}

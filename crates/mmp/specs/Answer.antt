@@ -1,6 +1,7 @@
 -- The answers that say one line.
 use Rattle.std.specs.Prelude.{ℕ, List, [], ◌∷◌, ◌++◌, codes}
 use Rattle.mm_base.specs.declared.status.Status.{Status}
+use Rattle.written_model.specs.CommandWords.{usage_line}
 use Rattle.mm_base.specs.declared.status.Status.TheVariants.{Words, Read, Database, Sheet}
 use Rattle.mmp.specs.declared.answer.Answer.{Answer}
 
@@ -13,7 +14,7 @@ abbrev pub refusal : Status → List ℕ → Answer
 refusal status text = record { status = status; out = []; log = line text }
 
 abbrev pub usage : Answer
-usage = refusal Words (codes "usage: mmp unify [--proof=normal|compressed] DB SHEET")
+usage = refusal Words usage_line
 
 abbrev pub read_fault : List ℕ → Answer
 read_fault name = refusal Read (codes "read fault " ++ name)

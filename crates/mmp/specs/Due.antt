@@ -6,7 +6,8 @@ use Rattle.mm_base.specs.declared.status.Status.{Status}
 use Rattle.mm_base.specs.declared.status.Status.TheVariants.{Words, Read, Write, Memory}
 use Rattle.mmp.specs.declared.answer.Answer.{Answer}
 use Rattle.mmp.specs.Answer.{usage, read_fault, too_long_database, too_long_sheet}
-use Rattle.mmp.specs.Command.{Command, Reads, command_of}
+use Rattle.written_model.specs.CommandWords.{Command, command_of}
+use Rattle.mmp.specs.Command.{Reads}
 use Rattle.mmp.specs.Unify.{IsAccepted, IsDatabaseRefusal, IsUnified}
 
 -- the answer to the file of the sheet, where the database is not refused: too many bytes first

@@ -1,6 +1,5 @@
 pub mod Answer
 pub mod Command
-pub mod CommandExamples
 pub mod DatabaseFaults
 pub mod Due
 pub mod Found

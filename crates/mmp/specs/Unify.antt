@@ -6,7 +6,7 @@ use Rattle.mm_base.specs.declared.status.Status.{Status}
 use Rattle.mm_base.specs.declared.status.Status.TheVariants.{Finished, Unfinished, Database, Sheet}
 use Rattle.mmp.specs.declared.answer.Answer.{Answer}
 use Rattle.mmp.specs.Answer.{line, refusal}
-use Rattle.mmp.specs.Command.{Command}
+use Rattle.written_model.specs.CommandWords.{Command}
 
 -- the refusal of a database of at most 2^28 bytes: the line on its first fault; where it has none, that it is not handled yet
 unfoldable pub IsDatabaseRefusal : List ℕ → Answer → Type 0

@@ -1,7 +1,8 @@
-ghost use Rattle.std.specs.Prelude.{◌≡◌, length, map, string_bytes};
+ghost use Rattle.std.specs.Prelude.{◌≡◌, [], ◌∷◌, length, map, string_bytes};
 ghost use Rattle.std.specs.Option.{option_map};
-ghost use Rattle.mmp.specs.Command.{command_of, fits_unify, is_name_of, style_of, unify_with};
-ghost use Rattle.mmp.specs.Shown.{shown};
+ghost use Rattle.written_model.specs.CommandWords.{command_of, is_file, style_of};
+ghost use Rattle.mmp.specs.Command.{fits_unify, unify_with};
+ghost use Rattle.mmp.specs.Shown.{shown, told_style};
 
 use sheet_unify::ProofStyle;
 
@@ -15,7 +16,7 @@ pub struct Command<'a> {
 
 // A word that may name a file.
 fn is_name(word: &str) -> bool
-    ensures { result ≡ is_name_of word.now }
+    ensures { result ≡ is_file word.now }
 {
     !word.is_empty() && !word.starts_with("--")
 }
@@ -29,7 +30,7 @@ fn fits(word: &str, database: &str, sheet: &str) -> bool
 
 // The style that an option asks for.
 fn read_style(option: &str) -> Option<ProofStyle>
-    ensures { result ≡ style_of option.now }
+    ensures { option_map told_style result ≡ style_of option.now }
 {
     if option == "--proof=normal" {
         Some(ProofStyle::Normal)
@@ -75,8 +76,26 @@ fn read_styled(words: &[String]) -> Option<Command<'_>>
     let [word, option, database, sheet] = words else {
         return None;
     };
-    let style = read_style(option.as_str())?;
-    read_unify(word.as_str(), style, database.as_str(), sheet.as_str())
+    read_with_option(
+        word.as_str(),
+        option.as_str(),
+        database.as_str(),
+        sheet.as_str(),
+    )
+}
+
+fn read_with_option<'a>(
+    word: &str,
+    option: &str,
+    database: &'a str,
+    sheet: &'a str,
+) -> Option<Command<'a>>
+    ensures { option_map shown result ≡ command_of (word.now ∷ option.now ∷ database.entry.now ∷ sheet.entry.now ∷ []) }
+{
+    match read_style(option) {
+        Some(style) => read_unify(word, style, database, sheet),
+        None => None,
+    }
 }
 
 // The command `unify`, where its words fit the row.
@@ -86,7 +105,7 @@ fn read_unify<'a>(
     database: &'a str,
     sheet: &'a str,
 ) -> Option<Command<'a>>
-    ensures { option_map shown result ≡ unify_with (fits_unify word.now database.entry.now sheet.entry.now) database.entry.now sheet.entry.now style }
+    ensures { option_map shown result ≡ unify_with (fits_unify word.now database.entry.now sheet.entry.now) database.entry.now sheet.entry.now (told_style style) }
 {
     if !fits(word, database, sheet) {
         return None;

@@ -1,7 +1,7 @@
 ghost use Rattle.std.specs.Prelude.{◌≡◌, ◌⊎◌, map, string_bytes, IfOk, IfSome, IsNone, IsSomeAnd};
 ghost use Rattle.mmp.specs.Answer.{read_fault, usage};
 ghost use Rattle.mmp.specs.Due.{MayAnswer, MayAnswerWords, IsSettled, Gives, IsGiven, NoReadFault, SaysReadFault, IsCutShort};
-ghost use Rattle.mmp.specs.Command.{command_of};
+ghost use Rattle.written_model.specs.CommandWords.{command_of};
 ghost use Rattle.mm_base.specs.Outside.{Rose};
 ghost use Rattle.mmp.specs.Shown.{shown};
 
