@@ -156,83 +156,111 @@ const REFUSED: [&str; 30] = [
     "$( <MM> <PROOF_ASST> THEOREM=r\nqed::nosuch:x |- ph\n$)\n",
 ];
 
-// Databases that are refused, and the line of each: with a fault, or with something that is not built.
-const UNREAD: [(&str, &str); 24] = [
-    (DEMO0, "database error 90 NotBuilt at byte 0\n"),
-    (
-        "$c wff $. $( text $)",
-        "database error 90 NotBuilt at byte 0\n",
-    ),
-    (
-        "$c wff $. $v x $. ${ $d x x $. $}",
-        "database error 25 DistinctTwice at byte 26\n",
-    ),
-    (
-        "$c |- $. t $p |- $= $.",
-        "database error 90 NotBuilt at byte 0\n",
-    ),
-    (
-        "$c wff $. $c wff $.",
-        "database error 12 Redeclared at byte 13\n",
-    ),
-    ("$c $.", "database error 26 EmptyFormula at byte 3\n"),
-    ("$c a$b $.", "database error 4 BadKeyword at byte 3\n"),
-    ("$c wff", "database error 21 Unended at byte 6\n"),
-    ("$c wff $. ${", "database error 22 BlockOpen at byte 12\n"),
-    (
-        "$c wff $. $}",
-        "database error 23 BlockUnopened at byte 10\n",
-    ),
-    (
-        "$c wff $. ${ $v x $. $}",
-        "database error 90 NotBuilt at byte 0\n",
-    ),
-    (
-        "$c wff $. $v x $. wx $f wff x x $.",
-        "database error 27 BadHypothesis at byte 30\n",
-    ),
-    (
-        "$c wff $. $v x $. wx $f wff x $. wy $f wff x $.",
-        "database error 15 TwoTypes at byte 43\n",
-    ),
-    (
-        "$c wff a $. $v x $. e $a wff a x $.",
-        "database error 14 NoType at byte 31\n",
-    ),
-    (
-        "$c wff a $. e $a wff b $.",
-        "database error 13 NotActive at byte 21\n",
-    ),
-    (
-        "$c wff a $. e $a wff a $. f $a wff a a $.",
-        "database error 90 NotBuilt at byte 0\n",
-    ),
-    (
-        "$c wff a b $. e $a wff a $. e $a wff b $.",
-        "database error 17 LabelTaken at byte 28\n",
-    ),
-    (
-        "$c wff a $. e/f $a wff a $.",
-        "database error 20 BadLabel at byte 12\n",
-    ),
-    (
-        "$c wff a $. $a wff a $.",
-        "database error 18 LabelMissing at byte 12\n",
-    ),
-    (
-        "$c wff a $. $v x $. wx $f wff x $. e $a wff x $.",
-        "database error 90 NotBuilt at byte 0\n",
-    ),
-    (
-        "$c wff a $. $v x $. wx $f wff x $. e $a wff a x x $.",
-        "database error 90 NotBuilt at byte 0\n",
-    ),
-    ("$( a", "database error 2 OpenComment at byte 4\n"),
-    ("$[ x $]", "database error 10 Include at byte 0\n"),
-    (
-        "$c a $. ${ $c b $. $}",
-        "database error 11 ConstInBlock at byte 11\n",
-    ),
+// A database that is refused, and the line that says why.
+#[derive(Clone, Copy)]
+struct Unread {
+    database: &'static str,
+    line: &'static str,
+}
+
+// With a fault, or with something that is not built.
+const UNREAD: [Unread; 24] = [
+    Unread {
+        database: DEMO0,
+        line: "database error 90 NotBuilt at byte 0\n",
+    },
+    Unread {
+        database: "$c wff $. $( text $)",
+        line: "database error 90 NotBuilt at byte 0\n",
+    },
+    Unread {
+        database: "$c wff $. $v x $. ${ $d x x $. $}",
+        line: "database error 25 DistinctTwice at byte 26\n",
+    },
+    Unread {
+        database: "$c |- $. t $p |- $= $.",
+        line: "database error 90 NotBuilt at byte 0\n",
+    },
+    Unread {
+        database: "$c wff $. $c wff $.",
+        line: "database error 12 Redeclared at byte 13\n",
+    },
+    Unread {
+        database: "$c $.",
+        line: "database error 26 EmptyFormula at byte 3\n",
+    },
+    Unread {
+        database: "$c a$b $.",
+        line: "database error 4 BadKeyword at byte 3\n",
+    },
+    Unread {
+        database: "$c wff",
+        line: "database error 21 Unended at byte 6\n",
+    },
+    Unread {
+        database: "$c wff $. ${",
+        line: "database error 22 BlockOpen at byte 12\n",
+    },
+    Unread {
+        database: "$c wff $. $}",
+        line: "database error 23 BlockUnopened at byte 10\n",
+    },
+    Unread {
+        database: "$c wff $. ${ $v x $. $}",
+        line: "database error 90 NotBuilt at byte 0\n",
+    },
+    Unread {
+        database: "$c wff $. $v x $. wx $f wff x x $.",
+        line: "database error 27 BadHypothesis at byte 30\n",
+    },
+    Unread {
+        database: "$c wff $. $v x $. wx $f wff x $. wy $f wff x $.",
+        line: "database error 15 TwoTypes at byte 43\n",
+    },
+    Unread {
+        database: "$c wff a $. $v x $. e $a wff a x $.",
+        line: "database error 14 NoType at byte 31\n",
+    },
+    Unread {
+        database: "$c wff a $. e $a wff b $.",
+        line: "database error 13 NotActive at byte 21\n",
+    },
+    Unread {
+        database: "$c wff a $. e $a wff a $. f $a wff a a $.",
+        line: "database error 90 NotBuilt at byte 0\n",
+    },
+    Unread {
+        database: "$c wff a b $. e $a wff a $. e $a wff b $.",
+        line: "database error 17 LabelTaken at byte 28\n",
+    },
+    Unread {
+        database: "$c wff a $. e/f $a wff a $.",
+        line: "database error 20 BadLabel at byte 12\n",
+    },
+    Unread {
+        database: "$c wff a $. $a wff a $.",
+        line: "database error 18 LabelMissing at byte 12\n",
+    },
+    Unread {
+        database: "$c wff a $. $v x $. wx $f wff x $. e $a wff x $.",
+        line: "database error 90 NotBuilt at byte 0\n",
+    },
+    Unread {
+        database: "$c wff a $. $v x $. wx $f wff x $. e $a wff a x x $.",
+        line: "database error 90 NotBuilt at byte 0\n",
+    },
+    Unread {
+        database: "$( a",
+        line: "database error 2 OpenComment at byte 4\n",
+    },
+    Unread {
+        database: "$[ x $]",
+        line: "database error 10 Include at byte 0\n",
+    },
+    Unread {
+        database: "$c a $. ${ $c b $. $}",
+        line: "database error 11 ConstInBlock at byte 11\n",
+    },
 ];
 
 const USAGE: &str = "usage: mmp unify [--proof=normal|compressed] DB SHEET\n";
@@ -338,6 +366,11 @@ fn check_row(rt: &impl Abort, alloc: Global, row: Row) -> Result<(), Fail> {
     Ok(())
 }
 
+fn check_unread(rt: &impl Abort, alloc: Global, unread: Unread, sheet: &[u8]) -> Result<(), Fail> {
+    let want = (Status::Database, b"".as_slice(), unread.line);
+    check(rt, alloc, &NORMAL, honest(unread.database, sheet), want)
+}
+
 #[test]
 fn sheets_are_unified_or_refused(rt: HostRuntime) -> Result<(), Fail> {
     for row in WRITTEN {
@@ -357,9 +390,8 @@ fn sheets_are_unified_or_refused(rt: HostRuntime) -> Result<(), Fail> {
             want,
         )?;
     }
-    for (database, line) in UNREAD {
-        let want = (Status::Database, b"".as_slice(), line);
-        check(&rt, rt.alloc(), &NORMAL, honest(database, &sheet), want)?;
+    for unread in UNREAD {
+        check_unread(&rt, rt.alloc(), unread, &sheet)?;
     }
     Ok(())
 }
