@@ -15,7 +15,7 @@ for crate in $used; do
     grep "^$crate:" "$top/crates.txt" >> "$folder/crates.txt"
 done
 echo 'bench_reading: mm_base mm_tokens mm_frames anyhow' >> "$folder/crates.txt"
-cp "$top/bench/reading.rt" "$folder/crates/bench_reading/src/main.rt"
+cp "$top/bench/reading.rt.txt" "$folder/crates/bench_reading/src/main.rt"
 program="$folder/crates/bench_reading/out/bench_reading"
 (cd "$folder/crates/bench_reading" && rt run > "$folder/build.log" 2>&1) || { tail -5 "$folder/build.log"; exit 1; }
 for database in set iset nf ql; do
