@@ -5,5 +5,7 @@ mod length;
 mod text;
 
 pub use length::layout_len;
-
 pub use text::layout;
+
+#[cfg(test)]
+mod tests;

@@ -62,7 +62,7 @@ fn put_places(text: &mut Vec<u8>, names: &[&[u8]], places: &[Given]) -> Result<(
 }
 
 /// The bytes of a name, where one is given.
-fn name_or<'a>(name: &'a Option<Name>, other: &'a [u8]) -> &'a [u8]
+pub(crate) fn name_or<'a>(name: &'a Option<Name>, other: &'a [u8]) -> &'a [u8]
     ensures { result.now ≡ unwrap_or name.now other.now }
 {
     match name {
