@@ -1,13 +1,7 @@
-// A library with one function.
+//! Laws of worksheet text. Each is the contract of a function that does nothing.
 #![tactic(auto)]
 
-ghost use Rattle.std.specs.Prelude.{◌≡◌};
-ghost use Rattle.sheet_laws.specs.Echo.{echo_of};
+ghost use Rattle.written_model.specs.ReadBack.{ReadIsSpellable, LaidOutReadsBack};
 
-// The `ensures` clause is the contract: what `echo` returns is `echo_of` of its argument, a definition
-// in `specs/Echo.antt`, which a caller's clause can cite too.
-pub fn echo(x: usize) -> usize
-    ensures { result ≡ echo_of x }
-{
-    x
-}
+/// What the text of a worksheet without a fault of 40 to 49 says can be spelled.
+pub fn read_is_spellable() {}

@@ -1,0 +1,4 @@
+pub mod LineLaws
+pub mod StatementLaws
+pub mod Tests
+pub mod WordLaws

@@ -1,0 +1,2 @@
+-- Laws of worksheet text.
+use Rattle.std.specs.Prelude.{◌≡◌}
