@@ -1,4 +1,10 @@
+pub mod FormLaws
+pub mod KindLaws
+pub mod LayoutLaws
 pub mod LineLaws
+pub mod PlaceLaws
+pub mod SplitLaws
+pub mod SpokenLaws
 pub mod StatementLaws
 pub mod Tests
 pub mod WordLaws
