@@ -24,8 +24,11 @@ prefix_loc bs = refl
 label_loc : (l : List ℕ) → is_label l ≡ true → loc_of l ≡ Some (Some l)
 label_loc l h = cond_else (eqb (length l) 0 || is_gap l) _ _ (both_false _ _ (true_not _ (and_left _ _ h)) (no_gap l h)) ∙ ap (λ b. then_some b (Some l)) h
 
+abbrev pub more_header_tokens : List ℕ → Option (List ℕ) → List (List ℕ)
+more_header_tokens theorem loc = codes "<MM>" ∷ codes "<PROOF_ASST>" ∷ (codes "THEOREM=" ++ theorem) ∷ (codes "LOC_AFTER=" ++ unwrap_or loc (codes "?")) ∷ []
+
 abbrev pub header_tokens : List ℕ → Option (List ℕ) → List (List ℕ)
-header_tokens theorem loc = codes "$(" ∷ codes "<MM>" ∷ codes "<PROOF_ASST>" ∷ (codes "THEOREM=" ++ theorem) ∷ (codes "LOC_AFTER=" ++ unwrap_or loc (codes "?")) ∷ []
+header_tokens theorem loc = codes "$(" ∷ more_header_tokens theorem loc
 
 abbrev pub header : List ℕ → Option (List ℕ) → Header
 header theorem loc = record { theorem = theorem; loc = loc }

@@ -18,7 +18,7 @@ use Rattle.sheet_laws.proofs.SplitLaws.{is_not, has_no, is_inked, all_joined, la
 use Rattle.sheet_laws.proofs.WordLaws.{tokens_at, tokens_at-parted, tokens_at-token}
 use Rattle.sheet_laws.proofs.LineLaws.{plain_from}
 use Rattle.sheet_laws.proofs.StatementLaws.{Piece, statement_at, IsWhole}
-use Rattle.sheet_laws.proofs.FormLaws.{IsWritable, form_of, header_tokens, step_of-token, BeginsAsLabel, step_token-begins, step_token-is_token}
+use Rattle.sheet_laws.proofs.FormLaws.{IsWritable, form_of, header_tokens, more_header_tokens, step_of-token, BeginsAsLabel, step_token-begins, step_token-is_token}
 use Rattle.sheet_laws.proofs.SpokenLaws.{last_or-append, spoken, tokens-spoken, word-spoken, other_word, star_spaced, IsLaid, laid-spoken}
 
 pub record IsStep (s : Statement) (f : StepForm) : Type 0 where
@@ -235,4 +235,4 @@ header-tokens theorem loc h k =
     both_true _ _ refl (both_true _ _ refl (both_true _ _ refl (both_true _ _ first (both_true _ _ second refl))))
 
 pub header-laid : (theorem : List ℕ) (loc : Option (List ℕ)) → is_token theorem ≡ true → option_map_or is_label loc true ≡ true → IsLaid (header_piece theorem loc)
-header-laid theorem loc h k = laid-spoken (codes "$(") (codes "<MM>" ∷ codes "<PROOF_ASST>" ∷ (codes "THEOREM=" ++ theorem) ∷ (codes "LOC_AFTER=" ++ unwrap_or loc (codes "?")) ∷ []) (header-tokens theorem loc h k) refl
+header-laid theorem loc h k = laid-spoken (codes "$(") (more_header_tokens theorem loc) (header-tokens theorem loc h k) refl

@@ -112,14 +112,14 @@ pub record IsReady (s : Sheet) (proof : Option (List ℕ)) : Type 0 where
   pub loc : option_map_or is_label s.loc true ≡ true
   pub items : AreItemsAt (step_names s) [] s.items
   pub pairs : list_all is_pair_spellable s.pairs ≡ true
-  pub proof : IsClean proof
+  pub clean : IsClean proof
 
 pieces_laid : (s : Sheet) (proof : Option (List ℕ)) → IsReady s proof → AllByRecursion IsLaid (pieces s proof)
 pieces_laid s proof r =
     (
       header-laid s.theorem s.loc r.theorem r.loc,
       all_by-append IsLaid (item_pieces (step_names s) s.items) (tail_pieces proof s.pairs) (items_laid (step_names s) [] s.items r.items)
-        (all_by-append IsLaid (proof_pieces proof) (pair_pieces s.pairs ++ footer_piece ∷ []) (proof_laid proof r.proof)
+        (all_by-append IsLaid (proof_pieces proof) (pair_pieces s.pairs ++ footer_piece ∷ []) (proof_laid proof r.clean)
         (all_by-append IsLaid (pair_pieces s.pairs) (footer_piece ∷ []) (pairs_laid s.pairs r.pairs) (footer-laid, tt))),
     )
 

@@ -1,8 +1,12 @@
+pub mod ClosingLaws
+pub mod FaultLaws
 pub mod FormLaws
 pub mod KindLaws
 pub mod LayoutLaws
 pub mod LineLaws
 pub mod PlaceLaws
+pub mod ReadBackLaws
+pub mod RuleLaws
 pub mod SplitLaws
 pub mod SpokenLaws
 pub mod StatementLaws

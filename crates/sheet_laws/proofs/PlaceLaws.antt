@@ -62,6 +62,10 @@ last_contained : (x : List ℕ) (xs : List (List ℕ)) (q : List ℕ) → last_o
 last_contained x [] q h = let e : x ≡ q = cc in rw e (rw (bytes_eq_same q) refl)
 last_contained x (y ∷ ys) q h = let k = last_contained y ys q h in elim (bytes_eq q x) as (λ b. (b || contains (y ∷ ys) q) ≡ true) [ true ↦ refl | false ↦ k ]
 
+pub last_contains : (xs : List (List ℕ)) (q : List ℕ) → last_or None xs ≡ Some q → contains xs q ≡ true
+last_contains [] q h = absurd (cc)
+last_contains (x ∷ xs) q h = last_contained x xs q h
+
 -- ---- a name by its number
 
 pub here : (names : List (List ℕ)) (k : ℕ) → k < length names → contains names (get_or names k []) ≡ true

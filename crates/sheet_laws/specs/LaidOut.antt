@@ -1,2 +1,0 @@
--- Laws of worksheet text.
-use Rattle.std.specs.Prelude.{◌≡◌}
