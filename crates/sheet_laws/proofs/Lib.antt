@@ -1,12 +1,15 @@
 pub mod ClosingLaws
 pub mod FaultLaws
 pub mod FormLaws
+pub mod GoodForms
 pub mod KindLaws
 pub mod LayoutLaws
 pub mod LineLaws
 pub mod PlaceLaws
 pub mod ReadBackLaws
 pub mod RuleLaws
+pub mod SoundLaws
+pub mod SpellableSteps
 pub mod SplitLaws
 pub mod SpokenLaws
 pub mod StatementLaws
