@@ -2,6 +2,7 @@ pub mod ClosingLaws
 pub mod FaultLaws
 pub mod FormLaws
 pub mod GoodForms
+pub mod KeptLines
 pub mod KindLaws
 pub mod LayoutLaws
 pub mod LineLaws
@@ -9,6 +10,7 @@ pub mod PlaceLaws
 pub mod ReadBackLaws
 pub mod RuleLaws
 pub mod SoundLaws
+pub mod SpellableLaws
 pub mod SpellableSteps
 pub mod SplitLaws
 pub mod SpokenLaws

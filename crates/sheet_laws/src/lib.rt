@@ -1,10 +1,17 @@
 //! Laws of worksheet text. Each is the contract of a function that does nothing.
 #![tactic(auto)]
 
-ghost use Rattle.written_model.specs.ReadBack.{LaidOutReadsBack};
+ghost use Rattle.written_model.specs.ReadBack.{SoundIsRead, ReadIsSpellable, LaidOutReadsBack};
 
-/// The layout of each worksheet that the grammar can spell, with no proof or one without an LF, has no fault of 40 to 49 and
-/// reads as that worksheet, but for the numbers of its lines.
+/// Each text without a fault of 40 to 49 reads as a worksheet, and what a text reads as can be spelled: its names, places,
+/// comments and `$d` statements are such that the grammar has a text for them.
+pub fn read_is_spellable()
+    ensures read { SoundIsRead }
+    ensures spellable { ReadIsSpellable }
+{}
+
+/// The layout of each worksheet that can be spelled, with no proof or one without an LF, has no fault of 40 to 49 and reads
+/// as that worksheet, but for the numbers of its lines.
 pub fn laid_out_reads_back()
     ensures { LaidOutReadsBack }
 {}
