@@ -7,6 +7,7 @@ pub mod KindLaws
 pub mod LayoutLaws
 pub mod LineLaws
 pub mod PlaceLaws
+pub mod ReadAgainLaws
 pub mod ReadBackLaws
 pub mod RuleLaws
 pub mod SoundLaws
