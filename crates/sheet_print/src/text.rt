@@ -1,12 +1,18 @@
 //! Writing the text of a worksheet.
 
-ghost use Rattle.std.specs.Prelude.{◌≡◌, ℕ, List, [], ◌∷◌, ◌++◌, map, flat_map, if◌then◌else◌, unwrap_or, codes, IfOk, OnOk};
+ghost use Rattle.std.specs.Prelude.{◌≡◌, ℕ, List, [], ◌∷◌, ◌++◌, map, flat_map, if◌then◌else◌, unwrap_or, codes, IfOk, OnOk, length, ◌≤◌};
 ghost use Rattle.std.specs.Option.{option_copied};
 ghost use Rattle.std.specs.List.{join_with_byte};
 ghost use Rattle.sheet_text.specs.Layout.{ended, header_line, step_names, step_of_item, place_text, step_token, spaced, item_lines, pair_line, proof_lines, layout as layout_of};
+ghost use Rattle.mm_model.specs.Limits.{most_sheet_bytes};
+ghost use Rattle.sheet_text.specs.Reads.{ReadsAs};
+ghost use Rattle.sheet_text.specs.Spellable.{IsSpellable};
+ghost use Rattle.written_model.specs.ReadBack.{IsOneLine};
+ghost use Rattle.sheet_laws.specs.ReadAgain.{ReadsOnlyAs};
 ghost use Rattle.sheet_print.specs.Pieces.{behind_spaces, behind_commas, names_of, shown, step_text, item_text, pair_text};
 
 use mm_base::{Bytes, List, Memory, Name};
+use sheet_laws::laid_out_reads_back;
 use sheet_text::{Given, PairLine, Sheet, SheetItem, SheetStep};
 use std::alloc::Global;
 
@@ -187,11 +193,15 @@ fn step_names<'a>(alloc: Global, items: &'a [SheetItem]) -> Result<Vec<&'a [u8]>
 
 /// The text that a worksheet is written as, each line ended by LF and the tokens parted by one space: the header, the
 /// comments and steps, the proof's line where a proof is given, the `$d` statements and the footer. The proof is written as
-/// it is; the text reads back only where the grammar can spell the worksheet and the proof has no LF. A place that names no
-/// step is written as no bytes. `Memory` where memory runs out. Time and memory are in proportion to the text.
+/// it is, and a place that names no step is written as no bytes. Where the grammar can spell the worksheet and the proof has
+/// no LF, the text has none of the faults 40 to 49 and reads as the worksheet, but for the numbers of its lines; where it has
+/// at most 2^24 bytes it has no fault at all. `Memory` where memory runs out. Time and memory are in proportion to the text.
 pub fn layout(alloc: Global, sheet: &Sheet, proof: Option<&[u8]>) -> Result<Bytes, Memory>
-    ensures { IfOk result (λ text. text ≡ layout_of sheet.now (option_copied proof.entry)) }
+    ensures text { IfOk result (λ text. text ≡ layout_of sheet.now (option_copied proof.entry)) }
+    ensures back { IfOk result (λ text. IsSpellable sheet.now → IsOneLine (option_copied proof.entry) → ReadsAs text sheet.now) }
+    ensures only { IfOk result (λ text. IsSpellable sheet.now → IsOneLine (option_copied proof.entry) → length text ≤ most_sheet_bytes → ReadsOnlyAs text sheet.now) }
 {
+    laid_out_reads_back();
     let names = step_names(alloc, sheet.items.as_slice())?;
     let mut text = Vec::new(alloc);
     put_header(&mut text, sheet)?;
