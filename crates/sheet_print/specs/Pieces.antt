@@ -1,5 +1,5 @@
 -- The parts that a layout is written in.
-use Rattle.std.specs.Prelude.{ℕ, ◌-◌, ◌^◌, ◌++◌, List, [], ◌∷◌, map, flat_map, filter_map, min, Option, codes}
+use Rattle.std.specs.Prelude.{ℕ, ◌-◌, ◌^◌, List, ◌∷◌, map, flat_map, filter_map, min}
 use Rattle.std.specs.Borrow.{Bor}
 use Rattle.sheet_text.specs.declared.sheet.SheetItem.{SheetItem}
 use Rattle.sheet_text.specs.declared.sheet.SheetStep.{SheetStep}

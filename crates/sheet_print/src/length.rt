@@ -1,11 +1,12 @@
 //! Counting the bytes of the text of a worksheet. A count stands still at the greatest `u64`.
 
-ghost use Rattle.std.specs.Prelude.{◌≡◌, ℕ, List, [], ◌∷◌, ◌+◌, map, flat_map, length, unwrap_or, slice_index_or, if◌then◌else◌, codes};
+ghost use Rattle.std.specs.Prelude.{◌≡◌, ℕ, List, [], ◌∷◌, ◌+◌, map, flat_map, length, unwrap_or, if◌then◌else◌, codes};
 ghost use Rattle.std.specs.Option.{option_copied};
 ghost use Rattle.std.specs.List.{join_with_byte};
 ghost use Rattle.sheet_text.specs.Layout.{ended, header_line, place_text, step_token, proof_lines, layout};
 ghost use Rattle.sheet_print.specs.Pieces.{behind_spaces, behind_commas, names_of, step_text, item_text, pair_text, counted};
 
+use crate::index::{Index, MARKS, mark_steps, start};
 use crate::text::name_or;
 use mm_base::{Bytes, Name};
 use sheet_text::{Given, PairLine, Sheet, SheetItem, SheetStep};
@@ -26,54 +27,35 @@ fn add_tokens(mut total: u64, tokens: &[Name]) -> u64
     total
 }
 
-/// The name of the step of that number, counted from 0; no bytes past the last.
-fn step_name(items: &[SheetItem], number: u32) -> &[u8]
-    ensures { result.now ≡ slice_index_or (names_of items.now) number [] }
-{
-    let mut left = number;
-    for item in items {
-        match item {
-            SheetItem::Comment(_) => {}
-            SheetItem::Step(step) => {
-                if left == 0 {
-                    return step.name.as_slice();
-                }
-                left -= 1;
-            }
-        }
-    }
-    b""
-}
-
-fn place_len(items: &[SheetItem], given: Given) -> usize
-    ensures { result ≡ length (place_text (names_of items.now) given) }
+fn place_len(index: &Index, given: Given) -> usize
+    ensures { result ≡ length (place_text (names_of index.now.items.now) given) }
 {
     match given {
         Given::Gap => 1,
-        Given::Step(number) => step_name(items, number).len(),
+        Given::Step(number) => index.name(number).len(),
     }
 }
 
 /// Adds the places, each behind a comma.
-fn add_more_places(mut total: u64, items: &[SheetItem], places: &[Given]) -> u64
-    ensures { result ≡ counted (total + length (behind_commas (map (place_text (names_of items.now)) places.now))) }
+fn add_more_places(mut total: u64, index: &Index, places: &[Given]) -> u64
+    ensures { result ≡ counted (total + length (behind_commas (map (place_text (names_of index.now.items.now)) places.now))) }
 {
     for given in places {
         total = add(total, 1);
-        total = add(total, place_len(items, *given));
+        total = add(total, place_len(index, *given));
     }
     total
 }
 
 /// Adds the places, parted by commas.
-fn add_places(total: u64, items: &[SheetItem], places: &[Given]) -> u64
-    ensures { result ≡ counted (total + length (join_with_byte 44 (map (place_text (names_of items.now)) places.now))) }
+fn add_places(total: u64, index: &Index, places: &[Given]) -> u64
+    ensures { result ≡ counted (total + length (join_with_byte 44 (map (place_text (names_of index.now.items.now)) places.now))) }
 {
     match places.split_first() {
         None => total,
         Some((first, more)) => {
-            let total = add(total, place_len(items, *first));
-            add_more_places(total, items, more)
+            let total = add(total, place_len(index, *first));
+            add_more_places(total, index, more)
         }
     }
 }
@@ -86,21 +68,21 @@ fn add_mark(total: u64, hyp: bool) -> u64
 }
 
 /// Adds the first token of a step.
-fn add_step_token(total: u64, items: &[SheetItem], step: &SheetStep) -> u64
-    ensures { result ≡ counted (total + length (step_token (names_of items.now) step.now)) }
+fn add_step_token(total: u64, index: &Index, step: &SheetStep) -> u64
+    ensures { result ≡ counted (total + length (step_token (names_of index.now.items.now) step.now)) }
 {
     let total = add_mark(total, step.hyp);
     let total = add(total, step.name.as_slice().len() + 1);
-    let total = add_places(total, items, step.places.as_slice());
+    let total = add_places(total, index, step.places.as_slice());
     let total = add(total, 1);
     add(total, name_or(&step.reference, b"").len())
 }
 
 /// Adds the line of a step.
-fn add_step(total: u64, items: &[SheetItem], step: &SheetStep) -> u64
-    ensures { result ≡ counted (total + length (step_text (names_of items.now) step.now)) }
+fn add_step(total: u64, index: &Index, step: &SheetStep) -> u64
+    ensures { result ≡ counted (total + length (step_text (names_of index.now.items.now) step.now)) }
 {
-    let total = add_step_token(total, items, step);
+    let total = add_step_token(total, index, step);
     let total = add_tokens(total, step.formula.as_slice());
     add(total, 1)
 }
@@ -116,21 +98,21 @@ fn add_comment(mut total: u64, lines: &[Bytes]) -> u64
 }
 
 /// Adds the lines of an item.
-fn add_item(total: u64, items: &[SheetItem], item: &SheetItem) -> u64
-    ensures { result ≡ counted (total + length (item_text (names_of items.now) item.now)) }
+fn add_item(total: u64, index: &Index, item: &SheetItem) -> u64
+    ensures { result ≡ counted (total + length (item_text (names_of index.now.items.now) item.now)) }
 {
     match item {
         SheetItem::Comment(lines) => add_comment(total, lines.as_slice()),
-        SheetItem::Step(step) => add_step(total, items, step),
+        SheetItem::Step(step) => add_step(total, index, step),
     }
 }
 
 /// Adds the lines of the comments and steps.
-fn add_items(mut total: u64, items: &[SheetItem]) -> u64
-    ensures { result ≡ counted (total + length (flat_map (item_text (names_of items.now)) items.now)) }
+fn add_items(mut total: u64, index: &Index) -> u64
+    ensures { result ≡ counted (total + length (flat_map (item_text (names_of index.now.items.now)) index.now.items.now)) }
 {
-    for item in items {
-        total = add_item(total, items, item);
+    for item in index.items {
+        total = add_item(total, index, item);
     }
     total
 }
@@ -180,12 +162,17 @@ fn add_pairs(mut total: u64, pairs: &[PairLine]) -> u64
 }
 
 /// The length of the text that `layout` gives, or the greatest `u64` where it has more bytes (no memory holds such a text).
-/// It takes no memory.
+/// It takes no memory but 16 kB of the stack. Time is in proportion to the text, and for each place to a thousandth of the
+/// number of items.
 pub fn layout_len(sheet: &Sheet, proof: Option<&[u8]>) -> u64
     ensures { result ≡ counted (length (layout sheet.now (option_copied proof.entry))) }
 {
+    let items = sheet.items.as_slice();
+    let stride = items.len() / MARKS + 1;
+    let mut marks = [start(); MARKS];
+    mark_steps(items, stride, &mut marks);
     let total = header_len(sheet);
-    let total = add_items(total, sheet.items.as_slice());
+    let total = add_items(total, &Index::new(items, stride, &marks));
     let total = add_proof(total, proof);
     let total = add_pairs(total, sheet.pairs.as_slice());
     add(total, b"$)\n".len())

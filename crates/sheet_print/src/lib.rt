@@ -1,6 +1,7 @@
 //! The text of a worksheet: the one flat layout in which worksheets are written.
 #![tactic(auto)]
 
+mod index;
 mod length;
 mod text;
 

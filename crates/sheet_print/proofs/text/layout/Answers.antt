@@ -12,8 +12,8 @@ pub returns : goal.returns
 returns c =
     let s = c.args.sheet.now in let proof = option_copied c.args.proof in
     let text : c.from_vec.result ≡ layout s proof = layout_put s proof (shown c.in_ok-names.names.items) _ _ _ _ _ _ (rw c.as_slice.ensures at c.in_ok-names.ensures)
-        (rw c.new-text.ensures.items at c.in_ok-put_header.ensures) (rw (c.as_slice-2.ensures.value, c.as_slice-3.ensures) at c.in_ok-put_items.ensures)
-        c.in_ok-put_proof.ensures (rw c.as_slice-4.ensures at c.in_ok-put_pairs.ensures) c.in_ok-put.ensures c.from_vec.ensures in
+    (rw c.new-text.ensures.items at c.in_ok-put_header.ensures) (rw (c.as_slice-2.ensures.value, c.as_slice-3.ensures) at c.in_ok-put_items.ensures)
+    c.in_ok-put_proof.ensures (rw c.as_slice-4.ensures at c.in_ok-put_pairs.ensures) c.in_ok-put.ensures c.from_vec.ensures in
     record {
       text = text;
       back = λ spellable line. subst (λ (t : List ℕ). ReadsAs t s) (sym text) (c.laid_out_reads_back.ensures.back s proof spellable line);

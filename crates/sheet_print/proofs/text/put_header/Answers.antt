@@ -1,4 +1,3 @@
-use Rattle.std.proofs.Common.{◌≡◌, ◌++◌, codes, unwrap_or}
 use Rattle.sheet_print.proofs.Pieces.{five}
 use Rattle.sheet_print.proofs.text.put_header.Goals as goal
 
