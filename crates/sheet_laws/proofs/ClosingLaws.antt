@@ -1,6 +1,5 @@
 -- What closes a layout, and that it has no fault.
-use Rattle.std.proofs.Common.{◌≡◌, ℕ, suc, ◌+◌, Bool, true, false, cond, not, ◌&&◌, ◌||◌, eqb, ltb, List, [], ◌∷◌, ◌++◌, length, map, Option, Some, None, refl, sym, ap, ◌∙◌, arith, subst, append-nil, append_assoc, codes, slice_get, length-append}
-use Rattle.std.specs.Prelude.{flat_map}
+use Rattle.std.proofs.Common.{◌≡◌, ℕ, suc, ◌+◌, Bool, true, false, cond, not, ◌&&◌, List, [], ◌∷◌, ◌++◌, length, Option, Some, None, refl, sym, ap, ◌∙◌, arith, append_assoc, codes, slice_get, length-append}
 use Rattle.std.specs.List.{list_all, list_any}
 use Rattle.mm_model.specs.Faults.{Fault, fault, earlier, or_else}
 use Rattle.mm_model.specs.Names.{contains}
@@ -8,20 +7,20 @@ use Rattle.sheet_text.specs.declared.sheet.SheetItem.{SheetItem}
 use Rattle.sheet_text.specs.declared.sheet.SheetItem.TheVariants as item
 use Rattle.sheet_text.specs.declared.sheet.PairLine.{PairLine}
 use Rattle.sheet_text.specs.declared.sheet.Sheet.{Sheet}
-use Rattle.sheet_text.specs.Lines.{Line, line, begins, tokens, lines_not_blank, line_past_end}
-use Rattle.sheet_text.specs.Layout.{layout, step_names, spaced}
-use Rattle.sheet_text.specs.SheetStatements.{Statement, statements, line_of, tokens_in, is_word, is_footer, is_proof, ends_proof}
-use Rattle.sheet_text.specs.Spellable.{is_token, is_pair_spellable}
-use Rattle.sheet_text.specs.TextFaults.{no_header, statement_fault, lines_from, past_footer, closing_fault, line_fault, is_bad_distinct}
-use Rattle.sheet_laws.proofs.Tests.{and_left, and_right, both_true, both_false, true_not, cond_then, cond_else}
+use Rattle.sheet_text.specs.Lines.{Line, line, begins, tokens, line_past_end}
+use Rattle.sheet_text.specs.Layout.{layout, step_names}
+use Rattle.sheet_text.specs.SheetStatements.{Statement, statements, is_word, is_footer, is_proof, ends_proof}
+use Rattle.sheet_text.specs.Spellable.{is_pair_spellable}
+use Rattle.sheet_text.specs.TextFaults.{no_header, statement_fault, lines_from, past_footer, closing_fault, line_fault}
+use Rattle.sheet_laws.proofs.Tests.{and_left, and_right, both_true, true_not, cond_then, cond_else}
 use Rattle.sheet_laws.proofs.WordLaws.{tokens_at-spaced}
 use Rattle.sheet_laws.proofs.LineLaws.{plain_from, lines_from-plain}
 use Rattle.sheet_laws.proofs.StatementLaws.{Piece, statement_at, lines_in, numbered}
 use Rattle.sheet_laws.proofs.FormLaws.{header_tokens, more_header_tokens}
 use Rattle.sheet_laws.proofs.SpokenLaws.{word-spoken}
-use Rattle.sheet_laws.proofs.KindLaws.{step_piece, comment_piece, proof_piece, pair_piece, footer_piece, header_piece, header-tokens, header-laid, step-is, comment-is, proof-is, pair-is, footer-is}
+use Rattle.sheet_laws.proofs.KindLaws.{step_piece, comment_piece, proof_piece, pair_piece, footer_piece, header_piece, header-tokens, header-laid, step-is, comment-is, proof-is, pair-is}
 use Rattle.sheet_laws.proofs.PlaceLaws.{AreItemsAt}
-use Rattle.sheet_laws.proofs.LayoutLaws.{item_pieces, proof_pieces, pair_pieces, tail_pieces, body_pieces, pieces, IsReady, layout_lines, layout_statements}
+use Rattle.sheet_laws.proofs.LayoutLaws.{item_pieces, pair_pieces, tail_pieces, body_pieces, pieces, IsReady, layout_lines, layout_statements}
 use Rattle.sheet_laws.proofs.RuleLaws.{not_yes}
 use Rattle.sheet_laws.proofs.FaultLaws.{statements_pass}
 
@@ -55,7 +54,7 @@ module _ (past : ℕ) where
       let is = proof-is n proof in
       let p = proof_piece proof in
       let found : list_any ends_proof (lines_from n (plain_from 1 (front ++ lines_in (proof_piece proof ∷ ps)))) ≡ true =
-          ap (list_any ends_proof) (lines_from-plain 1 n front (lines_in (proof_piece proof ∷ ps)) e) ∙ any_first ends_proof (line n (proof_piece proof).opening) (plain_from (suc n) (lines_in ps)) is.ends in
+      ap (list_any ends_proof) (lines_from-plain 1 n front (lines_in (proof_piece proof ∷ ps)) e) ∙ any_first ends_proof (line n (proof_piece proof).opening) (plain_from (suc n) (lines_in ps)) is.ends in
       cond_else (is_footer (statement_at n p)) _ _ is.footer
       ∙ cond_else (is_proof (statement_at n p) && not (list_any ends_proof (lines_from n (plain_from 1 (front ++ lines_in (p ∷ ps)))))) _ _ (and_not _ _ found)
       ∙ after front p ps n e k
@@ -67,8 +66,8 @@ module _ (past : ℕ) where
   pairs_close [] front h = footer_closes front
   pairs_close (p ∷ ps) front h =
       over_plain front (pair_piece p.names) (pair_pieces ps ++ footer_piece ∷ [])
-        (λ n. let is = pair-is n p.names (and_left _ _ (and_left _ _ h)) (true_not _ (and_right _ _ (and_left _ _ h))) in (is.footer, is.proof))
-        (pairs_close ps (front ++ (pair_piece p.names).opening ∷ []) (and_right _ _ h))
+      (λ n. let is = pair-is n p.names (and_left _ _ (and_left _ _ h)) (true_not _ (and_right _ _ (and_left _ _ h))) in (is.footer, is.proof))
+      (pairs_close ps (front ++ (pair_piece p.names).opening ∷ []) (and_right _ _ h))
 
   proof_closes : (proof : Option (List ℕ)) (ps : List PairLine) (front : List (List ℕ)) → list_all is_pair_spellable ps ≡ true → IsClosed front (tail_pieces proof ps)
   proof_closes None ps front h = pairs_close ps front h
@@ -79,17 +78,17 @@ module _ (past : ℕ) where
   items_close full done [] rest front a k = k front
   items_close full done (item.Comment lines ∷ items) rest front a k =
       over_plain front (comment_piece lines) (item_pieces full items ++ rest) (λ n. let is = comment-is n lines a.0 in (is.footer, is.proof))
-        (items_close full done items rest (front ++ (comment_piece lines).opening ∷ (comment_piece lines).more) a.1 k)
+      (items_close full done items rest (front ++ (comment_piece lines).opening ∷ (comment_piece lines).more) a.1 k)
   items_close full done (item.Step t ∷ items) rest front a k =
       over_plain front (step_piece full t) (item_pieces full items ++ rest) (λ n. let is = step-is full t n a.0.writable in (is.footer, is.proof))
-        (items_close full (done ++ t.name ∷ []) items rest (front ++ (step_piece full t).opening ∷ []) a.1 k)
+      (items_close full (done ++ t.name ∷ []) items rest (front ++ (step_piece full t).opening ∷ []) a.1 k)
 
   header_closes : (s : Sheet) (proof : Option (List ℕ)) → IsReady s proof → IsClosed [] (pieces s proof)
   header_closes s proof r =
       let h = header-tokens s.theorem s.loc r.theorem r.loc in
       over_plain [] (header_piece s.theorem s.loc) (body_pieces s proof)
-        (λ n. (word-spoken (codes "$)") n (codes "$(") (more_header_tokens s.theorem s.loc) h, word-spoken (codes "$=") n (codes "$(") (more_header_tokens s.theorem s.loc) h))
-        (items_close (step_names s) [] s.items (tail_pieces proof s.pairs) ((header_piece s.theorem s.loc).opening ∷ []) r.items (λ more. proof_closes proof s.pairs more r.pairs))
+      (λ n. (word-spoken (codes "$)") n (codes "$(") (more_header_tokens s.theorem s.loc) h, word-spoken (codes "$=") n (codes "$(") (more_header_tokens s.theorem s.loc) h))
+      (items_close (step_names s) [] s.items (tail_pieces proof s.pairs) ((header_piece s.theorem s.loc).opening ∷ []) r.items (λ more. proof_closes proof s.pairs more r.pairs))
 
 -- ---- the first line
 

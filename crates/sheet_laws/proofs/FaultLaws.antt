@@ -1,30 +1,24 @@
 -- A layout has no fault.
-use Rattle.std.proofs.Common.{◌≡◌, ℕ, suc, ◌+◌, Bool, true, false, cond, not, ◌&&◌, ◌||◌, eqb, ltb, List, [], ◌∷◌, ◌++◌, length, map, Option, Some, None, refl, sym, ap, ◌∙◌, arith, subst, append-nil, append_assoc, codes, is_none, slice_get}
-use Rattle.std.specs.Prelude.{flat_map}
-use Rattle.std.specs.Str.{bytes_eq}
-use Rattle.std.specs.Option.{option_map_or}
-use Rattle.std.specs.List.{list_all, list_any, AllByRecursion, last_or}
-use Rattle.mm_model.specs.Faults.{Fault, fault, earlier, or_else, first_fault}
+use Rattle.std.proofs.Common.{◌≡◌, ℕ, suc, ◌+◌, true, false, cond, List, [], ◌∷◌, ◌++◌, length, Option, Some, None, refl, sym, ap, ◌∙◌, append-nil, append_assoc, codes, is_none}
+use Rattle.std.specs.List.{list_all}
+use Rattle.mm_model.specs.Faults.{fault, first_fault}
 use Rattle.mm_model.specs.Names.{contains}
-use Rattle.sheet_text.specs.declared.sheet.SheetStep.{SheetStep}
 use Rattle.sheet_text.specs.declared.sheet.SheetItem.{SheetItem}
 use Rattle.sheet_text.specs.declared.sheet.SheetItem.TheVariants as item
 use Rattle.sheet_text.specs.declared.sheet.PairLine.{PairLine}
 use Rattle.sheet_text.specs.declared.sheet.Sheet.{Sheet}
-use Rattle.sheet_text.specs.Lines.{Line, begins, tokens, lines_not_blank, line_past_end}
 use Rattle.sheet_text.specs.Forms.{Header, header_of}
-use Rattle.sheet_text.specs.Layout.{layout, step_names}
-use Rattle.sheet_text.specs.SheetStatements.{Statement, statements, line_of, tokens_in, is_word, is_footer, is_proof, ends_proof}
+use Rattle.sheet_text.specs.Layout.{step_names}
+use Rattle.sheet_text.specs.SheetStatements.{Statement, line_of, tokens_in}
 use Rattle.sheet_text.specs.Spellable.{is_token, is_pair_spellable}
-use Rattle.sheet_text.specs.TextFaults.{no_header, statement_fault, statement_rules, lines_from, past_footer, closing_fault, line_fault, is_bad_distinct}
-use Rattle.sheet_laws.proofs.Tests.{and_left, and_right, both_true, both_false, true_not, cond_then, cond_else}
-use Rattle.sheet_laws.proofs.LineLaws.{plain_from, lines_from-plain}
-use Rattle.sheet_laws.proofs.StatementLaws.{Piece, statement_at, lines_in, numbered, numbered-append}
+use Rattle.sheet_text.specs.TextFaults.{statement_fault, statement_rules, is_bad_distinct}
+use Rattle.sheet_laws.proofs.Tests.{and_left, and_right, true_not}
+use Rattle.sheet_laws.proofs.StatementLaws.{Piece, statement_at, numbered}
 use Rattle.sheet_laws.proofs.FormLaws.{header, header_of-tokens, header_tokens}
-use Rattle.sheet_laws.proofs.SpokenLaws.{tokens-spoken, word-spoken}
-use Rattle.sheet_laws.proofs.KindLaws.{step_piece, comment_piece, proof_piece, pair_piece, footer_piece, header_piece, header-tokens, IsStep, IsNote, IsDistinct, IsProofLine, IsFooterLine, step-is, comment-is, proof-is, pair-is, footer-is}
+use Rattle.sheet_laws.proofs.SpokenLaws.{tokens-spoken}
+use Rattle.sheet_laws.proofs.KindLaws.{step_piece, comment_piece, proof_piece, pair_piece, footer_piece, header_piece, header-tokens, IsNote, step-is, comment-is, proof-is, pair-is, footer-is}
 use Rattle.sheet_laws.proofs.PlaceLaws.{AreItemsAt, steps_in, names_in}
-use Rattle.sheet_laws.proofs.LayoutLaws.{item_pieces, proof_pieces, pair_pieces, tail_pieces, body_pieces, pieces, IsReady, lines_in-append, layout_lines, layout_statements}
+use Rattle.sheet_laws.proofs.LayoutLaws.{item_pieces, proof_pieces, pair_pieces, tail_pieces, body_pieces, pieces, IsReady}
 use Rattle.sheet_laws.proofs.RuleLaws.{Passes, SameNames, pass_one, names_more, names_kept, step-sound, note-sound, pair-sound, proof-sound, footer-sound}
 
 -- ---- the rules of the statements
@@ -38,12 +32,12 @@ items_pass full done n before [] rest a same k = k n before (λ q. same q ∙ ap
 items_pass full done n before (item.Comment lines ∷ items) rest a same k =
     let s = statement_at n (comment_piece lines) in let note = comment-is n lines a.0 in
     pass_one before s (numbered (suc n + length (comment_piece lines).more) (item_pieces full items ++ rest)) (note-sound before s note)
-      (items_pass full done (suc n + length (comment_piece lines).more) (s ∷ before) items rest a.1 (note_no_step s note before done same) k)
+    (items_pass full done (suc n + length (comment_piece lines).more) (s ∷ before) items rest a.1 (note_no_step s note before done same) k)
 items_pass full done n before (item.Step t ∷ items) rest a same k =
     let s = statement_at n (step_piece full t) in let step = step-is full t n a.0.writable in
     pass_one before s (numbered (suc n + 0) (item_pieces full items ++ rest)) (step-sound before done s _ same step a.0.fresh a.0.no_qed a.0.qed a.0.read.known)
-      (items_pass full (done ++ t.name ∷ []) (suc n + 0) (s ∷ before) items rest a.1 (names_more before done s _ step.form same)
-        (λ m b e. k m b (λ q. e q ∙ ap (λ d. contains d q) (append_assoc done (t.name ∷ []) (names_in (steps_in items))))))
+    (items_pass full (done ++ t.name ∷ []) (suc n + 0) (s ∷ before) items rest a.1 (names_more before done s _ step.form same)
+    (λ m b e. k m b (λ q. e q ∙ ap (λ d. contains d q) (append_assoc done (t.name ∷ []) (names_in (steps_in items))))))
 
 proof_pass : (done : List (List ℕ)) (n : ℕ) (before : List Statement) (proof : Option (List ℕ)) (rest : List Piece) → SameNames before done
     → ((m : ℕ) (b : List Statement) → SameNames b done → Passes b (numbered m rest)) → Passes before (numbered n (proof_pieces proof ++ rest))
@@ -59,7 +53,7 @@ pairs_pass done n before (p ∷ ps) rest h same k =
     let good : is_bad_distinct p.names ≡ false = true_not _ (and_right _ _ (and_left _ _ h)) in
     let s = statement_at n (pair_piece p.names) in let is = pair-is n p.names (and_left _ _ (and_left _ _ h)) good in
     pass_one before s (numbered (suc n + 0) (pair_pieces ps ++ rest)) (pair-sound before s p.names is good)
-      (pairs_pass done (suc n + 0) (s ∷ before) ps rest (and_right _ _ h) (names_kept before done s is.form same) k)
+    (pairs_pass done (suc n + 0) (s ∷ before) ps rest (and_right _ _ h) (names_kept before done s is.form same) k)
 
 module _ (s : Sheet) (proof : Option (List ℕ)) (r : IsReady s proof) (q : contains (step_names s) (codes "qed") ≡ true) where
   body_pass : (n : ℕ) → Passes [] (numbered n (body_pieces s proof))

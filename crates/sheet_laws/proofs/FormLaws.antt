@@ -1,7 +1,6 @@
 -- The forms of a header and of a step that were laid out.
-use Rattle.std.proofs.Common.{◌≡◌, ℕ, suc, Bool, true, false, cond, not, ◌&&◌, ◌||◌, eqb, List, [], ◌∷◌, ◌++◌, length, map, Option, Some, None, refl, sym, ap, ◌∙◌, arith, subst, inl, inr, append_assoc, codes, unwrap_or}
+use Rattle.std.proofs.Common.{◌≡◌, ℕ, Bool, true, false, cond, not, ◌||◌, eqb, List, [], ◌∷◌, ◌++◌, length, map, Option, Some, None, refl, sym, ap, ◌∙◌, subst, inl, inr, append_assoc, codes, unwrap_or}
 use Rattle.std.proofs.lemmas.Bool.{cases_Bool}
-use Rattle.std.specs.Prelude.{option_and_then}
 use Rattle.std.specs.Bool.{then_some}
 use Rattle.std.specs.Option.{option_map_or}
 use Rattle.std.specs.List.{list_all, slice_split, join_with_byte}
@@ -10,8 +9,8 @@ use Rattle.sheet_text.specs.declared.sheet.SheetStep.{SheetStep}
 use Rattle.sheet_text.specs.Forms.{Header, header_of, header_with, loc_of, after_prefix, StepForm, marked_name, is_gap, is_entry, entry_of, parts_of, is_reference, reference_of, step_with, step_parts, step_of}
 use Rattle.sheet_text.specs.Layout.{place_text, step_token}
 use Rattle.sheet_text.specs.Spellable.{is_token}
-use Rattle.sheet_laws.proofs.Tests.{and_left, and_right, both_true, both_false, true_not, not_true, not_empty, cond_then, cond_else, all_append}
-use Rattle.sheet_laws.proofs.SplitLaws.{is_not, has_no, is_inked, label_is_not, label_is_inked, label_all, label_token, no_gap, entries_all, all_joined, cut, uncut, parts_joined}
+use Rattle.sheet_laws.proofs.Tests.{and_left, and_right, both_true, both_false, true_not, not_true, not_empty, cond_else, all_append}
+use Rattle.sheet_laws.proofs.SplitLaws.{is_not, is_inked, label_is_not, label_is_inked, label_all, no_gap, entries_all, all_joined, cut, uncut, parts_joined}
 
 -- ---- the header
 
@@ -115,14 +114,14 @@ module _ (names : List (List ℕ)) (s : SheetStep) (w : IsWritable names s) wher
       ∙ ap (λ (m : Bool × List ℕ). step_with m.0 m.1 (parts_of places) reference s.formula) (marked s.hyp s.name w.unmarked)
       ∙ ap (λ t. step_with s.hyp s.name t reference s.formula) (parts_joined texts w.places)
       ∙ ap (λ b. then_some b (record { hyp = s.hyp; name = s.name; entries = map entry_of texts; reference = reference_of reference; formula = s.formula }))
-        (both_true _ _ (both_true _ _ w.name w.places) (is_reference-written s.hyp s.reference w.reference))
+      (both_true _ _ (both_true _ _ w.name w.places) (is_reference-written s.hyp s.reference w.reference))
       ∙ ap (λ r. Some (record { hyp = s.hyp; name = s.name; entries = map entry_of texts; reference = r; formula = s.formula })) (reference_of-written s.hyp s.reference w.reference)
 
   token_inked : list_all is_inked (step_token names s) ≡ true
   token_inked =
       all_append is_inked (first ++ 58 ∷ places) (58 ∷ reference)
       (all_append is_inked first (58 ∷ places) (first_all is_inked label_is_inked)
-        (both_true _ _ refl (all_joined is_inked 44 refl texts (entries_all is_inked label_is_inked refl texts w.places))))
+      (both_true _ _ refl (all_joined is_inked 44 refl texts (entries_all is_inked label_is_inked refl texts w.places))))
       (both_true _ _ refl (reference_all is_inked label_is_inked s.hyp s.reference w.reference))
 
 -- a token that begins with a label's byte
@@ -140,7 +139,7 @@ begins_first false (b ∷ bs) more h = record { byte = b; rest = bs ++ more; is 
 pub step_token-begins : (names : List (List ℕ)) (s : SheetStep) → is_label s.name ≡ true → BeginsAsLabel (step_token names s)
 step_token-begins names s h =
     let e : ((mark_of s.hyp ++ s.name) ++ (58 ∷ join_with_byte 44 (map (place_text names) s.places) ++ 58 ∷ unwrap_or s.reference [])) ≡ step_token names s =
-        sym (append_assoc (mark_of s.hyp ++ s.name) (58 ∷ join_with_byte 44 (map (place_text names) s.places)) (58 ∷ unwrap_or s.reference [])) in
+    sym (append_assoc (mark_of s.hyp ++ s.name) (58 ∷ join_with_byte 44 (map (place_text names) s.places)) (58 ∷ unwrap_or s.reference [])) in
     subst BeginsAsLabel e (begins_first s.hyp s.name _ h)
 
 pub step_token-is_token : (names : List (List ℕ)) (s : SheetStep) → IsWritable names s → is_token (step_token names s) ≡ true

@@ -1,18 +1,16 @@
 -- What holds of a header and of a step that tokens have the form of.
-use Rattle.std.proofs.Common.{◌≡◌, ◌<◌, ◌⊎◌, ℕ, suc, zero, Bool, true, false, cond, not, ◌&&◌, ◌||◌, eqb, List, [], ◌∷◌, ◌++◌, length, map, drop, Option, Some, None, refl, sym, ap, ◌∙◌, arith, subst, inl, inr, codes}
+use Rattle.std.proofs.Common.{◌≡◌, ◌⊎◌, ℕ, suc, zero, Bool, true, false, cond, not, ◌&&◌, ◌||◌, eqb, List, [], ◌∷◌, length, map, drop, Option, Some, None, refl, sym, ap, ◌∙◌, subst, inl, inr, codes}
 use Rattle.std.proofs.lemmas.Bool.{cases_Bool}
-use Rattle.std.proofs.lemmas.Bool.Decides.{nat_tests}
-use Rattle.std.specs.Prelude.{option_and_then, flat_map}
+use Rattle.std.specs.Prelude.{option_and_then}
 use Rattle.std.specs.Bool.{then_some}
 use Rattle.std.specs.Option.{option_map_or}
 use Rattle.std.specs.List.{list_all, slice_split}
 use Rattle.std.specs.Str.{bytes_eq}
 use Rattle.mm_model.specs.Labels.{is_label}
 use Rattle.sheet_text.specs.Lines.{Line, tokens, tokens_of}
-use Rattle.sheet_text.specs.SheetStatements.{Statement, tokens_in}
-use Rattle.sheet_text.specs.Forms.{Header, header_of, header_with, loc_of, loc_in, after_prefix, StepForm, marked_name, is_gap, is_entry, entry_of, parts_of, is_reference, reference_of, step_with, step_parts, step_of}
+use Rattle.sheet_text.specs.Forms.{Header, header_of, header_with, loc_of, loc_in, after_prefix, StepForm, marked_name, is_gap, entry_of, parts_of, is_reference, reference_of, step_with, step_parts, step_of}
 use Rattle.sheet_text.specs.Spellable.{is_token}
-use Rattle.sheet_laws.proofs.Tests.{and_left, and_right, both_true, both_false, true_not, not_true, not_empty, cond_then, cond_else, all_append}
+use Rattle.sheet_laws.proofs.Tests.{and_left, and_right, both_true, not_true, not_empty, cond_then, cond_else, all_append}
 use Rattle.sheet_laws.proofs.SplitLaws.{is_inked}
 use Rattle.sheet_laws.proofs.WordLaws.{tokens_at-tokens}
 
@@ -124,11 +122,11 @@ step_with-good : (name : List ℕ) (parts : List (List ℕ)) (r : List ℕ) (for
 step_with-good name parts r formula f h e =
     let k = then_given _ _ f e in
     let made : IsGoodStep (record { hyp = (marked_name name).0; name = (marked_name name).1; entries = map entry_of parts; reference = reference_of r; formula = formula }) = record {
-        name = and_left _ _ (and_left _ _ k.0);
-        unmarked = marked_once name;
-        reference = reference_good (marked_name name).0 r (and_right _ _ k.0);
-        formula = h;
-      } in
+      name = and_left _ _ (and_left _ _ k.0);
+      unmarked = marked_once name;
+      reference = reference_good (marked_name name).0 r (and_right _ _ k.0);
+      formula = h;
+    } in
     subst IsGoodStep k.1 made
 
 step_parts-good : (parts formula : List (List ℕ)) (f : StepForm) → list_all is_token formula ≡ true → step_parts parts formula ≡ Some f → IsGoodStep f

@@ -1,19 +1,18 @@
 -- The lines of statements, and so the comments of a text.
-use Rattle.std.proofs.Common.{◌≡◌, ◌⊎◌, ℕ, suc, Bool, true, false, cond, not, ◌&&◌, ◌||◌, eqb, List, [], ◌∷◌, ◌++◌, length, map, filter, Option, Some, None, refl, sym, ap, ◌∙◌, subst, inl, inr}
+use Rattle.std.proofs.Common.{◌≡◌, ℕ, suc, Bool, true, false, cond, not, ◌&&◌, eqb, List, [], ◌∷◌, ◌++◌, length, map, filter, Option, Some, None, refl, sym, ap, ◌∙◌, subst, inl, inr}
 use Rattle.std.proofs.lemmas.Bool.{cases_Bool}
 use Rattle.std.proofs.lemmas.List.Sums.{take_while-cons}
 use Rattle.std.specs.Prelude.{take_while, filter_map}
-use Rattle.std.specs.List.{list_all, list_any, onto_first, AllByRecursion, cons_option}
+use Rattle.std.specs.List.{list_all, onto_first, AllByRecursion, cons_option}
 use Rattle.mm_model.specs.Words.{is_white}
-use Rattle.sheet_text.specs.declared.sheet.SheetItem.{SheetItem}
 use Rattle.sheet_text.specs.declared.sheet.PairLine.{PairLine}
 use Rattle.sheet_text.specs.Forms.{StepForm}
 use Rattle.sheet_text.specs.Lines.{Line, line, lines, trim_end, before_trimmed, numbered_from, is_blank, lines_not_blank, begins, first_is_not_white}
-use Rattle.sheet_text.specs.Reads.{comment_of, items_at, items_from, step_at, pairs_at}
-use Rattle.sheet_text.specs.SheetStatements.{Statement, statement, statements, statements_where, opens_proof, ends_proof, tokens_in, line_of, starts_with_star, is_comment, is_distinct}
-use Rattle.sheet_text.specs.Spellable.{is_token, last_is_not_white, is_comment_line, is_comment_spellable, is_item_spellable, is_pair_spellable}
-use Rattle.sheet_text.specs.TextFaults.{step_in, is_end, without_end, symbols_of, is_bad_distinct, bad_distinct}
-use Rattle.sheet_laws.proofs.Tests.{and_left, and_right, both_true, true_not, not_true, cond_then, cond_else}
+use Rattle.sheet_text.specs.Reads.{comment_of, items_at, items_from, pairs_at}
+use Rattle.sheet_text.specs.SheetStatements.{Statement, statement, statements, statements_where, opens_proof, ends_proof, tokens_in, line_of, is_comment, is_distinct}
+use Rattle.sheet_text.specs.Spellable.{is_token, last_is_not_white, is_comment_line, is_item_spellable, is_pair_spellable}
+use Rattle.sheet_text.specs.TextFaults.{step_in, is_end, without_end, symbols_of, is_bad_distinct}
+use Rattle.sheet_laws.proofs.Tests.{and_left, and_right, both_true, not_true, cond_then, cond_else}
 use Rattle.sheet_laws.proofs.LineLaws.{has_no_end}
 use Rattle.sheet_laws.proofs.RuleLaws.{IsSound}
 use Rattle.sheet_laws.proofs.GoodForms.{case_of, tokens_of-tokens}
@@ -161,7 +160,7 @@ symbols-all p (t ∷ ts) h = without_end-all p ts (and_right _ _ h)
 pair_spellable : (before : List Statement) (s : Statement) → IsSound before s → is_distinct s ≡ true → is_pair_spellable (record { line = line_of s; names = symbols_of (tokens_in s) }) ≡ true
 pair_spellable before s h e =
     both_true _ _ (symbols-all is_token (tokens_in s) (tokens_of-tokens (s.opening ∷ s.more)))
-      (not_true _ (ap (λ b. b && is_bad_distinct (symbols_of (tokens_in s))) (sym e) ∙ h.distinct))
+    (not_true _ (ap (λ b. b && is_bad_distinct (symbols_of (tokens_in s))) (sym e) ∙ h.distinct))
 
 pub pairs_spellable : (ss before : List Statement) → AreSound before ss → list_all is_pair_spellable (filter_map pairs_at ss) ≡ true
 pairs_spellable [] before a = refl

@@ -1,23 +1,23 @@
 -- What the statements of a layout are.
-use Rattle.std.proofs.Common.{◌≡◌, ℕ, suc, ◌+◌, Bool, true, false, cond, not, ◌&&◌, ◌||◌, eqb, ltb, List, [], ◌∷◌, ◌++◌, length, map, Option, Some, None, refl, sym, ap, ◌∙◌, arith, subst, inl, inr, append-nil, codes, slice_get, unwrap_or}
+use Rattle.std.proofs.Common.{◌≡◌, ℕ, suc, true, false, cond, not, eqb, ltb, List, [], ◌∷◌, ◌++◌, length, map, Option, Some, None, refl, sym, ap, ◌∙◌, subst, append-nil, codes, slice_get, unwrap_or}
 use Rattle.std.specs.Prelude.{flat_map}
 use Rattle.std.specs.Option.{option_map_or}
 use Rattle.std.specs.List.{list_all, list_any, last_or}
 use Rattle.std.specs.Str.{bytes_eq}
 use Rattle.mm_model.specs.Labels.{is_label_byte, is_label}
-use Rattle.mm_model.specs.Words.{Word, word, words_from, put_before, is_white}
+use Rattle.mm_model.specs.Words.{Word, word, words_from, put_before}
 use Rattle.sheet_text.specs.declared.sheet.SheetStep.{SheetStep}
 use Rattle.sheet_text.specs.Forms.{StepForm, step_of}
 use Rattle.sheet_text.specs.Lines.{Line, line, tokens, first_is_not_white, begins}
 use Rattle.sheet_text.specs.Layout.{spaced, step_token}
-use Rattle.sheet_text.specs.Spellable.{is_token, last_is_not_white, is_comment_line, is_comment_spellable}
-use Rattle.sheet_text.specs.SheetStatements.{Statement, tokens_in, is_word, opens_with, opens_proof, ends_proof, starts_with_star, is_comment, is_footer, is_distinct, is_proof}
+use Rattle.sheet_text.specs.Spellable.{is_token, is_comment_line, is_comment_spellable}
+use Rattle.sheet_text.specs.SheetStatements.{Statement, tokens_in, is_word, opens_proof, ends_proof, starts_with_star, is_comment, is_footer, is_distinct, is_proof}
 use Rattle.sheet_text.specs.TextFaults.{step_in, is_end, without_end, symbols_of, is_bad_distinct}
-use Rattle.sheet_laws.proofs.Tests.{and_left, and_right, both_true, true_not, not_true, or_left, or_right, all_more, all_append, cond_then, cond_else, differs, same_number, not_empty}
+use Rattle.sheet_laws.proofs.Tests.{and_left, and_right, both_true, not_true, or_left, or_right, cond_else, differs, same_number, not_empty}
 use Rattle.sheet_laws.proofs.SplitLaws.{is_not, has_no, is_inked, all_joined, label_token}
 use Rattle.sheet_laws.proofs.WordLaws.{tokens_at, tokens_at-parted, tokens_at-token}
 use Rattle.sheet_laws.proofs.LineLaws.{plain_from}
-use Rattle.sheet_laws.proofs.StatementLaws.{Piece, statement_at, IsWhole}
+use Rattle.sheet_laws.proofs.StatementLaws.{Piece, statement_at}
 use Rattle.sheet_laws.proofs.FormLaws.{IsWritable, form_of, header_tokens, more_header_tokens, step_of-token, BeginsAsLabel, step_token-begins, step_token-is_token}
 use Rattle.sheet_laws.proofs.SpokenLaws.{last_or-append, spoken, tokens-spoken, word-spoken, other_word, star_spaced, IsLaid, laid-spoken}
 
@@ -123,7 +123,7 @@ none_begins n (l ∷ ls) h = both_true _ _ (and_left _ _ h) (none_begins (suc n)
 star_laid : (bs : List ℕ) (ls : List (List ℕ)) → list_all is_comment_line ((42 ∷ bs) ∷ ls) ≡ true → list_all (λ m. not (first_is_not_white m)) ls ≡ true → IsLaid (comment_piece ((42 ∷ bs) ∷ ls))
 star_laid bs ls h k = record {
   lines = h;
-  whole = λ n. record { opening = refl; more = none_begins (suc n) ls k; proof = λ o. let e = star_no_proof n bs in absurd (cc); };
+  whole = λ n. record { opening = refl; more = none_begins (suc n) ls k; proof = λ o. let e = star_no_proof n bs in absurd (cc) };
 }
 
 star_is : (n : ℕ) (bs : List ℕ) (ls : List (List ℕ)) → IsNote (statement_at n (comment_piece ((42 ∷ bs) ∷ ls)))
@@ -170,7 +170,7 @@ proof_in n proof = append-nil (tokens (line n (spaced (codes "$=" ∷ proof ∷ 
 pub proof-laid : (proof : List ℕ) → has_no 10 proof ≡ true → IsLaid (proof_piece proof)
 proof-laid proof h = record {
   lines = both_true _ _ (both_true _ _ (ap (λ r. option_map_or is_inked r false) (last_or-append (Some 32) proof 32 (36 ∷ 46 ∷ [])))
-    (all_joined (is_not 10) 32 refl (codes "$=" ∷ proof ∷ codes "$." ∷ []) (both_true _ _ refl (both_true _ _ h refl)))) refl;
+      (all_joined (is_not 10) 32 refl (codes "$=" ∷ proof ∷ codes "$." ∷ []) (both_true _ _ refl (both_true _ _ h refl)))) refl;
   whole = λ n. record { opening = refl; more = refl; proof = λ o. (proof_ends n proof, refl) };
 }
 

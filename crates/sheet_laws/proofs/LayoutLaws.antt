@@ -1,23 +1,22 @@
 -- The statements of a layout.
-use Rattle.std.proofs.Common.{◌≡◌, ℕ, suc, ◌+◌, Bool, true, false, not, ◌&&◌, List, [], ◌∷◌, ◌++◌, length, map, Option, Some, None, refl, sym, ap, ◌∙◌, append_assoc, codes}
+use Rattle.std.proofs.Common.{◌≡◌, ℕ, suc, ◌+◌, true, false, List, [], ◌∷◌, ◌++◌, length, map, Option, Some, None, refl, sym, ap, ◌∙◌, append_assoc, codes}
 use Rattle.std.proofs.lemmas.Grind.{flat_map-append}
 use Rattle.std.specs.Prelude.{flat_map}
 use Rattle.std.specs.Option.{option_map_or}
 use Rattle.std.specs.List.{list_all, AllByRecursion}
 use Rattle.mm_model.specs.Labels.{is_label}
-use Rattle.sheet_text.specs.declared.sheet.SheetStep.{SheetStep}
 use Rattle.sheet_text.specs.declared.sheet.SheetItem.{SheetItem}
 use Rattle.sheet_text.specs.declared.sheet.SheetItem.TheVariants as item
 use Rattle.sheet_text.specs.declared.sheet.PairLine.{PairLine}
 use Rattle.sheet_text.specs.declared.sheet.Sheet.{Sheet}
-use Rattle.sheet_text.specs.Lines.{Line, lines_not_blank}
-use Rattle.sheet_text.specs.SheetStatements.{Statement, statements, statements_where}
+use Rattle.sheet_text.specs.Lines.{lines_not_blank}
+use Rattle.sheet_text.specs.SheetStatements.{statements, statements_where}
 use Rattle.sheet_text.specs.Layout.{ended, header_line, item_lines, pair_line, proof_lines, lines_of, step_names, layout}
-use Rattle.sheet_text.specs.Spellable.{is_token, is_comment_line, is_pair_spellable, is_comment_spellable}
-use Rattle.sheet_laws.proofs.Tests.{and_left, and_right, both_true, all_append}
+use Rattle.sheet_text.specs.Spellable.{is_token, is_comment_line, is_pair_spellable}
+use Rattle.sheet_laws.proofs.Tests.{and_left, and_right, all_append}
 use Rattle.sheet_laws.proofs.SplitLaws.{has_no}
 use Rattle.sheet_laws.proofs.LineLaws.{plain_from, lines-laid}
-use Rattle.sheet_laws.proofs.StatementLaws.{Piece, IsWhole, lines_in, lines_with, numbered, lines-numbered, statements-whole, statement_at}
+use Rattle.sheet_laws.proofs.StatementLaws.{Piece, IsWhole, lines_in, numbered, lines-numbered, statements-whole}
 use Rattle.sheet_laws.proofs.SpokenLaws.{IsLaid}
 use Rattle.sheet_laws.proofs.KindLaws.{step_piece, comment_piece, proof_piece, pair_piece, footer_piece, header_piece, step-laid, comment-laid, proof-laid, pair-laid, footer-laid, header-laid}
 use Rattle.sheet_laws.proofs.PlaceLaws.{AreItemsAt}
@@ -66,14 +65,14 @@ module _ (s : Sheet) (proof : Option (List ℕ)) (a : AreItemsAt (step_names s) 
   pub lines-pieces : lines_in (pieces s proof) ≡ lines_of s proof
   lines-pieces =
       ap (λ t. header_line s ∷ t) (
-        lines_in-append (item_pieces (step_names s) s.items) (tail_pieces proof s.pairs)
-        ∙ ap (λ t. t ++ lines_in (tail_pieces proof s.pairs)) (items_lines (step_names s) [] s.items a)
-        ∙ ap (λ t. flat_map (item_lines (step_names s)) s.items ++ t)
-          (lines_in-append (proof_pieces proof) (pair_pieces s.pairs ++ footer_piece ∷ [])
-          ∙ ap (λ t. t ++ lines_in (pair_pieces s.pairs ++ footer_piece ∷ [])) (proof_lines-pieces proof)
-          ∙ ap (λ t. proof_lines proof ++ t) (lines_in-append (pair_pieces s.pairs) (footer_piece ∷ []) ∙ ap (λ t. t ++ codes "$)" ∷ []) (pairs_lines s.pairs)))
-        ∙ sym (append_assoc (flat_map (item_lines (step_names s)) s.items ++ proof_lines proof) (map pair_line s.pairs) (codes "$)" ∷ [])
-          ∙ append_assoc (flat_map (item_lines (step_names s)) s.items) (proof_lines proof) (map pair_line s.pairs ++ codes "$)" ∷ [])))
+      lines_in-append (item_pieces (step_names s) s.items) (tail_pieces proof s.pairs)
+      ∙ ap (λ t. t ++ lines_in (tail_pieces proof s.pairs)) (items_lines (step_names s) [] s.items a)
+      ∙ ap (λ t. flat_map (item_lines (step_names s)) s.items ++ t)
+      (lines_in-append (proof_pieces proof) (pair_pieces s.pairs ++ footer_piece ∷ [])
+      ∙ ap (λ t. t ++ lines_in (pair_pieces s.pairs ++ footer_piece ∷ [])) (proof_lines-pieces proof)
+      ∙ ap (λ t. proof_lines proof ++ t) (lines_in-append (pair_pieces s.pairs) (footer_piece ∷ []) ∙ ap (λ t. t ++ codes "$)" ∷ []) (pairs_lines s.pairs)))
+      ∙ sym (append_assoc (flat_map (item_lines (step_names s)) s.items ++ proof_lines proof) (map pair_line s.pairs) (codes "$)" ∷ [])
+      ∙ append_assoc (flat_map (item_lines (step_names s)) s.items) (proof_lines proof) (map pair_line s.pairs ++ codes "$)" ∷ [])))
 
 -- ---- the statements
 
@@ -115,13 +114,12 @@ pub record IsReady (s : Sheet) (proof : Option (List ℕ)) : Type 0 where
   pub clean : IsClean proof
 
 pieces_laid : (s : Sheet) (proof : Option (List ℕ)) → IsReady s proof → AllByRecursion IsLaid (pieces s proof)
-pieces_laid s proof r =
-    (
-      header-laid s.theorem s.loc r.theorem r.loc,
-      all_by-append IsLaid (item_pieces (step_names s) s.items) (tail_pieces proof s.pairs) (items_laid (step_names s) [] s.items r.items)
-        (all_by-append IsLaid (proof_pieces proof) (pair_pieces s.pairs ++ footer_piece ∷ []) (proof_laid proof r.clean)
-        (all_by-append IsLaid (pair_pieces s.pairs) (footer_piece ∷ []) (pairs_laid s.pairs r.pairs) (footer-laid, tt))),
-    )
+pieces_laid s proof r = (
+  header-laid s.theorem s.loc r.theorem r.loc,
+  all_by-append IsLaid (item_pieces (step_names s) s.items) (tail_pieces proof s.pairs) (items_laid (step_names s) [] s.items r.items)
+      (all_by-append IsLaid (proof_pieces proof) (pair_pieces s.pairs ++ footer_piece ∷ []) (proof_laid proof r.clean)
+      (all_by-append IsLaid (pair_pieces s.pairs) (footer_piece ∷ []) (pairs_laid s.pairs r.pairs) (footer-laid, tt))),
+)
 
 pub layout_lines : (s : Sheet) (proof : Option (List ℕ)) → IsReady s proof → lines_not_blank (layout s proof) ≡ plain_from 1 (lines_in (pieces s proof))
 layout_lines s proof r =

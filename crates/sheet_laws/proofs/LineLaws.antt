@@ -1,8 +1,8 @@
 -- The lines of a text that is made of ended lines.
-use Rattle.std.proofs.Common.{◌≡◌, ℕ, suc, ◌+◌, ◌<◌, Bool, true, false, cond, not, ◌&&◌, eqb, List, [], ◌∷◌, ◌++◌, length, map, refl, sym, ap, ◌∙◌, arith, subst, inl, inr, filter, length-append, append_assoc}
+use Rattle.std.proofs.Common.{◌≡◌, ℕ, suc, ◌+◌, Bool, true, false, not, eqb, List, [], ◌∷◌, ◌++◌, length, refl, ap, ◌∙◌, arith, filter, append_assoc}
 use Rattle.std.proofs.lemmas.Bool.Decides.{nat_tests}
 use Rattle.std.specs.Prelude.{flat_map}
-use Rattle.std.specs.List.{list_all, onto_first, last_or}
+use Rattle.std.specs.List.{list_all, onto_first}
 use Rattle.mm_model.specs.Words.{is_white}
 use Rattle.sheet_text.specs.Lines.{Line, line, lines, trim_end, before_trimmed, numbered_from, is_blank, lines_not_blank}
 use Rattle.sheet_text.specs.Layout.{ended}

@@ -1,9 +1,8 @@
 -- Steps among the steps before them: their names and places.
-use Rattle.std.proofs.Common.{◌≡◌, ◌<◌, ℕ, suc, zero, ◌+◌, Bool, true, false, cond, not, ◌&&◌, ◌||◌, eqb, ltb, List, [], ◌∷◌, ◌++◌, length, map, get_or, Option, Some, None, option_map, refl, sym, ap, ◌∙◌, arith, subst, inl, inr, append_assoc, codes, length-append, unwrap_or}
+use Rattle.std.proofs.Common.{◌≡◌, ◌<◌, ℕ, suc, zero, Bool, true, false, not, ◌&&◌, ◌||◌, List, [], ◌∷◌, ◌++◌, length, map, get_or, Option, Some, None, option_map, refl, sym, ap, ◌∙◌, arith, subst, inl, inr, append_assoc, codes, length-append, unwrap_or}
 use Rattle.std.proofs.lemmas.Bool.{cases_Bool}
 use Rattle.std.proofs.lemmas.Bool.Decides.{nat_tests}
 use Rattle.std.specs.Prelude.{filter_map}
-use Rattle.std.specs.Option.{option_map_or}
 use Rattle.std.specs.List.{list_all, list_any, last_or, cons_option}
 use Rattle.std.specs.Str.{bytes_eq}
 use Rattle.mm_model.specs.Labels.{is_label}
@@ -13,14 +12,13 @@ use Rattle.sheet_text.specs.declared.sheet.Given.TheVariants as given
 use Rattle.sheet_text.specs.declared.sheet.SheetStep.{SheetStep}
 use Rattle.sheet_text.specs.declared.sheet.SheetItem.{SheetItem}
 use Rattle.sheet_text.specs.declared.sheet.SheetItem.TheVariants as item
-use Rattle.sheet_text.specs.Forms.{is_gap, is_entry, entry_of, marked_name}
+use Rattle.sheet_text.specs.Forms.{is_gap, is_entry, entry_of}
 use Rattle.sheet_text.specs.Layout.{place_text, step_of_item}
 use Rattle.sheet_text.specs.Reads.{given_of}
-use Rattle.sheet_text.specs.Spellable.{is_token, is_place_below, is_step_spellable, are_steps_spellable, is_comment_spellable, is_item_spellable}
-use Rattle.sheet_laws.proofs.Tests.{and_left, and_right, both_true, both_false, true_not, not_true, or_left, or_right, cond_then, cond_else, bytes_eq_same, same_bytes, all_append}
+use Rattle.sheet_text.specs.Spellable.{is_place_below, is_step_spellable, are_steps_spellable, is_comment_spellable, is_item_spellable}
+use Rattle.sheet_laws.proofs.Tests.{and_left, and_right, both_true, both_false, or_left, or_right, cond_then, cond_else, bytes_eq_same, same_bytes, all_append}
 use Rattle.sheet_laws.proofs.SplitLaws.{no_gap}
 use Rattle.sheet_laws.proofs.FormLaws.{IsWritable}
-
 
 -- ---- lists without a name twice
 
@@ -211,8 +209,7 @@ items-at full done n o p (item.Step s ∷ items) len e labels t l h k i =
     let here : is_step_spellable (length done) s ≡ true = subst (λ m. is_step_spellable m s ≡ true) len (and_left _ _ k) in
     let label : is_label s.name ≡ true = and_left _ _ (and_left _ _ (and_left _ _ (and_left _ _ here))) in
     let next : suc n ≡ length (done ++ s.name ∷ []) = omega (arith, len, length-append done (s.name ∷ [])) in
-    let whole : full ≡ (done ++ s.name ∷ []) ++ names_in rest = e ∙ sym (append_assoc done (s.name ∷ []) (names_in rest)) in
-    (
+    let whole : full ≡ (done ++ s.name ∷ []) ++ names_in rest = e ∙ sym (append_assoc done (s.name ∷ []) (names_in rest)) in (
       subst (λ f. IsStepAt f done s) (sym e) (step-at done s rest labels (subst (λ f. has_twice f ≡ false) e t) l h here),
       items-at full (done ++ s.name ∷ []) (suc n) (Some s.name) (Some s.hyp) items next whole (all_append is_label done (s.name ∷ []) labels (both_true _ _ label refl)) t l h (and_right _ _ k) i,
     )

@@ -1,11 +1,11 @@
 -- A text reads as one sheet at most, so a layout reads as its sheet alone.
-use Rattle.std.proofs.Common.{◌≡◌, ◌≤◌, ◌<◌, ℕ, Bool, true, false, cond, ltb, List, length, Option, Some, None, refl, sym, ap, ◌∙◌, arith, inl, inr}
+use Rattle.std.proofs.Common.{◌≡◌, ◌≤◌, ℕ, false, ltb, List, length, Some, sym, ap, ◌∙◌, arith}
 use Rattle.std.proofs.lemmas.Bool.Decides.{nat_tests}
 use Rattle.mm_model.specs.Faults.{fault}
 use Rattle.mm_model.specs.Limits.{most_sheet_bytes}
 use Rattle.sheet_text.specs.declared.sheet.Sheet.{Sheet}
 use Rattle.sheet_text.specs.Layout.{layout}
-use Rattle.sheet_text.specs.Reads.{Reads, ReadsAs, unnumbered}
+use Rattle.sheet_text.specs.Reads.{ReadsAs, unnumbered}
 use Rattle.sheet_text.specs.TextFaults.{text_fault, line_fault}
 use Rattle.sheet_laws.specs.ReadAgain.{ReadsOnlyAs, LaidOutReadsOnlyAs, ReadsAsOne}
 use Rattle.sheet_laws.proofs.Tests.{cond_else}

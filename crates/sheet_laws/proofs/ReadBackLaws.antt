@@ -1,9 +1,9 @@
 -- A layout reads as its sheet.
-use Rattle.std.proofs.Common.{◌≡◌, ◌<◌, ℕ, suc, zero, ◌+◌, Bool, true, false, cond, not, ◌&&◌, ◌||◌, eqb, List, [], ◌∷◌, ◌++◌, length, map, get_or, Option, Some, None, refl, sym, ap, ◌∙◌, arith, subst, inl, inr, append-nil, append_assoc, codes}
+use Rattle.std.proofs.Common.{◌≡◌, ℕ, suc, ◌+◌, true, false, not, eqb, List, [], ◌∷◌, ◌++◌, length, map, Option, Some, None, refl, sym, ap, ◌∙◌, arith, inl, inr, append_assoc, codes}
 use Rattle.std.proofs.lemmas.Bool.{cases_Bool}
 use Rattle.std.proofs.lemmas.List.Sums.{take_while-cons}
 use Rattle.std.specs.Prelude.{filter_map, take_while, Contains}
-use Rattle.std.specs.List.{list_all, list_any, AllByRecursion, last_or, cons_option}
+use Rattle.std.specs.List.{list_all, AllByRecursion, cons_option}
 use Rattle.mm_model.specs.Names.{contains}
 use Rattle.sheet_text.specs.declared.sheet.Given.{Given}
 use Rattle.sheet_text.specs.declared.sheet.SheetStep.{SheetStep}
@@ -11,24 +11,23 @@ use Rattle.sheet_text.specs.declared.sheet.SheetItem.{SheetItem}
 use Rattle.sheet_text.specs.declared.sheet.SheetItem.TheVariants as item
 use Rattle.sheet_text.specs.declared.sheet.PairLine.{PairLine}
 use Rattle.sheet_text.specs.declared.sheet.Sheet.{Sheet}
-use Rattle.sheet_text.specs.Forms.{Header, StepForm, header_of, entry_of}
-use Rattle.sheet_text.specs.Lines.{Line, line}
-use Rattle.sheet_text.specs.Layout.{layout, step_names, place_text}
-use Rattle.sheet_text.specs.Reads.{given_of, step_at, comment_of, items_at, items_from, pairs_at, sheet_with, sheet_in, Reads, ReadsAs, unnumbered_item, unnumbered_pairs, unnumbered}
-use Rattle.sheet_text.specs.SheetStatements.{Statement, statements, line_of, tokens_in, is_comment, is_footer, is_distinct}
+use Rattle.sheet_text.specs.Forms.{Header, StepForm, header_of}
+use Rattle.sheet_text.specs.Lines.{Line}
+use Rattle.sheet_text.specs.Layout.{layout, step_names}
+use Rattle.sheet_text.specs.Reads.{step_at, comment_of, items_at, items_from, pairs_at, sheet_with, sheet_in, ReadsAs, unnumbered_item, unnumbered_pairs, unnumbered}
+use Rattle.sheet_text.specs.SheetStatements.{Statement, line_of, tokens_in, is_comment, is_footer, is_distinct}
 use Rattle.sheet_text.specs.Spellable.{IsSpellable, is_pair_spellable, is_comment_spellable}
-use Rattle.sheet_text.specs.TextFaults.{step_in, symbols_of, line_fault}
+use Rattle.sheet_text.specs.TextFaults.{step_in, symbols_of}
 use Rattle.written_model.specs.ReadBack.{IsOneLine, LaidOutReadsBack}
-use Rattle.sheet_laws.proofs.Tests.{and_left, and_right, both_true, true_not, not_true, cond_then, cond_else, same_number, bytes_eq_same}
+use Rattle.sheet_laws.proofs.Tests.{and_left, and_right, both_true, true_not, not_true, cond_then, cond_else, same_number}
 use Rattle.sheet_laws.proofs.SplitLaws.{has_no}
 use Rattle.sheet_laws.proofs.LineLaws.{plain_from}
 use Rattle.sheet_laws.proofs.StatementLaws.{Piece, statement_at, lines_in, numbered, numbered-append}
 use Rattle.sheet_laws.proofs.FormLaws.{form_of, header_tokens, header_of-tokens}
 use Rattle.sheet_laws.proofs.SpokenLaws.{tokens-spoken}
-use Rattle.sheet_laws.proofs.KindLaws.{header-tokens, step_piece, comment_piece, proof_piece, pair_piece, footer_piece, header_piece, IsNote, step-is, comment-is, proof-is, pair-is, footer-is}
+use Rattle.sheet_laws.proofs.KindLaws.{header-tokens, step_piece, comment_piece, proof_piece, pair_piece, footer_piece, header_piece, step-is, comment-is, proof-is, pair-is}
 use Rattle.sheet_laws.proofs.PlaceLaws.{AreItemsAt, items-at, last_contains, cons_same}
 use Rattle.sheet_laws.proofs.LayoutLaws.{item_pieces, proof_pieces, pair_pieces, body_pieces, pieces, IsClean, IsReady, all_by-append, layout_statements}
-use Rattle.sheet_laws.proofs.RuleLaws.{not_yes}
 use Rattle.sheet_laws.proofs.ClosingLaws.{layout_sound}
 
 -- the statements before the footer
@@ -162,8 +161,8 @@ module _ (s : Sheet) (proof : Option (List ℕ)) (r : IsReady s proof) where
       ap (λ (ps : List Piece). before_footer (numbered 2 ps)) (front_body s proof)
       ∙ ap before_footer (numbered-append 2 (2 + length (lines_in (front_pieces s proof))) (front_pieces s proof) (footer_piece ∷ []) refl)
       ∙ front_taken 2 (2 + length (lines_in (front_pieces s proof))) (front_pieces s proof)
-        (all_by-append IsNoFooter (item_pieces (step_names s) s.items) (proof_pieces proof ++ pair_pieces s.pairs) (items_no_footer (step_names s) [] s.items r.items)
-        (all_by-append IsNoFooter (proof_pieces proof) (pair_pieces s.pairs) (proof_no_footer proof) (pairs_no_footer s.pairs r.pairs)))
+      (all_by-append IsNoFooter (item_pieces (step_names s) s.items) (proof_pieces proof ++ pair_pieces s.pairs) (items_no_footer (step_names s) [] s.items r.items)
+      (all_by-append IsNoFooter (proof_pieces proof) (pair_pieces s.pairs) (proof_no_footer proof) (pairs_no_footer s.pairs r.pairs)))
 
   says : sheet_in (numbered 1 (pieces s proof)) ≡ Some read
   says =
@@ -176,9 +175,9 @@ module _ (s : Sheet) (proof : Option (List ℕ)) (r : IsReady s proof) where
   same : unnumbered read ≡ unnumbered s
   same =
       ap (λ (items : List SheetItem). bare s.theorem s.loc items (map unnumbered_pairs (pairs_of front)))
-        (items_read (step_names s) [] 2 s.items (proof_pieces proof ++ pair_pieces s.pairs) r.items (λ m names. tail_no_items proof s.pairs m names r.pairs))
+      (items_read (step_names s) [] 2 s.items (proof_pieces proof ++ pair_pieces s.pairs) r.items (λ m names. tail_no_items proof s.pairs m names r.pairs))
       ∙ ap (bare s.theorem s.loc (map unnumbered_item s.items))
-        (items_pairs (step_names s) [] 2 s.items (proof_pieces proof ++ pair_pieces s.pairs) (map unnumbered_pairs s.pairs) r.items (λ m. tail_pairs m proof s.pairs r.pairs))
+      (items_pairs (step_names s) [] 2 s.items (proof_pieces proof ++ pair_pieces s.pairs) (map unnumbered_pairs s.pairs) r.items (λ m. tail_pairs m proof s.pairs r.pairs))
 
   pub reads_back : contains (step_names s) (codes "qed") ≡ true → ReadsAs (layout s proof) s
   reads_back q = record {

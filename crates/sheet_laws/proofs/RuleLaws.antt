@@ -1,15 +1,15 @@
 -- The rules of the statements behind the header, each at a statement of each kind.
-use Rattle.std.proofs.Common.{◌≡◌, ℕ, suc, Bool, true, false, cond, not, ◌&&◌, ◌||◌, List, [], ◌∷◌, ◌++◌, Option, Some, None, option_map, refl, sym, ap, ◌∙◌, codes, append-nil, is_none}
+use Rattle.std.proofs.Common.{◌≡◌, ℕ, Bool, true, false, not, ◌&&◌, ◌||◌, List, [], ◌∷◌, ◌++◌, Option, Some, None, option_map, refl, sym, ap, ◌∙◌, codes, is_none}
 use Rattle.std.specs.Prelude.{filter_map}
 use Rattle.std.specs.Option.{option_map_or}
-use Rattle.std.specs.List.{list_any, find, cons_option}
+use Rattle.std.specs.List.{list_any, cons_option}
 use Rattle.std.specs.Str.{bytes_eq}
-use Rattle.mm_model.specs.Faults.{Fault, fault, or_else, first_code, first_fault}
+use Rattle.mm_model.specs.Faults.{fault, or_else, first_code, first_fault}
 use Rattle.mm_model.specs.Names.{contains}
 use Rattle.sheet_text.specs.Forms.{StepForm}
-use Rattle.sheet_text.specs.SheetStatements.{Statement, line_of, tokens_in, is_comment, is_footer, is_distinct, is_proof}
-use Rattle.sheet_text.specs.TextFaults.{step_in, names_in, on_step, is_qed, bad_step, name_twice, hyp_unknown, qed_place, bad_distinct, symbols_of, is_bad_distinct, statement_rules}
-use Rattle.sheet_laws.proofs.Tests.{both_false, cond_else, or_left, or_right}
+use Rattle.sheet_text.specs.SheetStatements.{Statement, line_of, is_comment, is_footer, is_distinct, is_proof}
+use Rattle.sheet_text.specs.TextFaults.{step_in, names_in, on_step, is_qed, bad_step, name_twice, hyp_unknown, qed_place, bad_distinct, is_bad_distinct, statement_rules}
+use Rattle.sheet_laws.proofs.Tests.{both_false, cond_else}
 use Rattle.sheet_laws.proofs.KindLaws.{IsStep, IsNote, IsDistinct, IsProofLine, IsFooterLine}
 
 -- ---- the tables
@@ -96,7 +96,7 @@ step-sound before done s f same k fresh no_qed qed known = record {
   form = no_and _ (not (is_footer s)) (no_and _ (not (is_proof s)) (no_and _ (not (is_distinct s)) (and_no (not (is_comment s)) _ (known_form s f k.form))));
   fresh = step_of_form (λ g. contains (names_in before) g.name) s f k.form ∙ same f.name ∙ fresh;
   known = step_of_form (λ g. list_any (λ e. not (contains (names_in before) e)) (filter_map (λ (e : Option (List ℕ)). e) g.entries)) s f k.form
-    ∙ any_same (λ e. not (contains (names_in before) e)) (λ e. not (contains done e)) (λ e. ap not (same e)) (filter_map (λ (e : Option (List ℕ)). e) f.entries) ∙ known;
+      ∙ any_same (λ e. not (contains (names_in before) e)) (λ e. not (contains done e)) (λ e. ap not (same e)) (filter_map (λ (e : Option (List ℕ)). e) f.entries) ∙ known;
   qed = both_false _ _ (step_of_form (λ g. contains (names_in before) (codes "qed") || (is_qed g && g.hyp)) s f k.form ∙ both_false _ _ (same (codes "qed") ∙ no_qed) qed) (no_and _ _ k.footer);
   distinct = no_and _ _ k.distinct;
 }

@@ -1,17 +1,16 @@
 -- What holds where no rule holds: the statements of a text without a fault.
-use Rattle.std.proofs.Common.{◌≡◌, ◌⊎◌, ℕ, suc, Bool, true, false, cond, not, ◌&&◌, ◌||◌, List, [], ◌∷◌, ◌++◌, length, map, Option, Some, None, option_map, refl, sym, ap, ◌∙◌, inl, inr, codes, is_none}
+use Rattle.std.proofs.Common.{◌≡◌, ℕ, Bool, true, false, cond, not, ◌&&◌, List, [], ◌∷◌, Option, Some, None, option_map, refl, sym, ap, ◌∙◌, inl, inr, is_none}
 use Rattle.std.proofs.lemmas.Bool.{cases_Bool}
 use Rattle.std.proofs.lemmas.List.Sums.{take_while-cons}
 use Rattle.std.specs.Prelude.{take_while}
 use Rattle.std.specs.List.{list_any, AllByRecursion}
 use Rattle.mm_model.specs.Faults.{Fault, fault, or_else, earlier, first_code, first_fault, comes_first}
 use Rattle.sheet_text.specs.Lines.{Line}
-use Rattle.sheet_text.specs.Forms.{Header, header_of}
+use Rattle.sheet_text.specs.Forms.{header_of}
 use Rattle.sheet_text.specs.SheetStatements.{Statement, line_of, tokens_in, is_footer, is_proof, ends_proof}
-use Rattle.sheet_text.specs.TextFaults.{step_in, bad_step, name_twice, hyp_unknown, qed_place, bad_distinct, statement_rules, lines_from, past_footer, closing_fault, statement_fault, no_header, line_fault}
-use Rattle.sheet_laws.proofs.Tests.{cond_then, cond_else, not_true, true_not}
+use Rattle.sheet_text.specs.TextFaults.{bad_step, name_twice, hyp_unknown, qed_place, bad_distinct, statement_rules, lines_from, closing_fault, statement_fault}
+use Rattle.sheet_laws.proofs.Tests.{cond_else}
 use Rattle.sheet_laws.proofs.RuleLaws.{IsSound, Passes}
-
 
 rule_false : (b : Bool) (code : ℕ) (rule : List Statement → Statement → Bool) (o : Option (ℕ × (List Statement → Statement → Bool)))
     → option_map (λ (q : ℕ × (List Statement → Statement → Bool)). q.0) (cond b (Some (code, rule)) o) ≡ None

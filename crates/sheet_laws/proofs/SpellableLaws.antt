@@ -1,21 +1,20 @@
 -- What a text without a fault says can be spelled.
-use Rattle.std.proofs.Common.{◌≡◌, ◌⊎◌, ℕ, suc, Bool, true, false, cond, not, ◌&&◌, ◌||◌, List, [], ◌∷◌, ◌++◌, length, map, Option, Some, None, refl, sym, ap, ◌∙◌, subst, inl, inr, codes, append-nil, append_assoc, is_none, slice_get}
+use Rattle.std.proofs.Common.{◌≡◌, ℕ, true, false, cond, not, ◌&&◌, List, [], ◌∷◌, ◌++◌, Option, Some, None, refl, sym, ap, ◌∙◌, subst, inl, inr, codes, append-nil, append_assoc, is_none, slice_get}
 use Rattle.std.proofs.lemmas.Bool.{cases_Bool}
 use Rattle.std.specs.Prelude.{filter_map, take_while}
-use Rattle.std.specs.List.{list_all, AllByRecursion}
+use Rattle.std.specs.List.{AllByRecursion}
 use Rattle.std.specs.Str.{bytes_eq}
-use Rattle.mm_model.specs.Faults.{Fault, fault, or_else, earlier}
+use Rattle.mm_model.specs.Faults.{fault}
 use Rattle.mm_model.specs.Names.{contains}
 use Rattle.sheet_text.specs.declared.sheet.Sheet.{Sheet}
-use Rattle.sheet_text.specs.Forms.{Header, StepForm, header_of}
+use Rattle.sheet_text.specs.Forms.{Header, header_of}
 use Rattle.sheet_text.specs.Lines.{Line, begins, tokens, lines_not_blank, line_past_end}
-use Rattle.sheet_text.specs.Layout.{steps}
-use Rattle.sheet_text.specs.Reads.{items_from, pairs_at, sheet_with, sheet_in, Reads}
+use Rattle.sheet_text.specs.Reads.{items_from, pairs_at, sheet_with, sheet_in}
 use Rattle.sheet_text.specs.SheetStatements.{Statement, statement, statements, statements_where, opens_proof, ends_proof, line_of, tokens_in, is_word, is_footer}
 use Rattle.sheet_text.specs.Spellable.{IsSpellable}
-use Rattle.sheet_text.specs.TextFaults.{step_in, names_in as names_before, on_step, no_header, statement_fault, closing_fault, line_fault, qed_place, is_qed}
+use Rattle.sheet_text.specs.TextFaults.{step_in, names_in as names_before, no_header, statement_fault, closing_fault}
 use Rattle.written_model.specs.ReadBack.{SoundIsRead, ReadIsSpellable}
-use Rattle.sheet_laws.proofs.Tests.{and_left, and_right, or_right, false_not, cond_then, cond_else, same_bytes}
+use Rattle.sheet_laws.proofs.Tests.{and_left, or_right, false_not, cond_then, cond_else, same_bytes}
 use Rattle.sheet_laws.proofs.PlaceLaws.{names_in, steps_in}
 use Rattle.sheet_laws.proofs.RuleLaws.{SameNames, names_more, names_kept}
 use Rattle.sheet_laws.proofs.GoodForms.{case_of, header_good, header_first, tokens_of-tokens}

@@ -1,24 +1,19 @@
 -- The steps of a text without a fault can be spelled.
-use Rattle.std.proofs.Common.{◌≡◌, ◌<◌, ◌⊎◌, ℕ, suc, zero, ◌+◌, Bool, true, false, cond, not, ◌&&◌, ◌||◌, eqb, ltb, List, [], ◌∷◌, ◌++◌, length, map, Option, Some, None, option_map, refl, sym, ap, ◌∙◌, arith, subst, inl, inr, codes, append-nil, append_assoc, length-append, unwrap_or}
+use Rattle.std.proofs.Common.{◌≡◌, ◌<◌, ℕ, suc, Bool, true, false, cond, not, ◌&&◌, ◌||◌, List, [], ◌∷◌, ◌++◌, length, map, Option, Some, None, option_map, refl, sym, ap, ◌∙◌, arith, subst, inl, inr, codes, append-nil, append_assoc, length-append, unwrap_or}
 use Rattle.std.proofs.lemmas.Bool.{cases_Bool}
 use Rattle.std.proofs.lemmas.Bool.Decides.{nat_tests}
 use Rattle.std.specs.Prelude.{filter_map}
-use Rattle.std.specs.Option.{option_map_or}
-use Rattle.std.specs.List.{list_all, list_any, last_or, cons_option, AllByRecursion}
+use Rattle.std.specs.List.{list_all, list_any, last_or, cons_option}
 use Rattle.std.specs.Str.{bytes_eq}
 use Rattle.mm_model.specs.Names.{contains, has_twice, first_number}
-use Rattle.sheet_text.specs.declared.sheet.Given.{Given}
-use Rattle.sheet_text.specs.declared.sheet.Given.TheVariants as given
 use Rattle.sheet_text.specs.declared.sheet.SheetStep.{SheetStep}
-use Rattle.sheet_text.specs.declared.sheet.SheetItem.{SheetItem}
-use Rattle.sheet_text.specs.declared.sheet.SheetItem.TheVariants as item
-use Rattle.sheet_text.specs.Forms.{StepForm, marked_name, step_of}
+use Rattle.sheet_text.specs.Forms.{StepForm, step_of}
 use Rattle.sheet_text.specs.Reads.{given_of, step_at, comment_of, items_at, items_from}
-use Rattle.sheet_text.specs.SheetStatements.{Statement, line_of, tokens_in, is_comment, is_footer}
-use Rattle.sheet_text.specs.Spellable.{is_token, is_place_below, is_step_spellable, are_steps_spellable}
-use Rattle.sheet_text.specs.TextFaults.{step_in, names_in as names_before, on_step, is_qed}
-use Rattle.sheet_laws.proofs.Tests.{and_left, and_right, both_true, both_false, true_not, not_true, false_not, or_left, or_right, cond_then, cond_else, same_bytes, bytes_eq_same}
-use Rattle.sheet_laws.proofs.PlaceLaws.{names_in, hyps_in, steps_in, apart}
+use Rattle.sheet_text.specs.SheetStatements.{Statement, line_of, tokens_in, is_comment}
+use Rattle.sheet_text.specs.Spellable.{is_place_below, is_step_spellable, are_steps_spellable}
+use Rattle.sheet_text.specs.TextFaults.{step_in, names_in as names_before, is_qed}
+use Rattle.sheet_laws.proofs.Tests.{both_true, both_false, false_not, or_left, or_right, cond_then, cond_else, same_bytes, bytes_eq_same}
+use Rattle.sheet_laws.proofs.PlaceLaws.{names_in, hyps_in, steps_in}
 use Rattle.sheet_laws.proofs.RuleLaws.{IsSound, SameNames, names_more, names_kept, step_of_form, any_append}
 use Rattle.sheet_laws.proofs.GoodForms.{case_of, IsGoodStep, step_good, tokens_of-tokens}
 use Rattle.sheet_laws.proofs.SoundLaws.{AreSound}
@@ -82,7 +77,7 @@ fine before done s f same h e =
       good = step_good (tokens_in s) f (tokens_of-tokens (s.opening ∷ s.more)) (form_from s f e);
       fresh = sym (same f.name) ∙ sym (step_of_form (λ g. contains (names_before before) g.name) s f e) ∙ h.fresh;
       known = any_alike (λ n. not (contains done n)) (λ n. not (contains (names_before before) n)) (λ n. ap not (sym (same n))) (filter_map (λ (x : Option (List ℕ)). x) f.entries)
-        ∙ sym (step_of_form (λ g. list_any (λ n. not (contains (names_before before) n)) (filter_map (λ (x : Option (List ℕ)). x) g.entries)) s f e) ∙ h.known;
+          ∙ sym (step_of_form (λ g. list_any (λ n. not (contains (names_before before) n)) (filter_map (λ (x : Option (List ℕ)). x) g.entries)) s f e) ∙ h.known;
       no_qed = sym (same (codes "qed")) ∙ or_left _ _ at;
       qed = or_right _ _ at;
     }
@@ -141,19 +136,18 @@ more_fine done line f steps h k none =
       spellable = both_true _ _ (step_spellable done line f h) (subst (λ n. are_steps_spellable n steps ≡ true) len k.spellable);
       differ = ap has_twice (sym (append_assoc done (f.name ∷ []) (names_in steps))) ∙ k.differ;
       last = λ o p n q.
-        elim (cases_Bool (contains (done ++ f.name ∷ []) (codes "qed"))) [
-          | inl e ↦
-              let empty = none e in
-              let named : contains (f.name ∷ []) (codes "qed") ≡ true = ap (λ b. b || contains (f.name ∷ []) (codes "qed")) (sym n) ∙ sym (any_append (bytes_eq (codes "qed")) done (f.name ∷ [])) ∙ e in
-              let is : codes "qed" ≡ f.name = same_bytes (codes "qed") f.name (only _ named) in
-              let qed : is_qed f ≡ true = ap (λ (t : List ℕ). bytes_eq t (codes "qed")) (sym is) in
-              let hyp : f.hyp ≡ false = ap (λ b. b && f.hyp) (sym qed) ∙ h.qed in
-              (
-                ap (λ (ss : List SheetStep). last_or (Some f.name) (names_in ss)) empty ∙ ap (λ (t : List ℕ). Some t) (sym is),
-                ap (λ (ss : List SheetStep). last_or (Some f.hyp) (hyps_in ss)) empty ∙ ap (λ (b : Bool). Some b) hyp,
-              )
-          | inr e ↦ k.last (Some f.name) (Some f.hyp) e (ap (λ l. contains l (codes "qed")) (append_assoc done (f.name ∷ []) (names_in steps)) ∙ q)
-        ];
+          elim (cases_Bool (contains (done ++ f.name ∷ []) (codes "qed"))) [
+            | inl e ↦
+                let empty = none e in
+                let named : contains (f.name ∷ []) (codes "qed") ≡ true = ap (λ b. b || contains (f.name ∷ []) (codes "qed")) (sym n) ∙ sym (any_append (bytes_eq (codes "qed")) done (f.name ∷ [])) ∙ e in
+                let is : codes "qed" ≡ f.name = same_bytes (codes "qed") f.name (only _ named) in
+                let qed : is_qed f ≡ true = ap (λ (t : List ℕ). bytes_eq t (codes "qed")) (sym is) in
+                let hyp : f.hyp ≡ false = ap (λ b. b && f.hyp) (sym qed) ∙ h.qed in (
+                  ap (λ (ss : List SheetStep). last_or (Some f.name) (names_in ss)) empty ∙ ap (λ (t : List ℕ). Some t) (sym is),
+                  ap (λ (ss : List SheetStep). last_or (Some f.hyp) (hyps_in ss)) empty ∙ ap (λ (b : Bool). Some b) hyp,
+                )
+            | inr e ↦ k.last (Some f.name) (Some f.hyp) e (ap (λ l. contains l (codes "qed")) (append_assoc done (f.name ∷ []) (names_in steps)) ∙ q)
+          ];
     }
   where
     only : (b : Bool) → (b || false) ≡ true → b ≡ true
@@ -168,6 +162,6 @@ steps_fine (s ∷ ss) before done a same t =
           let h = fine before done s f same a.0 e in
           let later = names_more before done s f e same in
           subst (AreFine done) (sym (steps_more s ss done f e))
-            (more_fine done (line_of s) f _ h (steps_fine ss (s ∷ before) (done ++ f.name ∷ []) a.1 later (twice_push done f.name t h.fresh)) (no_steps ss (s ∷ before) (done ++ f.name ∷ []) a.1 later))
+          (more_fine done (line_of s) f _ h (steps_fine ss (s ∷ before) (done ++ f.name ∷ []) a.1 later (twice_push done f.name t h.fresh)) (no_steps ss (s ∷ before) (done ++ f.name ∷ []) a.1 later))
       | inr e ↦ subst (AreFine done) (sym (steps_kept s ss done e)) (steps_fine ss (s ∷ before) done a.1 (names_kept before done s e same) t)
     ]

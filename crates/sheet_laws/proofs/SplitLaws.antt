@@ -1,14 +1,13 @@
 -- Labels, entries, and texts that were joined by a byte.
-use Rattle.std.proofs.Common.{◌≡◌, ℕ, suc, Bool, true, false, cond, not, ◌&&◌, ◌||◌, eqb, List, [], ◌∷◌, ◌++◌, length, map, refl, sym, ap, ◌∙◌, arith, subst, inl, inr, append_assoc, codes}
+use Rattle.std.proofs.Common.{◌≡◌, ℕ, Bool, true, false, not, eqb, List, [], ◌∷◌, ◌++◌, refl, ap, ◌∙◌, arith, inl, inr, codes}
 use Rattle.std.proofs.lemmas.Bool.{cases_Bool}
 use Rattle.std.proofs.lemmas.Bool.Decides.{nat_tests}
 use Rattle.std.specs.List.{list_all, slice_split, onto_first, join_with_byte}
-use Rattle.std.specs.Str.{bytes_eq}
 use Rattle.mm_model.specs.Labels.{is_label_byte, is_label}
 use Rattle.mm_model.specs.Words.{is_white}
 use Rattle.sheet_text.specs.Forms.{is_gap, is_entry, parts_of}
 use Rattle.sheet_text.specs.Spellable.{is_token}
-use Rattle.sheet_laws.proofs.Tests.{and_left, and_right, both_true, both_false, true_not, not_true, not_empty, cond_then, cond_else, differs, label_byte_no_white, all_more, all_append, same_bytes}
+use Rattle.sheet_laws.proofs.Tests.{and_left, and_right, both_true, true_not, not_true, cond_then, cond_else, differs, label_byte_no_white, all_more, all_append, same_bytes}
 
 -- a test that a byte is another
 abbrev pub is_not : ℕ → ℕ → Bool

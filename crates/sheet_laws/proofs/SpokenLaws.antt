@@ -1,13 +1,12 @@
 -- Lines of tokens that are parted by one space.
-use Rattle.std.proofs.Common.{◌≡◌, ℕ, suc, ◌+◌, Bool, true, false, cond, not, ◌&&◌, ◌||◌, eqb, List, [], ◌∷◌, ◌++◌, length, map, Option, Some, None, refl, sym, ap, ◌∙◌, arith, subst, inl, inr, append-nil, codes, slice_get}
+use Rattle.std.proofs.Common.{◌≡◌, ℕ, Bool, true, false, eqb, List, [], ◌∷◌, ◌++◌, Option, Some, None, refl, sym, ap, ◌∙◌, append-nil, codes, slice_get}
 use Rattle.std.specs.Option.{option_map_or}
 use Rattle.std.specs.List.{list_all, last_or}
 use Rattle.std.specs.Str.{bytes_eq}
-use Rattle.mm_model.specs.Words.{is_white}
-use Rattle.sheet_text.specs.Lines.{Line, line, tokens, first_is_not_white}
+use Rattle.sheet_text.specs.Lines.{line, tokens, first_is_not_white}
 use Rattle.sheet_text.specs.Layout.{spaced}
-use Rattle.sheet_text.specs.Spellable.{is_token, last_is_not_white, is_comment_line}
-use Rattle.sheet_text.specs.SheetStatements.{Statement, tokens_in, is_word, opens_with, opens_proof, starts_with_star, is_comment}
+use Rattle.sheet_text.specs.Spellable.{is_token, is_comment_line}
+use Rattle.sheet_text.specs.SheetStatements.{tokens_in, is_word, opens_with, starts_with_star}
 use Rattle.sheet_laws.proofs.Tests.{and_left, and_right, both_true, true_not, not_true, or_left, or_right, all_more}
 use Rattle.sheet_laws.proofs.SplitLaws.{is_not, has_no, is_inked, all_joined}
 use Rattle.sheet_laws.proofs.WordLaws.{tokens_at-spaced}

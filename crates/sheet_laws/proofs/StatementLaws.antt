@@ -1,12 +1,12 @@
 -- The statements of lines that were put together from statements.
-use Rattle.std.proofs.Common.{◌≡◌, ℕ, suc, ◌+◌, ◌<◌, Bool, true, false, cond, not, ◌&&◌, eqb, List, [], ◌∷◌, ◌++◌, length, map, refl, sym, ap, ◌∙◌, arith, subst, inl, inr, length-append, append_assoc}
+use Rattle.std.proofs.Common.{◌≡◌, ℕ, suc, ◌+◌, true, false, cond, not, List, [], ◌∷◌, ◌++◌, length, refl, sym, ap, ◌∙◌, arith, inl, inr, length-append}
 use Rattle.std.proofs.lemmas.Bool.{cases_Bool}
 use Rattle.std.proofs.lemmas.List.Sums.{take_while-cons}
 use Rattle.std.specs.Prelude.{flat_map, take_while}
 use Rattle.std.specs.List.{list_all, AllByRecursion}
 use Rattle.sheet_text.specs.Lines.{Line, line, begins}
 use Rattle.sheet_text.specs.SheetStatements.{Statement, statement, statements_where, opens_proof, ends_proof}
-use Rattle.sheet_laws.proofs.Tests.{and_left, and_right, both_true, both_false, true_not, not_true, cond_then, cond_else}
+use Rattle.sheet_laws.proofs.Tests.{and_left, and_right, true_not, cond_then, cond_else}
 use Rattle.sheet_laws.proofs.LineLaws.{plain_from, plain_from-append}
 
 abbrev pub lines_with : List Statement → List Line

@@ -1,5 +1,5 @@
 -- The words of a text.
-use Rattle.std.proofs.Common.{◌≡◌, ℕ, suc, ◌+◌, ◌<◌, Bool, true, false, cond, not, ◌&&◌, eqb, List, [], ◌∷◌, ◌++◌, length, map, refl, sym, ap, ◌∙◌, arith, subst, inl, inr}
+use Rattle.std.proofs.Common.{◌≡◌, ℕ, suc, ◌+◌, ◌<◌, true, false, cond, not, eqb, List, [], ◌∷◌, ◌++◌, length, map, refl, ap, ◌∙◌, arith, inl, inr}
 use Rattle.std.proofs.lemmas.Bool.{cases_Bool}
 use Rattle.std.proofs.lemmas.Bool.Decides.{nat_tests}
 use Rattle.std.proofs.lemmas.List.{map-append}
@@ -52,7 +52,7 @@ words_from-parted at (b ∷ bs) w ys h =
     let n : suc (suc at + length bs) ≡ suc (at + length (b ∷ bs)) = omega arith in
     let rest = words_from (suc (suc at + length bs)) ys in
     let ih : words_from (suc at) (bs ++ w ∷ ys) ≡ words_from (suc at) bs ++ words_from (suc (at + length (b ∷ bs))) ys =
-        words_from-parted (suc at) bs w ys h ∙ ap (λ k. words_from (suc at) bs ++ words_from k ys) n in
+    words_from-parted (suc at) bs w ys h ∙ ap (λ k. words_from (suc at) bs ++ words_from k ys) n in
     elim (cases_Bool (is_white b)) [
       | inl e ↦ rw e ih
       | inr e ↦ rw e (ap (put_before at b) ih ∙ put_before-front at b (words_from (suc at) bs) (words_from (suc (at + length (b ∷ bs))) ys)
