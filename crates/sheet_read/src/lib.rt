@@ -1,0 +1,10 @@
+//! Reading the text of a worksheet: its header, comments, steps, `$d` statements and footer, or the first fault of the
+//! text with its line.
+#![tactic(auto)]
+
+mod fault;
+mod lines;
+
+pub use fault::{SheetCode, SheetFault};
+pub use lines::LineKind;
+pub use sheet_text::{Given, PairLine, Sheet, SheetItem, SheetStep};
