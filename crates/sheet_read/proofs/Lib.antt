@@ -1,5 +1,11 @@
 pub mod Basics
 pub mod Codes
+pub mod Headers
 pub mod KindFacts
 pub mod Law
 pub mod Order
+pub mod Splits
+pub mod StatementTokens
+pub mod TextLines
+pub mod TokenSteps
+pub mod Trims

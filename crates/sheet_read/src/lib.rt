@@ -3,8 +3,8 @@
 #![tactic(auto)]
 
 mod fault;
+mod forms;
 mod lines;
 
 pub use fault::{SheetCode, SheetFault};
-pub use lines::LineKind;
 pub use sheet_text::{Given, PairLine, Sheet, SheetItem, SheetStep};
