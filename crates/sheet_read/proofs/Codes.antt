@@ -37,7 +37,7 @@ or_assoc : (a b c : Bool) → ((a || b) || c) ≡ (a || (b || c))
 or_assoc true b c = refl
 or_assoc false b c = refl
 
-contains-end : (names : List (List ℕ)) (n x : List ℕ) → contains (names ++ n ∷ []) x ≡ (contains names x || bytes_eq x n)
+pub contains-end : (names : List (List ℕ)) (n x : List ℕ) → contains (names ++ n ∷ []) x ≡ (contains names x || bytes_eq x n)
 contains-end [] n x = or_swap (bytes_eq x n) false
 contains-end (m ∷ ms) n x = ap (λ (b : Bool). bytes_eq x m || b) (contains-end ms n x) ∙ sym (or_assoc (bytes_eq x m) (contains ms x) (bytes_eq x n))
 

@@ -4,14 +4,15 @@ use Rattle.std.specs.List.{list_any}
 use Rattle.std.specs.Str.{bytes_eq}
 use Rattle.mm_model.specs.Faults.{Fault, fault}
 use Rattle.mm_model.specs.Names.{contains}
+use Rattle.sheet_text.specs.declared.sheet.Given.{Given}
 use Rattle.sheet_text.specs.declared.sheet.SheetItem.{SheetItem}
 use Rattle.sheet_text.specs.declared.sheet.SheetItem.TheVariants as item
 use Rattle.sheet_text.specs.declared.sheet.PairLine.{PairLine}
 use Rattle.sheet_text.specs.Lines.{Line, begins, tokens}
 use Rattle.sheet_text.specs.SheetStatements.{Statement, statement, line_of, tokens_in, starts_with_star, ends_proof}
-use Rattle.sheet_text.specs.Forms.{StepForm, step_of}
+use Rattle.sheet_text.specs.Forms.{StepForm, entry_of, step_of}
 use Rattle.sheet_text.specs.TextFaults.{is_qed, is_bad_distinct, symbols_of}
-use Rattle.sheet_text.specs.Reads.{step_at, comment_of}
+use Rattle.sheet_text.specs.Reads.{given_of, step_at, comment_of}
 use Rattle.sheet_read.specs.declared.lines.LineKind.{LineKind}
 use Rattle.sheet_read.specs.declared.lines.LineKind.TheVariants as kind
 
@@ -43,6 +44,11 @@ statement_at l ls = statement l (take_while (λ m. not (begins m)) ls)
 -- some place names no step
 abbrev pub is_unknown : List (List ℕ) → List (Option (List ℕ)) → Bool
 is_unknown names entries = list_any (λ e. not (contains names e)) (filter_map (λ (e : Option (List ℕ)). e) entries)
+
+-- the places that entries are, where each names a step; else none
+abbrev pub AreGiven : List (List ℕ) → List (List ℕ) → Option (List Given) → Type 0
+AreGiven names entries None = is_unknown names (map entry_of entries) ≡ true
+AreGiven names entries (Some places) = (is_unknown names (map entry_of entries) ≡ false) × (places ≡ map (given_of names) (map entry_of entries))
 
 -- `qed` stands before, or is a hypothesis
 abbrev pub is_misplaced : List (List ℕ) → StepForm → Bool

@@ -5,6 +5,8 @@
 mod fault;
 mod forms;
 mod lines;
+mod reader;
+mod statements;
 
 pub use fault::{SheetCode, SheetFault};
 pub use sheet_text::{Given, PairLine, Sheet, SheetItem, SheetStep};

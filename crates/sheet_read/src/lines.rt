@@ -5,7 +5,7 @@ ghost use Rattle.std.specs.List.{last_or};
 ghost use Rattle.sheet_text.specs.Lines.{trim_end, first_is_not_white, lines_not_blank, line_past_end, tokens};
 ghost use Rattle.sheet_text.specs.SheetStatements.{ends_proof, tokens_in, statement};
 ghost use Rattle.sheet_read.specs.Parts.{line_in, lines_in, targets, target, tokens_of_bytes};
-ghost use Rattle.sheet_read.specs.Reading.{kind_of, kind_of_token};
+ghost use Rattle.sheet_read.specs.Reading.{kind_of, kind_of_token, is_footer_kind};
 
 use bstr::ByteSlice;
 use mm_base::Memory;
@@ -152,6 +152,13 @@ pub fn kind_of(line: &TextLine<'_>) -> LineKind
         None => LineKind::Step,
         Some(token) => kind_of_token(token),
     }
+}
+
+/// Whether a line of this kind is the footer.
+pub fn is_footer(kind: LineKind) -> bool
+    ensures { result ≡ is_footer_kind kind }
+{
+    matches!(kind, LineKind::Footer)
 }
 
 /// Appends the tokens of some bytes.
