@@ -62,7 +62,7 @@ faults-later before s ss e = ap (λ (o : Option ℕ). or_else (option_map (λ co
 faults-here : (before : List Statement) (s : Statement) (ss : List Statement) (c : ℕ) → first_code statement_rules before s ≡ Some c → faults before (s ∷ ss) ≡ Some (fault (line_of s) c)
 faults-here before s ss c e = ap (λ (o : Option ℕ). or_else (option_map (λ code. fault (line_of s) code) o) (faults (s ∷ before) ss)) e
 
-closing-later : (past : ℕ) (all : List Line) (s : Statement) (ss : List Statement) → is_footer s ≡ false → is_proof s ≡ false → closing_fault past all (s ∷ ss) ≡ closing_fault past all ss
+pub closing-later : (past : ℕ) (all : List Line) (s : Statement) (ss : List Statement) → is_footer s ≡ false → is_proof s ≡ false → closing_fault past all (s ∷ ss) ≡ closing_fault past all ss
 closing-later past all s ss f p = rw (f, p) refl
 
 kept-more : (s : Statement) (ss : List Statement) → is_footer s ≡ false → kept (s ∷ ss) ≡ s ∷ kept ss

@@ -13,3 +13,5 @@ pub mod StepCodes
 pub mod TextLines
 pub mod TokenSteps
 pub mod Trims
+pub mod Walks
+pub mod WholeLaw

@@ -1,5 +1,5 @@
 -- The lines as they are cut off a text, and the lines of the definitions.
-use Rattle.std.proofs.Common.{◌≡◌, ℕ, suc, ◌+◌, ◌<◌, ◌≤◌, Bool, true, false, cond, not, ◌==◌, eqb, List, [], ◌∷◌, ◌++◌, length, take, drop, map, filter, refl, sym, ap, ◌∙◌, subst, arith, inl, inr, append_assoc, append-nil}
+use Rattle.std.proofs.Common.{◌≡◌, ℕ, suc, ◌+◌, ◌<◌, ◌≤◌, ◌^◌, Bool, true, false, cond, not, ◌==◌, eqb, List, [], ◌∷◌, ◌++◌, length, take, drop, map, filter, refl, sym, ap, ◌∙◌, subst, arith, inl, inr, append_assoc, append-nil, length-append}
 use Rattle.std.specs.List.{onto_first}
 use Rattle.std.proofs.lemmas.Bool.{cases_Bool}
 use Rattle.std.proofs.lemmas.Bool.Decides.{nat_tests}
@@ -8,7 +8,8 @@ use Rattle.bstr.specs.Text.{line_len, lines_of}
 use Rattle.bstr.proofs.lemmas.LineLemmas.{lines-nil, lines-step}
 use Rattle.mm_model.specs.Words.{is_white}
 use Rattle.sheet_text.specs.Lines.{Line, line, lines, before_trimmed, trim_end, is_blank, numbered_from, lines_not_blank, line_past_end}
-use Rattle.sheet_read.specs.Parts.{kept_from}
+use Rattle.sheet_read.specs.declared.lines.TextLine.{TextLine}
+use Rattle.sheet_read.specs.Parts.{kept_from, line_in, lines_in}
 use Rattle.sheet_read.proofs.Basics.{cond_then, cond_else}
 
 -- the lines with their line feeds, from the first byte on
@@ -83,12 +84,13 @@ pub record Keeps (kept : List Line) (number : ℕ) (rest : List (List ℕ)) (tex
   pub lines : kept ++ kept_from number rest ≡ lines_not_blank text
   pub count : number + length rest ≡ line_past_end text
   pub few : number + length rest ≤ suc (length text)
+  pub fits : length kept + length rest ≤ length text
 
 pub keeps-start : (text : List ℕ) → Keeps [] 1 (lines_of text) text
 keeps-start text =
     let n = count-lines text in
     let few = lines-few text in
-    record { lines = kept-lines text; count = omega arith; few = omega arith }
+    record { lines = kept-lines text; count = omega arith; few = omega arith; fits = omega arith }
 
 pub keeps-line : (kept : List Line) (number : ℕ) (bytes : List ℕ) (rest : List (List ℕ)) (text : List ℕ) → is_blank (line number (trim_end bytes)) ≡ false → Keeps kept number (bytes ∷ rest) text → Keeps (kept ++ line number (trim_end bytes) ∷ []) (number + 1) rest text
 keeps-line kept number bytes rest text e h = record {
@@ -100,6 +102,7 @@ keeps-line kept number bytes rest text e h = record {
       ∙ h.lines;
   count = let c = h.count in omega arith;
   few = let c = h.few in omega arith;
+  fits = let c = h.fits in omega (arith, length-append kept (line number (trim_end bytes) ∷ []));
 }
 
 pub keeps-blank : (kept : List Line) (number : ℕ) (bytes : List ℕ) (rest : List (List ℕ)) (text : List ℕ) → is_blank (line number (trim_end bytes)) ≡ true → Keeps kept number (bytes ∷ rest) text → Keeps kept (number + 1) rest text
@@ -111,6 +114,7 @@ keeps-blank kept number bytes rest text e h = record {
       ∙ h.lines;
   count = let c = h.count in omega arith;
   few = let c = h.few in omega arith;
+  fits = let c = h.fits in omega arith;
 }
 
 pub keeps-end : (kept : List Line) (number : ℕ) (text : List ℕ) → Keeps kept number [] text → (kept ≡ lines_not_blank text) × (number ≡ line_past_end text)
@@ -118,3 +122,6 @@ keeps-end kept number text h = let c = h.count in (sym (append-nil kept) ∙ h.l
 
 pub keeps-first : (kept : List Line) (rest : List (List ℕ)) (text : List ℕ) → kept ≡ [] → rest ≡ lines_of text → Keeps kept 1 rest text
 keeps-first kept rest text e d = subst (λ (ls : List (List ℕ)). Keeps kept 1 ls text) (sym d) (subst (λ (k : List Line). Keeps k 1 (lines_of text) text) (sym e) (keeps-start text))
+
+pub keeps-few : (ts : List TextLine) (number : ℕ) (rest : List (List ℕ)) (text : List ℕ) → Keeps (lines_in ts) number rest text → length text ≤ 2 ^ 24 → length ts ≤ 2 ^ 24
+keeps-few ts number rest text h le = let c = h.fits in omega (arith, length-map ts line_in)

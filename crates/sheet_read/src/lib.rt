@@ -6,7 +6,9 @@ mod fault;
 mod forms;
 mod lines;
 mod reader;
+mod reading;
 mod statements;
 
 pub use fault::{SheetCode, SheetFault};
+pub use reading::read_sheet;
 pub use sheet_text::{Given, PairLine, Sheet, SheetItem, SheetStep};

@@ -57,6 +57,7 @@ pub fn lines_not_blank<'a>(
     requires { length text.now ≤ 2 ^ 24 }
     ensures lines { IfOk result (λ r. lines_in r.0.items ≡ lines_not_blank text.now) }
     ensures past { IfOk result (λ r. r.1 ≡ line_past_end text.now) }
+    ensures few { IfOk result (λ r. length r.0.items ≤ 2 ^ 24) }
 {
     let mut lines = Vec::new(alloc);
     let mut number = 1;
