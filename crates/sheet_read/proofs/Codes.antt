@@ -1,5 +1,5 @@
 -- The rule that holds at a statement, by the kind of its first line.
-use Rattle.std.proofs.Common.{◌≡◌, ℕ, suc, Bool, true, false, cond, not, ◌||◌, ◌&&◌, List, [], ◌∷◌, ◌++◌, Option, None, Some, option_map, refl, sym, ap, ◌∙◌, subst, inl, inr, codes, filter_map}
+use Rattle.std.proofs.Common.{◌≡◌, ℕ, Bool, true, false, cond, not, ◌||◌, ◌&&◌, List, [], ◌∷◌, ◌++◌, Option, None, Some, option_map, refl, sym, ap, ◌∙◌, codes, filter_map}
 use Rattle.std.specs.Prelude.{is_none}
 use Rattle.std.specs.Option.{option_map_or}
 use Rattle.std.specs.List.{list_any}
@@ -12,8 +12,7 @@ use Rattle.sheet_text.specs.TextFaults.{statement_rules, step_in, names_in, symb
 use Rattle.sheet_read.specs.declared.lines.LineKind.{LineKind}
 use Rattle.sheet_read.specs.declared.lines.LineKind.TheVariants as kind
 use Rattle.sheet_read.specs.Reading.{step_code, distinct_code, is_unknown, is_misplaced}
-use Rattle.sheet_read.proofs.Basics.{cond_then, cond_else}
-use Rattle.sheet_read.proofs.KindFacts.{Facts, step_of_kind}
+use Rattle.sheet_read.proofs.KindFacts.{Facts}
 
 -- ---- the names before a statement
 

@@ -1,5 +1,5 @@
 -- Reading from line to line gives the comments, steps and `$d` statements, or the first fault by the table.
-use Rattle.std.proofs.Common.{◌≡◌, ℕ, suc, ◌<◌, ◌≤◌, Bool, true, false, cond, not, ◌||◌, ◌&&◌, List, [], ◌∷◌, ◌++◌, length, Option, None, Some, Result, Ok, Err, option_map, refl, sym, ap, ◌∙◌, subst, inl, inr, arith, take_while, filter_map, append_assoc, append-nil, codes}
+use Rattle.std.proofs.Common.{◌≡◌, ℕ, suc, ◌<◌, Bool, true, false, cond, not, ◌||◌, List, [], ◌∷◌, ◌++◌, length, Option, None, Some, Result, Ok, Err, option_map, refl, sym, ap, ◌∙◌, subst, inl, inr, arith, take_while, filter_map, append_assoc, append-nil, codes}
 use Rattle.std.specs.Prelude.{nat_lt}
 use Rattle.std.specs.List.{list_any}
 use Rattle.std.proofs.lemmas.Bool.{cases_Bool}
@@ -16,11 +16,11 @@ use Rattle.sheet_text.specs.TextFaults.{statement_rules, step_in, symbols_of, li
 use Rattle.sheet_text.specs.Reads.{items_from, items_at, pairs_at, comment_of, step_at}
 use Rattle.sheet_read.specs.declared.lines.LineKind.{LineKind}
 use Rattle.sheet_read.specs.declared.lines.LineKind.TheVariants as kind
-use Rattle.sheet_read.specs.Reading.{Reading, kind_of, statement_at, fault_with, with_kind, is_footer_kind, step_code, distinct_code, with_step, proof_from, behind_footer, footer_fault, go_on, read_lines, unended}
+use Rattle.sheet_read.specs.Reading.{Reading, kind_of, statement_at, fault_with, with_kind, is_footer_kind, step_code, distinct_code, with_step, proof_from, behind_footer, footer_fault, go_on, read_lines}
 use Rattle.sheet_read.proofs.Basics.{cond_then, cond_else}
-use Rattle.sheet_read.proofs.KindFacts.{Facts, facts, is_comment_kind, is_distinct_kind, is_proof_kind, step_of_kind}
-use Rattle.sheet_read.proofs.Order.{Rising, Placed, IsFrom, IsLate, rising-weaker, from-weaker, earlier-first, earlier-second, earlier-43, earlier-none, faults_late, faults_from, code_late, or_from, closing_from, past_footer-from}
-use Rattle.sheet_read.proofs.Codes.{Same, same-kept, same-more, code_by, code_for, step_code-same}
+use Rattle.sheet_read.proofs.KindFacts.{Facts, facts}
+use Rattle.sheet_read.proofs.Order.{Rising, Placed, IsFrom, rising-weaker, earlier-first, earlier-43, faults_late, faults_from, or_from, closing_from}
+use Rattle.sheet_read.proofs.Codes.{Same, same-kept, same-more, code_by, step_code-same}
 
 abbrev faults : List Statement → List Statement → Option Fault
 faults before ss = first_fault (λ b s. line_of s) statement_rules before ss

@@ -1,8 +1,7 @@
 -- The order of faults along rising lines.
-use Rattle.std.proofs.Common.{◌≡◌, ℕ, suc, ◌+◌, ◌<◌, ◌≤◌, Bool, true, false, cond, not, ◌||◌, ◌&&◌, eqb, ltb, List, [], ◌∷◌, ◌++◌, length, Option, None, Some, option_map, refl, sym, ap, ◌∙◌, subst, inl, inr, arith, take_while, filter}
+use Rattle.std.proofs.Common.{◌≡◌, ℕ, suc, ◌+◌, ◌<◌, ◌≤◌, Bool, true, false, cond, not, ◌&&◌, eqb, List, [], ◌∷◌, length, Option, None, Some, option_map, refl, ◌∙◌, subst, arith, take_while, filter}
 use Rattle.std.specs.List.{list_any}
-use Rattle.std.specs.Prelude.{nat_lt, nat_le}
-use Rattle.std.proofs.lemmas.Bool.{cases_Bool}
+use Rattle.std.specs.Prelude.{nat_lt}
 use Rattle.std.proofs.lemmas.Bool.Decides.{nat_tests}
 use Rattle.mm_model.specs.Faults.{Fault, fault, comes_first, earlier, or_else, first_code, first_fault}
 use Rattle.sheet_text.specs.Lines.{Line, line, lines, begins, tokens, trim_end, is_blank, numbered_from, lines_not_blank, line_past_end}
@@ -113,6 +112,7 @@ faults_from n past false before (l ∷ ls) h =
         | false ↦ faults_from n past false before ls later
       ]
     ]
+
 -- ---- what closes the sheet
 
 pub past_footer-from : (n past : ℕ) (l : Line) (ls : List Line) → n ≤ l.number → Rising (suc l.number) past ls → IsFrom n (past_footer (l ∷ ls))

@@ -1,6 +1,6 @@
 -- The code of a step by the tests of the reader.
-use Rattle.std.proofs.Common.{◌≡◌, ℕ, Bool, true, false, cond, List, Option, Some, None, option_map, refl, ◌∙◌, sym, ap, subst, map}
-use Rattle.mm_model.specs.Faults.{Fault, fault}
+use Rattle.std.proofs.Common.{◌≡◌, ℕ, true, false, List, Option, Some, None, option_map, refl, map}
+use Rattle.mm_model.specs.Faults.{fault}
 use Rattle.mm_model.specs.Names.{contains}
 use Rattle.sheet_text.specs.declared.sheet.Given.{Given}
 use Rattle.sheet_text.specs.Forms.{StepForm, entry_of}

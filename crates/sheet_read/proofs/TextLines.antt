@@ -1,16 +1,15 @@
 -- The lines as they are cut off a text, and the lines of the definitions.
-use Rattle.std.proofs.Common.{◌≡◌, ℕ, suc, ◌+◌, ◌<◌, ◌≤◌, ◌^◌, Bool, true, false, cond, not, ◌==◌, eqb, List, [], ◌∷◌, ◌++◌, length, take, drop, map, filter, refl, sym, ap, ◌∙◌, subst, arith, inl, inr, append_assoc, append-nil, length-append}
+use Rattle.std.proofs.Common.{◌≡◌, ℕ, suc, ◌+◌, ◌≤◌, ◌^◌, Bool, true, false, cond, not, eqb, List, [], ◌∷◌, ◌++◌, length, take, drop, map, filter, refl, sym, ap, ◌∙◌, subst, arith, inl, inr, append_assoc, append-nil, length-append}
 use Rattle.std.specs.List.{onto_first}
 use Rattle.std.proofs.lemmas.Bool.{cases_Bool}
 use Rattle.std.proofs.lemmas.Bool.Decides.{nat_tests}
 use Rattle.std.proofs.lemmas.List.{length-map}
 use Rattle.bstr.specs.Text.{line_len, lines_of}
 use Rattle.bstr.proofs.lemmas.LineLemmas.{lines-nil, lines-step}
-use Rattle.mm_model.specs.Words.{is_white}
 use Rattle.sheet_text.specs.Lines.{Line, line, lines, before_trimmed, trim_end, is_blank, numbered_from, lines_not_blank, line_past_end}
 use Rattle.sheet_read.specs.declared.lines.TextLine.{TextLine}
 use Rattle.sheet_read.specs.Parts.{kept_from, line_in, lines_in}
-use Rattle.sheet_read.proofs.Basics.{cond_then, cond_else}
+use Rattle.sheet_read.proofs.Basics.{cond_else}
 
 -- the lines with their line feeds, from the first byte on
 lines-feed : (bs : List ℕ) → lines_of (10 ∷ bs) ≡ (10 ∷ []) ∷ lines_of bs

@@ -1,7 +1,7 @@
 -- From line to line: what was read, and the lines that are left.
-use Rattle.std.proofs.Common.{◌≡◌, ℕ, suc, ◌+◌, ◌<◌, ◌≤◌, Bool, true, false, cond, List, [], ◌∷◌, ◌++◌, length, take, drop, get_or, ◌-◌, drop-cons, Option, Some, None, Result, Ok, Err, refl, sym, ap, ◌∙◌, subst, arith, length-append}
+use Rattle.std.proofs.Common.{◌≡◌, ℕ, suc, ◌+◌, ◌<◌, ◌≤◌, Bool, false, List, [], ◌∷◌, length, take, drop, get_or, ◌-◌, drop-cons, Option, Some, None, sym, ap, ◌∙◌, subst, arith, length-append}
 use Rattle.std.proofs.lemmas.List.{take_all, length-drop}
-use Rattle.mm_model.specs.Faults.{Fault, fault}
+use Rattle.mm_model.specs.Faults.{Fault}
 use Rattle.sheet_text.specs.Lines.{Line}
 use Rattle.sheet_text.specs.SheetStatements.{tokens_in}
 use Rattle.sheet_text.specs.Forms.{StepForm, step_of}
@@ -59,6 +59,7 @@ walks-more past ts at d r new lt f e n few h =
     let b = behind ts at in
     let f' : fault_at r l ls ≡ None = ap (λ (us : List TextLine). fault_at r l (lines_in us)) (sym b) ∙ f in
     let n' : new ≡ with_line r l ls = n ∙ ap (λ (us : List TextLine). with_line r l (lines_in us)) b in
-    let more = few-line r l ls in
-    (subst (λ (q : Reading). length q.names ≤ at + 1) (sym n') (omega arith),
-    record { eq = ap (λ (q : Reading). read_lines past q ls) n' ∙ sym (goes past r l ls f' e) ∙ ap (λ (ms : List Line). read_lines past r ms) (sym (here ts at d lt)) ∙ h.eq })
+    let more = few-line r l ls in (
+      subst (λ (q : Reading). length q.names ≤ at + 1) (sym n') (omega arith),
+      record { eq = ap (λ (q : Reading). read_lines past q ls) n' ∙ sym (goes past r l ls f' e) ∙ ap (λ (ms : List Line). read_lines past r ms) (sym (here ts at d lt)) ∙ h.eq },
+    )

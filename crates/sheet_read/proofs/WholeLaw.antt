@@ -1,5 +1,5 @@
 -- Reading a whole text gives the sheet that it says, or its first fault.
-use Rattle.std.proofs.Common.{◌≡◌, ℕ, suc, ◌<◌, ◌≤◌, Bool, true, false, cond, not, ◌&&◌, List, [], ◌∷◌, ◌++◌, length, Option, Some, None, Result, Ok, Err, refl, sym, ap, ◌∙◌, subst, inl, inr, arith, take_while, filter_map, codes, slice_get}
+use Rattle.std.proofs.Common.{◌≡◌, ℕ, suc, ◌<◌, Bool, true, false, cond, not, ◌&&◌, List, [], ◌∷◌, ◌++◌, Option, Some, None, Result, Ok, Err, refl, sym, ap, ◌∙◌, subst, inl, inr, arith, take_while, filter_map, codes, slice_get}
 use Rattle.std.specs.Prelude.{is_none}
 use Rattle.std.specs.Str.{bytes_eq}
 use Rattle.std.proofs.lemmas.Bool.{cases_Bool}
@@ -77,9 +77,11 @@ header-closing past all l ls h =
 from-agrees : (n : ℕ) (h : Header) (read : Result Reading Fault) (o : Option Fault) (is : List SheetItem) (ps : List PairLine) → Agrees read o is ps
     → Good (with_header n (Some h) read) o (Some (record { line = n; theorem = h.theorem; loc = h.loc; items = is; pairs = ps }))
 from-agrees n h (Err f) o is ps a = a
-from-agrees n h (Ok r) o is ps a = (a.0,
-    ap (λ (i : List SheetItem). Some (record { line = n; theorem = h.theorem; loc = h.loc; items = i; pairs = ps })) (sym a.1)
-    ∙ ap (λ (q : List PairLine). Some (record { line = n; theorem = h.theorem; loc = h.loc; items = r.items; pairs = q })) (sym a.2))
+from-agrees n h (Ok r) o is ps a = (
+  a.0,
+  ap (λ (i : List SheetItem). Some (record { line = n; theorem = h.theorem; loc = h.loc; items = i; pairs = ps })) (sym a.1)
+      ∙ ap (λ (q : List PairLine). Some (record { line = n; theorem = h.theorem; loc = h.loc; items = r.items; pairs = q })) (sym a.2),
+)
 
 -- with a header, or without
 with-header : (past : ℕ) (all : List Line) (l : Line) (ls : List Line) (h : Option Header) → l.number < past → Rising (suc l.number) past ls → Placed all ls → header_of (tokens_in (statement_at l ls)) ≡ h

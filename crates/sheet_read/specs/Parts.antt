@@ -1,10 +1,8 @@
 -- The parts of a text, as the reader keeps them.
-use Rattle.std.specs.Prelude.{◌≡◌, ℕ, Bool, true, List, [], ◌∷◌, ◌++◌, length, map, drop, filter, not, suc, slice_get, Option, Some, None, option_map, if◌then◌else◌, codes}
-use Rattle.std.specs.List.{last_or}
+use Rattle.std.specs.Prelude.{ℕ, List, map, filter, not, Option, option_map}
 use Rattle.std.specs.Borrow.{Bor}
 use Rattle.mm_model.specs.Words.{words}
-use Rattle.mm_model.specs.Names.{contains}
-use Rattle.sheet_text.specs.Lines.{Line, line, trim_end, is_blank, numbered_from}
+use Rattle.sheet_text.specs.Lines.{Line, line, is_blank, numbered_from}
 use Rattle.sheet_text.specs.Forms.{Header, StepForm, entry_of, parts_of, reference_of}
 use Rattle.sheet_read.specs.declared.lines.TextLine.{TextLine}
 use Rattle.sheet_read.specs.declared.forms.HeaderForm.{HeaderForm}

@@ -1,5 +1,5 @@
 -- Reading from line to line, with the first fault that is met.
-use Rattle.std.specs.Prelude.{◌≡◌, ℕ, Bool, true, false, not, ◌&&◌, ◌||◌, List, [], ◌∷◌, ◌++◌, length, nat_lt, map, filter_map, take_while, is_some, Option, Some, None, Result, Ok, Err, if◌then◌else◌, slice_get, option_map, codes}
+use Rattle.std.specs.Prelude.{◌≡◌, ℕ, Bool, true, false, not, ◌&&◌, ◌||◌, List, [], ◌∷◌, ◌++◌, length, nat_lt, map, filter_map, take_while, Option, Some, None, Result, Ok, Err, if◌then◌else◌, slice_get, option_map, codes}
 use Rattle.std.specs.List.{list_any}
 use Rattle.std.specs.Str.{bytes_eq}
 use Rattle.mm_model.specs.Faults.{Fault, fault}
@@ -9,7 +9,7 @@ use Rattle.sheet_text.specs.declared.sheet.SheetItem.{SheetItem}
 use Rattle.sheet_text.specs.declared.sheet.SheetItem.TheVariants as item
 use Rattle.sheet_text.specs.declared.sheet.PairLine.{PairLine}
 use Rattle.sheet_text.specs.Lines.{Line, begins, tokens}
-use Rattle.sheet_text.specs.SheetStatements.{Statement, statement, line_of, tokens_in, starts_with_star, ends_proof}
+use Rattle.sheet_text.specs.SheetStatements.{Statement, statement, tokens_in, starts_with_star, ends_proof}
 use Rattle.sheet_text.specs.Forms.{StepForm, entry_of, step_of}
 use Rattle.sheet_text.specs.TextFaults.{is_qed, is_bad_distinct, symbols_of}
 use Rattle.sheet_text.specs.Reads.{given_of, step_at, comment_of}

@@ -4,8 +4,8 @@ use crate::fault::{SheetCode, SheetFault};
 use crate::forms::StepHead;
 use crate::lines::{LineKind, TextLine, ends_proof, has_two_tokens, is_footer, kind_of, tokens_in};
 use crate::statements::{
-    comment_lines, formula_of, head_of, indented, is_bad_distinct, name_of, names_of, places_of, reference_of,
-    symbols_of,
+    comment_lines, formula_of, head_of, indented, is_bad_distinct, name_of, names_of, places_of,
+    reference_of, symbols_of,
 };
 use mm_base::List;
 use names::Names;
@@ -205,11 +205,7 @@ impl Reader {
     }
 
     /// Reads a line, with the lines behind it, and answers whether it is the footer.
-    pub fn line(
-        &mut self,
-        line: &TextLine<'_>,
-        behind: &[TextLine<'_>],
-    ) -> Result<bool, SheetFault>
+    pub fn line(&mut self, line: &TextLine<'_>, behind: &[TextLine<'_>]) -> Result<bool, SheetFault>
         requires room { length self.old.names + 1 < 2 ^ 32 }
         ensures no_fault { OnOk result (fault_at self.old (line_in line.now) (lines_in behind.now) ≡ None) }
         ensures next { OnOk result (self.new ≡ with_line self.old (line_in line.now) (lines_in behind.now)) }

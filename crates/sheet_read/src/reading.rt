@@ -18,11 +18,7 @@ use sheet_text::Sheet;
 use std::alloc::Global;
 
 /// The lines behind the header's first line, where the line past the last has this number.
-fn read_lines(
-    alloc: Global,
-    lines: &[TextLine<'_>],
-    past: u32,
-) -> Result<Reader, SheetFault>
+fn read_lines(alloc: Global, lines: &[TextLine<'_>], past: u32) -> Result<Reader, SheetFault>
     requires { length lines.now ≤ 2 ^ 24 }
     ensures { MatchResult result (λ r. read_lines past first_reading (lines_in lines.now) ≡ Ok r) (λ e. FailsWith e (read_lines past first_reading (lines_in lines.now))) }
 {

@@ -198,11 +198,7 @@ fn givens(alloc: Global, names: &Names, entries: &[&[u8]]) -> Result<Option<List
 }
 
 /// The places that a step lists; none where one names no earlier step.
-pub fn places_of(
-    alloc: Global,
-    names: &Names,
-    places: &[u8],
-) -> Result<Option<List<Given>>, Memory>
+pub fn places_of(alloc: Global, names: &Names, places: &[u8]) -> Result<Option<List<Given>>, Memory>
     ensures { IfOk result (λ o. AreGiven names.now (parts_of places.now) o) }
 {
     let entries = parts_of(alloc, places)?;

@@ -1,4 +1,4 @@
-use Rattle.std.proofs.Common.{sym, ◌∙◌, eqb}
+use Rattle.std.proofs.Common.{sym, eqb}
 use Rattle.sheet_read.proofs.Splits.{split-none, split-some}
 use Rattle.sheet_read.proofs.forms.split_once.Goals as goal
 

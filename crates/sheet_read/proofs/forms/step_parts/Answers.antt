@@ -1,4 +1,4 @@
-use Rattle.std.proofs.Common.{sym, ◌∙◌, eqb, ap, List, ℕ, ◌∷◌}
+use Rattle.std.proofs.Common.{◌∙◌, eqb, ap, List, ℕ, ◌∷◌}
 use Rattle.std.specs.List.{slice_split}
 use Rattle.sheet_read.proofs.Splits.{not-three}
 use Rattle.sheet_read.proofs.forms.step_parts.Goals as goal

@@ -1,5 +1,4 @@
-use Rattle.std.proofs.Common.{◌≡◌, ◌≤◌, ◌-◌, length, drop, None, map}
-use Rattle.std.specs.List.{last_or}
+use Rattle.std.proofs.Common.{◌≤◌, ◌-◌, length, drop}
 use Rattle.mm_model.specs.Words.{words_from}
 use Rattle.sheet_read.specs.Parts.{target, tokens_of_bytes}
 use Rattle.sheet_read.proofs.TokenSteps.{Lasts}

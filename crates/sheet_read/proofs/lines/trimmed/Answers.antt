@@ -1,4 +1,4 @@
-use Rattle.std.proofs.Common.{arith, sym, ◌∙◌, ap, ◌≡◌, ◌<◌}
+use Rattle.std.proofs.Common.{arith, sym, ◌∙◌}
 use Rattle.sheet_read.proofs.Trims.{trims-less, trims-done, trims-none}
 use Rattle.sheet_read.proofs.lines.trimmed.Goals as goal
 use Rattle.sheet_read.proofs.lines.trimmed.Goals.{then-loop-len-test+else-is_white, else-loop-len-test}

@@ -1,5 +1,4 @@
-use Rattle.std.proofs.Common.{◌≤◌, length, take}
-use Rattle.sheet_text.specs.Lines.{trim_end}
+use Rattle.std.proofs.Common.{◌≤◌, length}
 use Rattle.sheet_read.proofs.Trims.{Trims}
 use Rattle.sheet_read.proofs.lines.trimmed.Given as goal
 

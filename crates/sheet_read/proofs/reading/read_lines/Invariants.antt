@@ -1,6 +1,5 @@
 use Rattle.std.proofs.Common.{◌≤◌, drop, length}
 use Rattle.sheet_read.specs.Parts.{lines_in}
-use Rattle.sheet_read.specs.Reading.{first_reading}
 use Rattle.sheet_read.proofs.Walks.{Walks}
 use Rattle.sheet_read.proofs.reading.read_lines.Given as goal
 

@@ -1,4 +1,4 @@
-use Rattle.std.proofs.Common.{◌∙◌, sym, ap, List}
+use Rattle.std.proofs.Common.{◌∙◌, ap, List}
 use Rattle.sheet_read.specs.declared.lines.TextLine.{TextLine}
 use Rattle.sheet_read.specs.Parts.{lines_in}
 use Rattle.sheet_read.proofs.WholeLaw.{sheet-read, fault-read}

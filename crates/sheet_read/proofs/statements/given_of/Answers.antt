@@ -1,4 +1,4 @@
-use Rattle.std.proofs.Common.{◌∙◌, sym, ℕ, List}
+use Rattle.std.proofs.Common.{◌∙◌, sym}
 use Rattle.std.specs.Str.{bytes_eq}
 use Rattle.sheet_read.proofs.Mapped.{first-position, number-none, number-some, entry-unknown, entry-known, entry-given}
 use Rattle.sheet_read.proofs.statements.given_of.Goals as goal

@@ -1,4 +1,4 @@
-use Rattle.std.proofs.Common.{◌∙◌, sym, arith}
+use Rattle.std.proofs.Common.{arith}
 use Rattle.sheet_read.proofs.Mapped.{set-start, set-twice, set-more}
 use Rattle.sheet_read.proofs.statements.has_twice.Goals as goal
 
