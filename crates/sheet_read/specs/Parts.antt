@@ -3,6 +3,7 @@ use Rattle.std.specs.Prelude.{ℕ, List, map, filter, not, Option, option_map}
 use Rattle.std.specs.Borrow.{Bor}
 use Rattle.mm_model.specs.Words.{words}
 use Rattle.sheet_text.specs.Lines.{Line, line, is_blank, numbered_from}
+use Rattle.sheet_text.specs.SheetStatements.{Statement, statement}
 use Rattle.sheet_text.specs.Forms.{Header, StepForm, entry_of, parts_of, reference_of}
 use Rattle.sheet_read.specs.declared.lines.TextLine.{TextLine}
 use Rattle.sheet_read.specs.declared.forms.HeaderForm.{HeaderForm}
@@ -13,6 +14,10 @@ line_in t = line t.number t.bytes.now
 
 abbrev pub lines_in : List TextLine → List Line
 lines_in ts = map line_in ts
+
+-- the statement of a line and of the lines that belong to it
+abbrev pub statement_in : TextLine → List TextLine → Statement
+statement_in first more = statement (line_in first) (lines_in more)
 
 -- what the references point to
 abbrev pub targets : List (Bor (List ℕ)) → List (List ℕ)

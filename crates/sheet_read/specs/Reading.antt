@@ -71,15 +71,25 @@ behind_footer (m ∷ ms) = Some (fault m.number 43)
 abbrev pub footer_fault : List (List ℕ) → Line → List Line → Option Fault
 footer_fault names l ls = if nat_lt 1 (length (tokens l)) then Some (fault l.number 43) else (if contains names (codes "qed") then behind_footer ls else Some (fault l.number 47))
 
+-- a code at a line, as a fault
+abbrev pub at_line : ℕ → Option ℕ → Option Fault
+at_line n code = option_map (λ c. fault n c) code
+
 abbrev pub fault_with : LineKind → Reading → Line → List Line → Option Fault
 fault_with kind.Indented r l ls = None
 fault_with kind.Comment r l ls = None
 fault_with kind.Proof r l ls = None
-fault_with kind.Distinct r l ls = option_map (λ code. fault l.number code) (distinct_code (symbols_of (tokens_in (statement_at l ls))))
+fault_with kind.Distinct r l ls = at_line l.number (distinct_code (symbols_of (tokens_in (statement_at l ls))))
 fault_with kind.Footer r l ls = footer_fault r.names l ls
-fault_with kind.Step r l ls = option_map (λ code. fault l.number code) (step_code r.names (step_of (tokens_in (statement_at l ls))))
+fault_with kind.Step r l ls = at_line l.number (step_code r.names (step_of (tokens_in (statement_at l ls))))
 
--- with the step that these tokens are
+-- with a comment, with a `$d` statement at a line, and with the step that these tokens are
+abbrev pub with_comment : Reading → Statement → Reading
+with_comment r s = record r { items = r.items ++ comment_of s ∷ [] }
+
+abbrev pub with_pair : Reading → ℕ → List (List ℕ) → Reading
+with_pair r line symbols = record r { pairs = r.pairs ++ record { line = line; names = symbols } ∷ [] }
+
 abbrev pub with_step : Reading → ℕ → Option StepForm → Reading
 with_step r line None = r
 with_step r line (Some f) = record r { names = r.names ++ f.name ∷ []; items = r.items ++ item.Step (step_at line r.names f) ∷ [] }
@@ -89,9 +99,9 @@ proof_from l = if ends_proof l then None else Some l.number
 
 abbrev pub with_kind : LineKind → Reading → Line → List Line → Reading
 with_kind kind.Indented r l ls = r
-with_kind kind.Comment r l ls = record r { items = r.items ++ comment_of (statement_at l ls) ∷ [] }
+with_kind kind.Comment r l ls = with_comment r (statement_at l ls)
 with_kind kind.Proof r l ls = record r { proof = proof_from l }
-with_kind kind.Distinct r l ls = record r { pairs = r.pairs ++ record { line = l.number; names = symbols_of (tokens_in (statement_at l ls)) } ∷ [] }
+with_kind kind.Distinct r l ls = with_pair r l.number (symbols_of (tokens_in (statement_at l ls)))
 with_kind kind.Footer r l ls = r
 with_kind kind.Step r l ls = with_step r l.number (step_of (tokens_in (statement_at l ls)))
 

@@ -1,10 +1,10 @@
 //! The lines of a worksheet's text, and the tokens of a line.
 
-ghost use Rattle.std.specs.Prelude.{◌≡◌, ◌+◌, ◌≤◌, ◌^◌, ◌++◌, length, nat_lt, slice_get, option_map, suc, IfOk, OnOk};
+ghost use Rattle.std.specs.Prelude.{◌≡◌, ◌+◌, ◌≤◌, ◌^◌, ◌++◌, length, nat_lt, slice_get, IfOk, OnOk};
 ghost use Rattle.std.specs.List.{last_or};
 ghost use Rattle.sheet_text.specs.Lines.{trim_end, first_is_not_white, lines_not_blank, line_past_end, tokens};
-ghost use Rattle.sheet_text.specs.SheetStatements.{ends_proof, tokens_in, statement};
-ghost use Rattle.sheet_read.specs.Parts.{line_in, lines_in, targets, target, tokens_of_bytes};
+ghost use Rattle.sheet_text.specs.SheetStatements.{ends_proof, tokens_in};
+ghost use Rattle.sheet_read.specs.Parts.{line_in, lines_in, statement_in, targets, target, tokens_of_bytes};
 ghost use Rattle.sheet_read.specs.Reading.{kind_of, kind_of_token, is_footer_kind};
 
 use bstr::ByteSlice;
@@ -180,7 +180,7 @@ pub fn tokens_in<'a>(
     first: &TextLine<'a>,
     more: &[TextLine<'a>],
 ) -> Result<Vec<&'a [u8]>, Memory>
-    ensures { IfOk result (λ ts. targets ts.items ≡ tokens_in (statement (line_in first.now) (lines_in more.now))) }
+    ensures { IfOk result (λ ts. targets ts.items ≡ tokens_in (statement_in first.now more.now)) }
 {
     let mut tokens = Vec::new(alloc);
     push_tokens(&mut tokens, first.bytes)?;

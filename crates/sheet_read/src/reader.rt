@@ -34,16 +34,13 @@ impl Model for Reader {
 }
 
 impl Reader {
-    ghost use Rattle.std.specs.Prelude.{◌≡◌, ◌<◌, ◌+◌, ◌^◌, ◌++◌, ◌∷◌, [], None, Some, OnOk, IfOk, IfErr, length, option_map, List, ℕ};
-    ghost use Rattle.mm_model.specs.Faults.{fault};
-    ghost use Rattle.sheet_text.specs.declared.sheet.SheetItem.TheVariants.{Comment};
-    ghost use Rattle.sheet_text.specs.SheetStatements.{statement, tokens_in};
+    ghost use Rattle.std.specs.Prelude.{◌≡◌, ◌<◌, ◌+◌, ◌^◌, None, Some, OnOk, IfOk, IfErr, length, List, ℕ};
+    ghost use Rattle.sheet_text.specs.SheetStatements.{tokens_in};
     ghost use Rattle.sheet_text.specs.Forms.{step_of};
-    ghost use Rattle.sheet_text.specs.TextFaults.{is_bad_distinct, symbols_of};
-    ghost use Rattle.sheet_text.specs.Reads.{comment_of};
+    ghost use Rattle.sheet_text.specs.TextFaults.{symbols_of};
     ghost use Rattle.sheet_read.specs.Faults.{IsFault};
-    ghost use Rattle.sheet_read.specs.Parts.{line_in, lines_in, targets, step_in_form};
-    ghost use Rattle.sheet_read.specs.Reading.{first_reading, is_misplaced, proof_from, step_code, with_step, distinct_code, footer_fault, fault_with, with_kind, is_footer_kind, fault_at, with_line, ends_at, unended, kind_of};
+    ghost use Rattle.sheet_read.specs.Parts.{line_in, lines_in, statement_in, targets, step_in_form};
+    ghost use Rattle.sheet_read.specs.Reading.{first_reading, is_misplaced, at_line, proof_from, step_code, with_step, with_comment, with_pair, distinct_code, footer_fault, fault_with, with_kind, fault_at, with_line, ends_at, unended};
 
     pub fn new(alloc: Global) -> Reader
         ensures { result ≡ first_reading }
@@ -68,7 +65,7 @@ impl Reader {
 
     /// A comment, with the lines that belong to it.
     fn comment(&mut self, line: &TextLine<'_>, more: &[TextLine<'_>]) -> Result<(), SheetFault>
-        ensures next { OnOk result (self.new ≡ record self.old { items = self.old.items ++ comment_of (statement (line_in line.now) (lines_in more.now)) ∷ [] }) }
+        ensures next { OnOk result (self.new ≡ with_comment self.old (statement_in line.now more.now)) }
         ensures memory { IfErr result (λ e. IsFault e None) }
     {
         let lines = comment_lines(self.alloc, line, more)?;
@@ -78,9 +75,9 @@ impl Reader {
 
     /// A `$d` statement, with the lines that belong to it.
     fn distinct(&mut self, line: &TextLine<'_>, more: &[TextLine<'_>]) -> Result<(), SheetFault>
-        ensures no_fault { OnOk result (distinct_code (symbols_of (tokens_in (statement (line_in line.now) (lines_in more.now)))) ≡ None) }
-        ensures next { OnOk result (self.new ≡ record self.old { pairs = self.old.pairs ++ record { line = line.now.number; names = symbols_of (tokens_in (statement (line_in line.now) (lines_in more.now))) } ∷ [] }) }
-        ensures fault { IfErr result (λ e. IsFault e (option_map (λ code. fault line.now.number code) (distinct_code (symbols_of (tokens_in (statement (line_in line.now) (lines_in more.now))))))) }
+        ensures no_fault { OnOk result (distinct_code (symbols_of (tokens_in (statement_in line.now more.now))) ≡ None) }
+        ensures next { OnOk result (self.new ≡ with_pair self.old line.now.number (symbols_of (tokens_in (statement_in line.now more.now)))) }
+        ensures fault { IfErr result (λ e. IsFault e (at_line line.now.number (distinct_code (symbols_of (tokens_in (statement_in line.now more.now)))))) }
     {
         let tokens = tokens_in(self.alloc, line, more)?;
         let symbols = symbols_of(tokens.as_slice());
@@ -112,7 +109,7 @@ impl Reader {
         requires room { length self.old.names + 1 < 2 ^ 32 }
         ensures no_fault { OnOk result (step_code self.old.names (Some (step_in_form head.now (targets formula.now))) ≡ None) }
         ensures next { OnOk result (self.new ≡ with_step self.old line (Some (step_in_form head.now (targets formula.now)))) }
-        ensures fault { IfErr result (λ e. IsFault e (option_map (λ code. fault line code) (step_code self.old.names (Some (step_in_form head.now (targets formula.now)))))) }
+        ensures fault { IfErr result (λ e. IsFault e (at_line line (step_code self.old.names (Some (step_in_form head.now (targets formula.now)))))) }
     {
         if self.names.contains(head.name) {
             return Err(SheetFault::At(SheetCode::NameTwice, line));
@@ -140,9 +137,9 @@ impl Reader {
     /// A step, with the lines that belong to it.
     fn step(&mut self, line: &TextLine<'_>, more: &[TextLine<'_>]) -> Result<(), SheetFault>
         requires room { length self.old.names + 1 < 2 ^ 32 }
-        ensures no_fault { OnOk result (step_code self.old.names (step_of (tokens_in (statement (line_in line.now) (lines_in more.now)))) ≡ None) }
-        ensures next { OnOk result (self.new ≡ with_step self.old line.now.number (step_of (tokens_in (statement (line_in line.now) (lines_in more.now))))) }
-        ensures fault { IfErr result (λ e. IsFault e (option_map (λ code. fault line.now.number code) (step_code self.old.names (step_of (tokens_in (statement (line_in line.now) (lines_in more.now))))))) }
+        ensures no_fault { OnOk result (step_code self.old.names (step_of (tokens_in (statement_in line.now more.now))) ≡ None) }
+        ensures next { OnOk result (self.new ≡ with_step self.old line.now.number (step_of (tokens_in (statement_in line.now more.now)))) }
+        ensures fault { IfErr result (λ e. IsFault e (at_line line.now.number (step_code self.old.names (step_of (tokens_in (statement_in line.now more.now)))))) }
     {
         let tokens = tokens_in(self.alloc, line, more)?;
         let words = tokens.as_slice();

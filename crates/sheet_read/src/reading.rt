@@ -1,6 +1,6 @@
 //! Reading a worksheet.
 
-ghost use Rattle.std.specs.Prelude.{◌≡◌, ◌≤◌, ◌^◌, length, MatchResult, IfOk, IfErr, None, Ok, Some};
+ghost use Rattle.std.specs.Prelude.{◌≡◌, ◌≤◌, ◌^◌, length, MatchResult, IfOk, IfErr, Ok, Some};
 ghost use Rattle.sheet_text.specs.TextFaults.{line_fault};
 ghost use Rattle.sheet_text.specs.Reads.{Reads};
 ghost use Rattle.sheet_read.specs.Faults.{IsFault};

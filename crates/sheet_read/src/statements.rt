@@ -1,15 +1,13 @@
 //! The parts of a step and of a `$d` statement.
 
-ghost use Rattle.std.specs.Prelude.{◌≡◌, ◌≤◌, [], ◌∷◌, ◌||◌, ◌&&◌, List, ℕ, None, Some, true, false, IfOk, IfSome, IfNone, MatchOption, length, drop, map, take_while, not, codes};
+ghost use Rattle.std.specs.Prelude.{◌≡◌, ◌≤◌, ◌∷◌, List, ℕ, None, Some, true, IfOk, IfSome, IfNone, length, drop, map, take_while, not};
 ghost use Rattle.std.specs.List.{list_any, prefix_len};
-ghost use Rattle.std.specs.Str.{bytes_eq};
-ghost use Rattle.mm_model.specs.Names.{contains, has_twice};
+ghost use Rattle.mm_model.specs.Names.{has_twice};
 ghost use Rattle.sheet_text.specs.Lines.{begins};
-ghost use Rattle.sheet_text.specs.SheetStatements.{statement};
 ghost use Rattle.sheet_text.specs.Forms.{entry_of, parts_of, step_of, reference_of};
 ghost use Rattle.sheet_text.specs.TextFaults.{is_end, without_end, symbols_of, is_bad_distinct};
-ghost use Rattle.sheet_text.specs.Reads.{comment_of, given_of};
-ghost use Rattle.sheet_read.specs.Parts.{line_in, lines_in, targets, target, step_in_form};
+ghost use Rattle.sheet_text.specs.Reads.{given_of};
+ghost use Rattle.sheet_read.specs.Parts.{line_in, lines_in, targets, step_in_form};
 ghost use Rattle.sheet_read.specs.Reading.{is_unknown, AreGiven};
 
 use crate::forms::{StepHead, is_gap, is_label, parts_of, step_head};
