@@ -1,0 +1,3 @@
+pub mod FallLaws
+pub mod NextLaws
+pub mod OrderLaws
