@@ -77,7 +77,8 @@ pub fn least_free(used: &List<u32>) -> u32
 
 /// The least number from 1 that is not used, where so many marks cover it.
 fn first_covered(used: &[u64], marks: &mut [bool]) -> Option<u64>
-    ensures { MatchOption result ((n : ℕ) → 1 ≤ n → n < 1 + length marks.old → is_used used.now n ≡ true) (λ n. IsLeastFree used.now n) }
+    ensures { MatchOption result ((n : ℕ) → 1 ≤ n → n < 1 + length marks.old → is_used used.now n ≡ true)
+        (λ n. IsLeastFree used.now n × (n ≤ length marks.old)) }
 {
     mark_long(used, 1, marks);
     match first_unmarked(marks) {
@@ -88,7 +89,8 @@ fn first_covered(used: &[u64], marks: &mut [bool]) -> Option<u64>
 
 /// The least number from 1 that is not in a list, in one pass. It takes a byte for each number of the list.
 pub fn least_unused(alloc: Global, used: &[u64]) -> Result<u64, Memory>
-    ensures { IfOk result (λ n. IsLeastFree used.now n) }
+    ensures least { IfOk result (λ n. IsLeastFree used.now n) }
+    ensures bounded { IfOk result (λ n. n ≤ length used.now + 1) }
 {
     let mut marks = vec![in alloc; false; used.len() + 1]?;
     match first_covered(used, marks.as_mut_slice()) {

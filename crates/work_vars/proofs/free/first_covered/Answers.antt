@@ -3,9 +3,11 @@ use Rattle.work_vars.proofs.FreeLaws.{no_window, least_in}
 use Rattle.work_vars.proofs.free.first_covered.Goals as goal
 
 pub returns-in-Some : goal.returns-in-Some
-returns-in-Some c =
-    least_in c.args.used.now c.args.marks.now c.mark_long.new.marks c.mark_long.ensures c.in-Some.place
-    (omega (arith, c.in-Some.ensures.0, c.mark_long.auto.marks)) c.in-Some.ensures.1 c.in-Some.ensures.2
+returns-in-Some c = (
+  least_in c.args.used.now c.args.marks.now c.mark_long.new.marks c.mark_long.ensures c.in-Some.place
+      (omega (arith, c.in-Some.ensures.0, c.mark_long.auto.marks)) c.in-Some.ensures.1 c.in-Some.ensures.2,
+  omega (arith, c.in-Some.ensures.0, c.mark_long.auto.marks),
+)
 
 pub returns-in-None : goal.returns-in-None
 returns-in-None c =
