@@ -1,2 +1,3 @@
 pub mod FreeLaws
 pub mod NameLaws
+pub mod NumberLaws

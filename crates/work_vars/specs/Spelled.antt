@@ -1,5 +1,6 @@
 -- What a token names: a work variable, by its typecode and its number.
 use Rattle.std.specs.Prelude.{◌≡◌, ℕ, ◌^◌, ◌≤◌, ◌<◌, Bool, ◌||◌, Option, Some, None, codes}
+use Rattle.std.specs.Bool.{then_some}
 use Rattle.std.specs.Str.{bytes_eq}
 use Rattle.mm_model.specs.Names.{Name}
 use Rattle.solve_model.specs.Formulas.{spelling}
@@ -18,3 +19,8 @@ IsNamedBy token (Some p) = IsNameOf token p.0 p.1 × ((code : Name) (n : ℕ) �
 -- the names of its work variables have a letter in place of the typecode
 abbrev pub has_letter : Name → Bool
 has_letter code = bytes_eq code (codes "wff") || bytes_eq code (codes "setvar") || bytes_eq code (codes "class")
+
+-- its number as a work variable of a typecode
+abbrev pub number_by : Name → Option (Name × ℕ) → Option ℕ
+number_by code None = None
+number_by code (Some p) = then_some (bytes_eq code p.0) p.1

@@ -1,8 +1,8 @@
 ghost use Rattle.std.specs.Prelude.{◌≡◌, ◌≢◌, ℕ, ◌-◌, ◌<◌, ◌≤◌, ◌^◌, List, length, drop, slice_index, true, false, decimal, IfOk, MatchOption};
 ghost use Rattle.std.specs.Str.{all_ascii_digits};
 ghost use Rattle.std.specs.Char.{is_ascii_digit};
-ghost use Rattle.solve_model.specs.Formulas.{prefix_of, spelling as spelling_of};
-ghost use Rattle.work_vars.specs.Spelled.{has_letter, IsNamedBy};
+ghost use Rattle.solve_model.specs.Formulas.{prefix_of, spelling as spelling_of, work_number as work_number_by};
+ghost use Rattle.work_vars.specs.Spelled.{has_letter, number_by, IsNamedBy};
 
 use crate::numbers::read_number;
 use itoa::Buffer;
@@ -93,7 +93,8 @@ fn work_number(digits: &[u8]) -> Option<u32>
 /// The work variable whose name a token is: its typecode's name and its number. None where it is no such name, as where
 /// the number has a leading zero, is 0 or is above 2^32 - 1.
 pub fn read_name(alloc: Global, token: &[u8]) -> Result<Option<(Name, u32)>, Memory>
-    ensures { IfOk result (λ name. IsNamedBy token.now name) }
+    ensures named { IfOk result (λ name. IsNamedBy token.now name) }
+    ensures number { IfOk result (λ name. (code : List ℕ) → work_number_by code token.now ≡ number_by code name) }
 {
     let place = number_place(token);
     let Some(code) = code_of(&token[..place]) else {
