@@ -37,10 +37,10 @@ least_above x z (a ∷ s) (suc j) f k r l c =
 
 -- ---- the least order behind one
 
-abbrev IsLeastBehind : List ℕ → List ℕ → Type 0
+abbrev pub IsLeastBehind : List ℕ → List ℕ → Type 0
 IsLeastBehind s new = (other : List ℕ) → SameCounts s other → ComesBefore s other → (new ≡ other) ⊎ ComesBefore new other
 
-heads_join : (x y : ℕ) (xs ys : List ℕ) → x ≡ y → xs ≡ ys → x ∷ xs ≡ y ∷ ys
+pub heads_join : (x y : ℕ) (xs ys : List ℕ) → x ≡ y → xs ≡ ys → x ∷ xs ≡ y ∷ ys
 heads_join x y xs ys e f = cc
 
 module _ (x : ℕ) (s : List ℕ) (j : ℕ) (f : Falls s) (k : j < length s) (l : x < get_or s j 0) (r : AtMost x (drop (suc j) s)) where
@@ -64,7 +64,7 @@ module _ (x : ℕ) (s : List ℕ) (j : ℕ) (f : Falls s) (k : j < length s) (l 
       ]
   least_here (z ∷ zs) same (inr h) = absurd (falls_last s zs f (tails_same x s zs (subst (λ y. SameCounts (x ∷ s) (y ∷ zs)) (sym h.0) same)) h.1)
 
-least_behind : (p : ℕ) (s new : List ℕ) → IsLeastBehind s new → IsLeastBehind (p ∷ s) (p ∷ new)
+pub least_behind : (p : ℕ) (s new : List ℕ) → IsLeastBehind s new → IsLeastBehind (p ∷ s) (p ∷ new)
 least_behind p s new h [] same b = absurd b
 least_behind p s new h (z ∷ zs) same (inl less) = inr (inl less)
 least_behind p s new h (z ∷ zs) same (inr b) =

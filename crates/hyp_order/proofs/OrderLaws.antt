@@ -53,7 +53,7 @@ counted_at_least b v [] h k = absurd (omega arith)
 counted_at_least b v (x ∷ xs) h k =
     elim (here_or v x) [ inl e ↦ omega (arith, e, h.0) | inr e ↦ counted_at_least b v xs h.1 (omega (arith, e, k)) ]
 
-counted_from_head : (a v : ℕ) (xs : List ℕ) → AtLeast a xs → 0 < count v (a ∷ xs) → a ≤ v
+pub counted_from_head : (a v : ℕ) (xs : List ℕ) → AtLeast a xs → 0 < count v (a ∷ xs) → a ≤ v
 counted_from_head a v xs h k =
     elim (here_or v a) [ inl e ↦ omega (arith, e) | inr e ↦ counted_at_least a v xs h (omega (arith, e, k)) ]
 
