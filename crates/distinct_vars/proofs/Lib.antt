@@ -1,0 +1,4 @@
+pub mod KeyLaws
+pub mod SharedLaws
+pub mod UseLaws
+pub mod VariableLaws

@@ -1,0 +1,33 @@
+-- Needed pairs as a set of keys: two numbers, the lesser first.
+use Rattle.std.specs.Prelude.{ℕ, List, map, fold, if◌then◌else◌}
+use Rattle.std.specs.BTreeSet.{BTreeSet}
+use Rattle.mm_base.specs.declared.symbols.Sym.{Sym}
+use Rattle.mm_base.specs.declared.symbols.Pair.{Pair}
+use Rattle.mm_base.specs.declared.tree.Tree.{Tree}
+use Rattle.mm_model.specs.Names.{sym}
+use Rattle.proof_model.specs.Machine.{is_shared}
+use Rattle.solve_model.specs.PairSets.{ordered, put_pair}
+use Rattle.distinct_vars.specs.Values.{variables_at}
+
+abbrev pub pair_of : ℕ × ℕ → Pair
+pair_of k = record { a = sym k.0; b = sym k.1 }
+
+-- the pairs of a set of keys
+abbrev pub pairs_of : BTreeSet (ℕ × ℕ) → List Pair
+pairs_of keys = map pair_of keys.keys
+
+-- two variables that differ are a needed pair
+abbrev pub put_needed : List Pair → Sym × Sym → List Pair
+put_needed ps q = if is_shared q then ps else put_pair ps (ordered q.0 q.1)
+
+-- a variable with each of a list
+abbrev pub put_row : List Sym → List Pair → Sym → List Pair
+put_row ys ps v = fold (λ acc w. put_needed acc (v, w)) ps ys
+
+-- each of a list with each of another
+abbrev pub put_all : List Sym → List Sym → List Pair → List Pair
+put_all xs ys ps = fold (put_row ys) ps xs
+
+-- what a pair of the frame needs
+abbrev pub put_of : List Sym → List Tree → List Pair → Pair → List Pair
+put_of vars trees ps p = put_all (variables_at vars trees p.a) (variables_at vars trees p.b) ps

@@ -1,0 +1,142 @@
+ghost use Rattle.std.specs.Prelude.{◌≡◌, [], ◌∷◌, ◌++◌, fold, IfOk, OnOk};
+ghost use Rattle.solve_model.specs.PairSets.{ordered};
+ghost use Rattle.solve_model.specs.Trees.{variables};
+ghost use Rattle.written_model.specs.Pairs.{needed as needed_by_use};
+ghost use Rattle.written_model.specs.WrittenSteps.{Use};
+ghost use Rattle.distinct_vars.specs.NeededKeys.{pair_of, pairs_of, put_all, put_needed, put_of, put_row};
+ghost use Rattle.distinct_vars.specs.Uses.{IsUseOf};
+ghost use Rattle.distinct_vars.specs.Values.{variables_at};
+
+use crate::values::value;
+use mm_base::{List, Memory, Pair, Sym, Tree};
+use std::alloc::Global;
+use std::collections::BTreeSet;
+
+/// The numbers of two variables, the lesser first.
+type Keys = BTreeSet<(u32, u32)>;
+
+fn add_variables(tree: &Tree, found: &mut Vec<Sym>) -> Result<(), Memory>
+    ensures { OnOk result (found.new.items ≡ fold (λ xs s. xs ++ s ∷ []) found.old.items (variables tree.now)) }
+{
+    match tree {
+        Tree::Var(symbol, _) => Ok(found.push(*symbol)?),
+        Tree::Work(_, _) => Ok(()),
+        Tree::Fresh(_, _) => Ok(()),
+        Tree::Node(_, _, children) => {
+            for child in children.as_slice() {
+                add_variables(child, found)?;
+            }
+            Ok(())
+        }
+    }
+}
+
+/// The variables of the value of a variable.
+fn variables_of(
+    alloc: Global,
+    vars: &[Sym],
+    trees: &[Tree],
+    symbol: Sym,
+) -> Result<Vec<Sym>, Memory>
+    ensures { IfOk result (λ found. found.items ≡ variables_at vars.now trees.now symbol) }
+{
+    match value(vars, trees, symbol) {
+        None => Ok(Vec::new(alloc)),
+        Some(tree) => {
+            let mut found = Vec::new(alloc);
+            add_variables(tree, &mut found)?;
+            Ok(found)
+        }
+    }
+}
+
+fn key_of(one: Sym, other: Sym) -> (u32, u32)
+    ensures { pair_of result ≡ ordered one other }
+{
+    if one.0 < other.0 {
+        (one.0, other.0)
+    } else {
+        (other.0, one.0)
+    }
+}
+
+/// Puts in the pair of two variables that differ.
+fn add_crossing(keys: &mut Keys, one: Sym, other: Sym) -> Result<(), Memory>
+    ensures { OnOk result (pairs_of keys.new ≡ put_needed (pairs_of keys.old) (one, other)) }
+{
+    if one == other {
+        return Ok(());
+    }
+    keys.insert(key_of(one, other))?;
+    Ok(())
+}
+
+fn add_row(keys: &mut Keys, one: Sym, others: &[Sym]) -> Result<(), Memory>
+    ensures { OnOk result (pairs_of keys.new ≡ put_row others.now (pairs_of keys.old) one) }
+{
+    for other in others {
+        add_crossing(keys, one, *other)?;
+    }
+    Ok(())
+}
+
+fn add_crossings(keys: &mut Keys, ones: &[Sym], others: &[Sym]) -> Result<(), Memory>
+    ensures { OnOk result (pairs_of keys.new ≡ put_all ones.now others.now (pairs_of keys.old)) }
+{
+    for one in ones {
+        add_row(keys, *one, others)?;
+    }
+    Ok(())
+}
+
+/// Puts in what a pair of the frame needs.
+fn add_needed(
+    alloc: Global,
+    keys: &mut Keys,
+    pair: Pair,
+    vars: &[Sym],
+    trees: &[Tree],
+) -> Result<(), Memory>
+    ensures { OnOk result (pairs_of keys.new ≡ put_of vars.now trees.now (pairs_of keys.old) pair) }
+{
+    let ones = variables_of(alloc, vars, trees, pair.a)?;
+    let others = variables_of(alloc, vars, trees, pair.b)?;
+    add_crossings(keys, ones.as_slice(), others.as_slice())
+}
+
+fn listed(alloc: Global, keys: &Keys) -> Result<List<Pair>, Memory>
+    ensures { IfOk result (λ pairs. pairs ≡ pairs_of keys.now) }
+{
+    let pairs = keys
+        .iter()
+        .map(|key| Pair {
+            a: Sym(key.0),
+            b: Sym(key.1),
+        })
+        .collect(alloc)?;
+    Ok(List::from_vec(pairs))
+}
+
+fn needed_keys(alloc: Global, pairs: &[Pair], vars: &[Sym], trees: &[Tree]) -> Result<Keys, Memory>
+    ensures { IfOk result (λ keys. pairs_of keys ≡ fold (put_of vars.now trees.now) [] pairs.now) }
+{
+    let mut keys = BTreeSet::new(alloc);
+    for pair in pairs {
+        add_needed(alloc, &mut keys, *pair, vars, trees)?;
+    }
+    Ok(keys)
+}
+
+/// The pairs that a use of an assertion needs, by lesser and then greater symbol number, each once: of each pair of its
+/// frame, each variable of the database in the one value with each other one in the other value.
+pub fn needed(
+    alloc: Global,
+    pairs: &List<Pair>,
+    vars: &List<Sym>,
+    trees: &List<Tree>,
+) -> Result<List<Pair>, Memory>
+    ensures { IfOk result (λ list. (u : Use) → IsUseOf u pairs.now vars.now trees.now → list ≡ needed_by_use u) }
+{
+    let keys = needed_keys(alloc, pairs.as_slice(), vars.as_slice(), trees.as_slice())?;
+    listed(alloc, &keys)
+}

@@ -1,0 +1,4 @@
+pub mod FallLaws
+pub mod ListedLaws
+pub mod NextLaws
+pub mod OrderLaws

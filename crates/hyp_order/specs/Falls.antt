@@ -1,0 +1,12 @@
+-- Lists of numbers that fall.
+use Rattle.std.specs.Prelude.{ℕ, ◌≤◌, List, [], ◌∷◌}
+
+-- no number is above a bound
+abbrev pub AtMost : ℕ → List ℕ → Type 0
+AtMost b [] = Unit {0}
+AtMost b (x ∷ xs) = (x ≤ b) × AtMost b xs
+
+-- no number is above one before it
+abbrev pub Falls : List ℕ → Type 0
+Falls [] = Unit {0}
+Falls (x ∷ xs) = AtMost x xs × Falls xs
