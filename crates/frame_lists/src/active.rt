@@ -1,0 +1,53 @@
+//! What is active at a place.
+
+ghost use Rattle.std.specs.Prelude.{◌≡◌, ◌≤◌, ℕ, List, length, None, IfOk};
+ghost use Rattle.mm_model.specs.Statements.{statements, statement_fault};
+ghost use Rattle.mm_model.specs.Frames as spec;
+ghost use Rattle.frame_lists.specs.Lists.{AreOf};
+
+use crate::hypotheses::active_hypotheses;
+use crate::listed::Listed;
+use crate::pairs::pairs_among;
+use crate::scope::Scope;
+use crate::sorted::rising;
+use mm_base::{List, Memory, Sym};
+use mm_model::Active;
+use number_set::NumberSet;
+use std::alloc::Global;
+
+/// What is active behind the first so many statements.
+fn scope_at(alloc: Global, listed: &Listed, place: u32) -> Result<Scope, Memory> {
+    let mut scope = Scope::new(alloc);
+    let entries = listed.entries.as_slice();
+    let mut label = 0;
+    for number in 0..place {
+        scope.pass(&entries[number as usize], number, label)?;
+        if listed.is_label_of(label, number) {
+            label += 1;
+        }
+    }
+    Ok(scope)
+}
+
+/// The variables by number.
+fn in_order(alloc: Global, variables: &NumberSet) -> Result<List<Sym>, Memory> {
+    let numbers = rising(Vec::from_slice(alloc, variables.items())?)?;
+    let mut symbols = Vec::with_capacity(alloc, numbers.len())?;
+    for number in numbers.as_slice() {
+        symbols.push(Sym(*number))?;
+    }
+    Ok(List::from_vec(symbols))
+}
+
+/// What is active at a place. It takes one pass over the statements below it.
+pub fn active_at(alloc: Global, listed: &Listed, place: u32) -> Result<Active, Memory>
+    requires { place ≤ length listed.now.entries }
+    ensures { (text : List ℕ) → statement_fault text ≡ None → AreOf listed.now (statements text) → IfOk result (λ a. a ≡ spec.active_at (statements text) place) }
+{
+    let scope = scope_at(alloc, listed, place)?;
+    Ok(Active {
+        variables: in_order(alloc, &scope.variables)?,
+        hyps: active_hypotheses(alloc, listed, &scope)?,
+        pairs: pairs_among(alloc, listed, scope.distinct.as_slice(), &scope.variables)?,
+    })
+}
