@@ -34,4 +34,3 @@ proof_of s = if has_keyword (codes "$p") s then proof_in s else None
 -- a statement by numbers
 abbrev pub entry_in : List Name → Statement → Entry
 entry_in names s = record { kind = kind_in s; start = first_byte s; symbols = formula_of names s; proof = proof_of s }
-

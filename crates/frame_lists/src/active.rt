@@ -1,9 +1,11 @@
 //! What is active at a place.
 
-ghost use Rattle.std.specs.Prelude.{◌≡◌, ◌≤◌, ℕ, List, length, None, IfOk};
+ghost use Rattle.std.specs.Prelude.{◌≡◌, ◌≤◌, ℕ, List, length, None, IfOk, map};
 ghost use Rattle.mm_model.specs.Statements.{statements, statement_fault};
 ghost use Rattle.mm_model.specs.Frames as spec;
 ghost use Rattle.frame_lists.specs.Lists.{AreOf};
+ghost use Rattle.mm_model.specs.Names.{sym};
+ghost use Rattle.frame_lists.specs.Orders.{AreVariables};
 
 use crate::hypotheses::active_hypotheses;
 use crate::listed::Listed;
@@ -29,14 +31,23 @@ fn scope_at(alloc: Global, listed: &Listed, place: u32) -> Result<Scope, Memory>
     Ok(scope)
 }
 
-/// The variables by number.
-fn in_order(alloc: Global, variables: &NumberSet) -> Result<List<Sym>, Memory> {
-    let numbers = rising(Vec::from_slice(alloc, variables.items())?)?;
+/// The symbols of these numbers.
+fn symbols_of(alloc: Global, numbers: &[u32]) -> Result<List<Sym>, Memory>
+    ensures { IfOk result (λ symbols. symbols ≡ map sym numbers.now) }
+{
     let mut symbols = Vec::with_capacity(alloc, numbers.len())?;
-    for number in numbers.as_slice() {
+    for number in numbers {
         symbols.push(Sym(*number))?;
     }
     Ok(List::from_vec(symbols))
+}
+
+/// The variables by number.
+fn in_order(alloc: Global, variables: &NumberSet) -> Result<List<Sym>, Memory>
+    ensures { IfOk result (λ symbols. AreVariables variables.now symbols) }
+{
+    let numbers = rising(Vec::from_slice(alloc, variables.items())?);
+    symbols_of(alloc, numbers.as_slice())
 }
 
 /// What is active at a place. It takes one pass over the statements below it.

@@ -34,7 +34,11 @@ pub fn constant_places(alloc: Global, symbols: u32, entries: &[Entry]) -> Result
     let mut places = vec![in alloc; u32::MAX; symbols as usize]?;
     for number in 0..entries.len() {
         if is_constants(entries[number].kind) {
-            note(&mut places, entries[number].symbols.as_slice(), number as u32);
+            note(
+                &mut places,
+                entries[number].symbols.as_slice(),
+                number as u32,
+            );
         }
     }
     Ok(places)

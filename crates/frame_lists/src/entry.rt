@@ -1,4 +1,6 @@
 ghost use Rattle.std.specs.Prelude.{◌≡◌};
+ghost use Rattle.frame_lists.specs.Steps.{is_assertion, is_axiom, is_floating};
+
 use mm_base::{List, Sym};
 
 /// A keyword that a statement with symbols begins with.
@@ -37,12 +39,16 @@ pub struct Entry {
 }
 
 /// Whether it is a `$f`.
-pub(crate) fn is_floating(kind: EntryKind) -> bool {
+pub(crate) fn is_floating(kind: EntryKind) -> bool
+    ensures { result ≡ is_floating kind }
+{
     matches!(kind, EntryKind::Statement(StatementKind::Floating))
 }
 
 /// Whether it is a `$a` or a `$p`.
-pub(crate) fn is_assertion(kind: EntryKind) -> bool {
+pub(crate) fn is_assertion(kind: EntryKind) -> bool
+    ensures { result ≡ is_assertion kind }
+{
     matches!(
         kind,
         EntryKind::Statement(StatementKind::Axiom) | EntryKind::Statement(StatementKind::Provable)
@@ -50,6 +56,8 @@ pub(crate) fn is_assertion(kind: EntryKind) -> bool {
 }
 
 /// Whether it is a `$a`.
-pub(crate) fn is_axiom(kind: EntryKind) -> bool {
+pub(crate) fn is_axiom(kind: EntryKind) -> bool
+    ensures { result ≡ is_axiom kind }
+{
     matches!(kind, EntryKind::Statement(StatementKind::Axiom))
 }

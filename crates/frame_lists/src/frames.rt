@@ -37,7 +37,12 @@ impl Framing {
         number: u32,
         label: u32,
     ) -> Result<Frame, Memory> {
-        mark_mandatory(&mut self.marked, &self.scope, listed, entry.symbols.as_slice())?;
+        mark_mandatory(
+            &mut self.marked,
+            &self.scope,
+            listed,
+            entry.symbols.as_slice(),
+        )?;
         Ok(Frame {
             label: Label(label),
             is_axiom: is_axiom(entry.kind),

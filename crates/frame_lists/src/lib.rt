@@ -22,5 +22,4 @@ pub use entry::{Entry, EntryKind, StatementKind};
 pub use frames::frames_by_label;
 pub use listed::Listed;
 pub use mm_model::{Active, Frame, Hyp};
-
 pub use stack::Stack;

@@ -17,8 +17,13 @@ pub struct Listed {
 }
 
 impl Listed {
+    ghost use Rattle.std.specs.Prelude.{◌≡◌, IfOk, slice_index_or, []};
+    ghost use Rattle.frame_lists.specs.Steps.{symbols_at, floating_at, position_at, is_label_of, hypothesis_at};
+
     /// The symbols of the statement of this number.
-    pub(crate) fn symbols(&self, number: u32) -> &[Sym] {
+    pub(crate) fn symbols(&self, number: u32) -> &[Sym]
+        ensures { result.now ≡ symbols_at self.now number }
+    {
         match self.entries.as_slice().get(number as usize) {
             None => &[],
             Some(entry) => entry.symbols.as_slice(),
@@ -26,7 +31,9 @@ impl Listed {
     }
 
     /// The number of the statement of a label.
-    pub(crate) fn position(&self, label: u32) -> u32 {
+    pub(crate) fn position(&self, label: u32) -> u32
+        ensures { result ≡ position_at self.now label }
+    {
         match self.positions.as_slice().get(label as usize) {
             None => 0,
             Some(position) => *position,
@@ -34,7 +41,9 @@ impl Listed {
     }
 
     /// Whether the label is that of the statement of this number.
-    pub(crate) fn is_label_of(&self, label: u32, number: u32) -> bool {
+    pub(crate) fn is_label_of(&self, label: u32, number: u32) -> bool
+        ensures { result ≡ is_label_of self.now label number }
+    {
         match self.positions.as_slice().get(label as usize) {
             None => false,
             Some(position) => *position == number,
@@ -42,7 +51,9 @@ impl Listed {
     }
 
     /// The hypothesis of this label.
-    pub(crate) fn hypothesis(&self, alloc: Global, label: u32) -> Result<Hyp, Memory> {
+    pub(crate) fn hypothesis(&self, alloc: Global, label: u32) -> Result<Hyp, Memory>
+        ensures { IfOk result (λ h. h ≡ hypothesis_at self.now label) }
+    {
         let number = self.position(label);
         Ok(Hyp {
             name: List::from_vec(Vec::from_slice(alloc, self.name(label))?),
@@ -52,14 +63,18 @@ impl Listed {
     }
 
     /// The name of a label.
-    fn name(&self, label: u32) -> &[u8] {
+    fn name(&self, label: u32) -> &[u8]
+        ensures { result.now ≡ slice_index_or self.now.labels label [] }
+    {
         if label < self.labels.count() {
             return self.labels.name(label);
         }
         &[]
     }
 
-    fn is_floating(&self, number: u32) -> bool {
+    fn is_floating(&self, number: u32) -> bool
+        ensures { result ≡ floating_at self.now number }
+    {
         match self.entries.as_slice().get(number as usize) {
             None => false,
             Some(entry) => is_floating(entry.kind),

@@ -1,5 +1,9 @@
 //! Pairs of distinct variables.
 
+ghost use Rattle.std.specs.Prelude.{◌≡◌, IfOk, OnOk, map};
+ghost use Rattle.frame_lists.specs.Steps.{chosen, found_pairs, pair_of, pairs_all, pairs_with};
+ghost use Rattle.frame_lists.specs.Orders.{ArePairs};
+
 use crate::listed::Listed;
 use crate::sorted::rising_pairs;
 use mm_base::{List, Memory, Pair, Sym};
@@ -7,7 +11,9 @@ use number_set::NumberSet;
 use std::alloc::Global;
 
 /// Those of the symbols that are in the set.
-fn chosen(alloc: Global, symbols: &[Sym], set: &NumberSet) -> Result<Vec<u32>, Memory> {
+fn chosen(alloc: Global, symbols: &[Sym], set: &NumberSet) -> Result<Vec<u32>, Memory>
+    ensures { IfOk result (λ v. v.items ≡ chosen set.now symbols.now) }
+{
     let mut numbers = Vec::new(alloc);
     for symbol in symbols {
         if set.contains(symbol.0) {
@@ -18,7 +24,9 @@ fn chosen(alloc: Global, symbols: &[Sym], set: &NumberSet) -> Result<Vec<u32>, M
 }
 
 /// Adds the pairs of a number with others, the lesser first.
-fn add_pairs_with(pairs: &mut Vec<(u32, u32)>, one: u32, others: &[u32]) -> Result<(), Memory> {
+fn add_pairs_with(pairs: &mut Vec<(u32, u32)>, one: u32, others: &[u32]) -> Result<(), Memory>
+    ensures { OnOk result (pairs.new.items ≡ pairs_with pairs.old.items one others.now) }
+{
     for other in others {
         if one < *other {
             pairs.push((one, *other))?;
@@ -28,7 +36,9 @@ fn add_pairs_with(pairs: &mut Vec<(u32, u32)>, one: u32, others: &[u32]) -> Resu
 }
 
 /// Adds the pairs of numbers, the lesser first.
-fn add_pairs(pairs: &mut Vec<(u32, u32)>, numbers: &[u32]) -> Result<(), Memory> {
+fn add_pairs(pairs: &mut Vec<(u32, u32)>, numbers: &[u32]) -> Result<(), Memory>
+    ensures { OnOk result (pairs.new.items ≡ pairs_all pairs.old.items numbers.now) }
+{
     for number in numbers {
         add_pairs_with(pairs, *number, numbers)?;
     }
@@ -41,7 +51,9 @@ fn found_pairs(
     listed: &Listed,
     distinct: &[u32],
     set: &NumberSet,
-) -> Result<Vec<(u32, u32)>, Memory> {
+) -> Result<Vec<(u32, u32)>, Memory>
+    ensures { IfOk result (λ v. v.items ≡ found_pairs listed.now distinct.now set.now) }
+{
     let mut pairs = Vec::new(alloc);
     for number in distinct {
         let numbers = chosen(alloc, listed.symbols(*number), set)?;
@@ -50,7 +62,9 @@ fn found_pairs(
     Ok(pairs)
 }
 
-fn as_pairs(alloc: Global, numbers: &[(u32, u32)]) -> Result<List<Pair>, Memory> {
+fn as_pairs(alloc: Global, numbers: &[(u32, u32)]) -> Result<List<Pair>, Memory>
+    ensures { IfOk result (λ pairs. pairs ≡ map pair_of numbers.now) }
+{
     let mut pairs = Vec::with_capacity(alloc, numbers.len())?;
     for (a, b) in numbers {
         pairs.push(Pair {
@@ -67,7 +81,9 @@ pub(crate) fn pairs_among(
     listed: &Listed,
     distinct: &[u32],
     set: &NumberSet,
-) -> Result<List<Pair>, Memory> {
-    let pairs = rising_pairs(found_pairs(alloc, listed, distinct, set)?)?;
+) -> Result<List<Pair>, Memory>
+    ensures { IfOk result (λ pairs. ArePairs listed.now distinct.now set.now pairs) }
+{
+    let pairs = rising_pairs(found_pairs(alloc, listed, distinct, set)?);
     as_pairs(alloc, pairs.as_slice())
 }

@@ -1,18 +1,21 @@
 //! Numbers and pairs in order.
 
-use mm_base::Memory;
-use mm_base::Sym;
+ghost use Rattle.frame_lists.specs.Orders.{Ordered, Rises, PairsRise};
 
-/// Numbers that differ, in their order.
-pub(crate) fn rising(mut numbers: Vec<u32>) -> Result<Vec<u32>, Memory> {
-    numbers.sort()?;
+/// Numbers in their order, each once.
+pub(crate) fn rising(mut numbers: Vec<u32>) -> Vec<u32>
+    ensures { Ordered Rises numbers.items result.items }
+{
+    numbers.sort_unstable();
     numbers.dedup();
-    Ok(numbers)
+    numbers
 }
 
 /// Pairs by their first and then their second number, each once.
-pub(crate) fn rising_pairs(mut pairs: Vec<(u32, u32)>) -> Result<Vec<(u32, u32)>, Memory> {
-    pairs.sort()?;
+pub(crate) fn rising_pairs(mut pairs: Vec<(u32, u32)>) -> Vec<(u32, u32)>
+    ensures { Ordered PairsRise pairs.items result.items }
+{
+    pairs.sort_unstable();
     pairs.dedup();
-    Ok(pairs)
+    pairs
 }

@@ -1,4 +1,4 @@
-ghost use Rattle.std.specs.Prelude.{◌≡◌, [], ◌∷◌, ◌++◌, length, take, OnOk, OnErr, IfOk, IfSome, IfNone};
+ghost use Rattle.std.specs.Prelude.{◌≡◌, [], ◌∷◌, ◌++◌, length, take, OnOk, OnErr, IfOk, slice_get, ◌-◌};
 ghost use Rattle.mm_model.specs.Statements.{is_empty};
 
 use mm_base::{List, Memory};
@@ -73,9 +73,8 @@ impl<T: Drop> Stack<T> {
 
     /// Takes the last item off. None where there is none.
     pub fn pop(&mut self) -> Option<T>
-        ensures none { IfNone result (self.old ≡ []) }
-        ensures same { IfNone result (self.new ≡ []) }
-        ensures last { IfSome result (λ item. self.old ≡ self.new ++ item ∷ []) }
+        ensures last { result ≡ slice_get self.old (length self.old - 1) }
+        ensures rest { self.new ≡ take (length self.old - 1) self.old }
     {
         self.items.pop()
     }

@@ -1,0 +1,36 @@
+-- Lists in order, each item once.
+use Rattle.std.specs.Prelude.{ℕ, List, Contains, map, ◌≡◌}
+use Rattle.std.specs.Ordering.{nat_cmp, ordering_then}
+use Rattle.std.specs.List.Sorted.{IsStrictlySortedBy}
+use Rattle.mm_base.specs.declared.symbols.Pair.{Pair}
+use Rattle.mm_base.specs.declared.symbols.Sym.{Sym}
+use Rattle.mm_model.specs.Names.{sym}
+use Rattle.frame_lists.specs.declared.listed.Listed.{Listed}
+use Rattle.frame_lists.specs.declared.scope.Scope.{Scope}
+use Rattle.mm_model.specs.declared.frames.Hyp.{Hyp}
+use Rattle.mm_model.specs.declared.frames.Frame.{Frame}
+use Rattle.frame_lists.specs.Steps.{hypothesis_at, labels_of, found_pairs, pair_of}
+
+-- the items of a list in their order, each once
+pub record Ordered {X : Type 0} (IsInOrder : List X → Type 0) (xs ys : List X) : Type 0 where
+  pub rises : IsInOrder ys
+  pub keeps : (x : X) → Contains xs x → Contains ys x
+  pub adds_none : (x : X) → Contains ys x → Contains xs x
+
+abbrev pub Rises : List ℕ → Type 0
+Rises ns = IsStrictlySortedBy nat_cmp ns
+
+abbrev pub PairsRise : List (ℕ × ℕ) → Type 0
+PairsRise ps = IsStrictlySortedBy (λ x y. ordering_then (nat_cmp x.0 y.0) (nat_cmp x.1 y.1)) ps
+
+-- hypotheses of labels, in order
+abbrev pub AreHypotheses : Listed → List ℕ → List Hyp → Type 0
+AreHypotheses l labels hyps = (ns : List ℕ) × Ordered Rises labels ns × (hyps ≡ map (hypothesis_at l) ns)
+
+-- pairs of the set by `$d`, in order
+abbrev pub ArePairs : Listed → List ℕ → List ℕ → List Pair → Type 0
+ArePairs l distinct set pairs = (ps : List (ℕ × ℕ)) × Ordered PairsRise (found_pairs l distinct set) ps × (pairs ≡ map pair_of ps)
+
+-- variables in order
+abbrev pub AreVariables : List ℕ → List Sym → Type 0
+AreVariables variables symbols = (ns : List ℕ) × Ordered Rises variables ns × (symbols ≡ map sym ns)
