@@ -1,5 +1,5 @@
 use Rattle.frame_lists.proofs.Members.{unique}
-use Rattle.frame_lists.proofs.Numbered.{nested}
+use Rattle.frame_lists.proofs.Passing.{scope-next}
 use Rattle.frame_lists.proofs.active.active_at.Goals as goal
 
 pub returns : goal.returns
