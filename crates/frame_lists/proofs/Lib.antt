@@ -1,5 +1,11 @@
+pub mod HypothesisLaws
+pub mod MandatoryLaws
+pub mod Added
+pub mod ByNumber
 pub mod Keywords
 pub mod Members
 pub mod Numbered
 pub mod PairOrder
 pub mod Passing
+pub mod Placed
+pub mod StateLaws

@@ -9,6 +9,7 @@ use Rattle.std.proofs.lemmas.Cmp.{tied_itself}
 use Rattle.std.proofs.lemmas.Map.Keys.{sorted_head, sorted_tail}
 use Rattle.std.proofs.lemmas.Bool.{cases_Bool, or_cases, or_left, or_right}
 use Rattle.std.proofs.lemmas.Bool.Decides.{nat_tests}
+use Rattle.std.proofs.lemmas.List.{reverse-append}
 
 abbrev pub In : {X : Type 0} → X → List X → Type 0
 In x [] = ⊥
@@ -96,6 +97,54 @@ module _ {X : Type 0} where
       join : (P : X → Type 0) (xs ys : List X) → AllByRecursion P xs → AllByRecursion P ys → AllByRecursion P (xs ++ ys)
       join P [] ys h k = k
       join P (x ∷ xs) ys h k = (h.0, join P xs ys h.1 k)
+
+module _ {X : Type 0} where
+  pub in_filter : (q : X → Bool) (x : X) (xs : List X) → In x (filter q xs) → In x xs × (q x ≡ true)
+  in_filter q x [] i = absurd i
+  in_filter q x (y ∷ xs) i = elim (cases_Bool (q y)) [
+    | inl h ↦ first h (λ k. in_filter q x xs k) (rw h at i)
+    | inr h ↦ let r = in_filter q x xs (rw h at i) in (inr r.0, r.1)
+  ]
+    where
+      first : q y ≡ true → (In x (filter q xs) → In x xs × (q x ≡ true)) → In x (y ∷ filter q xs) → In x (y ∷ xs) × (q x ≡ true)
+      first h f i = elim i [ inl e ↦ (inl e, ap q e ∙ h) | inr k ↦ let r = f k in (inr r.0, r.1) ]
+
+  pub filter_in : (q : X → Bool) (x : X) (xs : List X) → In x xs → q x ≡ true → In x (filter q xs)
+  filter_in q x [] i h = absurd i
+  filter_in q x (y ∷ xs) i h = elim i [
+    | inl e ↦ let pass : q y ≡ true = ap q (sym e) ∙ h in rw pass (inl e)
+    | inr k ↦ let later = filter_in q x xs k h in elim (cases_Bool (q y)) [ inl p ↦ rw p (inr later) | inr p ↦ rw p later ]
+  ]
+
+  pub in_reverse : (x : X) (xs : List X) → In x (reverse xs) → In x xs
+  in_reverse x [] i = i
+  in_reverse x (y ∷ xs) i = elim (in_append x (reverse xs) (y ∷ []) (subst (λ l. In x l) (reverse-append (y ∷ []) xs) i)) [
+    | inl k ↦ inr (in_reverse x xs k)
+    | inr k ↦ elim k [ inl e ↦ inl e | inr j ↦ absurd j ]
+  ]
+
+  pub reverse_in : (x : X) (xs : List X) → In x xs → In x (reverse xs)
+  reverse_in x [] i = i
+  reverse_in x (y ∷ xs) i = subst (λ l. In x l) (sym (reverse-append (y ∷ []) xs)) (elim i [
+    | inl e ↦ in_right x (reverse xs) (y ∷ []) (inl e)
+    | inr k ↦ in_left x (reverse xs) (y ∷ []) (reverse_in x xs k)
+  ])
+
+  pub any_found : (p : X → Bool) (xs : List X) → list_any p xs ≡ true → (x : X) × In x xs × (p x ≡ true)
+  any_found p [] h = absurd cc
+  any_found p (x ∷ xs) h = elim (or_cases (p x) (list_any p xs) h) [ inl e ↦ (x, inl refl, e) | inr k ↦ let r = any_found p xs k in (r.0, inr r.1, r.2) ]
+
+  pub any_there : (p : X → Bool) (x : X) (xs : List X) → In x xs → p x ≡ true → list_any p xs ≡ true
+  any_there p x [] i h = absurd i
+  any_there p x (y ∷ xs) i h = elim i [ inl e ↦ or_left (p y) (list_any p xs) (ap p (sym e) ∙ h) | inr k ↦ or_right (p y) (list_any p xs) (any_there p x xs k h) ]
+
+pub in_map : {X Y : Type 0} (f : X → Y) (y : Y) (xs : List X) → In y (map f xs) → (x : X) × In x xs × (f x ≡ y)
+in_map f y [] i = absurd i
+in_map f y (x ∷ xs) i = elim i [ inl e ↦ (x, inl refl, sym e) | inr k ↦ let r = in_map f y xs k in (r.0, inr r.1, r.2) ]
+
+pub map_in : {X Y : Type 0} (f : X → Y) (x : X) (xs : List X) → In x xs → In (f x) (map f xs)
+map_in f x [] i = absurd i
+map_in f x (y ∷ xs) i = elim i [ inl e ↦ inl (ap f e) | inr k ↦ inr (map_in f x xs k) ]
 
 -- the test of numbers
 pub has_in : (n : ℕ) (ns : List ℕ) → list_any (nat_eq n) ns ≡ true → In n ns

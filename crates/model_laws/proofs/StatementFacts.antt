@@ -7,10 +7,11 @@ use Rattle.std.proofs.lemmas.List.{append-nil, reverse-reverse}
 use Rattle.std.proofs.lemmas.Slice.Eq.{bytes_eq-Decides}
 use Rattle.mm_model.specs.Words.{Word}
 use Rattle.mm_model.specs.Names.{Name, contains}
-use Rattle.mm_model.specs.Statements.{Statement, is, is_one_of, is_word, is_empty, is_label_alone, unended, labels_in, body, has_keyword, has_one_of, in_proof, symbols_in, second, typed, labelled, label_missing, stray_token, can_stand, statements, statement_fault}
+use Rattle.mm_model.specs.Statements.{Statement, is, is_one_of, is_word, is_empty, is_label_alone, unended, labels_in, body, has_keyword, has_one_of, in_proof, symbols_in, second, typed, variables, labelled, label_missing, stray_token, can_stand, statements, statement_fault}
 use Rattle.model_laws.specs.StatementLaws.{statement_keywords, IsSound, AreSound, StatementsAreSound}
 use Rattle.model_laws.proofs.Checked.{rules_fail, At, IsChecked, EachBefore, text_checked, last_first}
 use Rattle.model_laws.proofs.Listed.{same_names}
+use Rattle.model_laws.proofs.Symbols.{FloatKnown, float_known}
 use Rattle.model_laws.proofs.Shapes.{taken-front, Parts, parts, AreWords, Stops, Shape, shape, at_split, LabelIsNew, label_is_new, FloatIsNew, float_is_new}
 
 few : (e : List Statement) (ls : List Word) → LabelIsNew e ls → length ls ≤ 1
@@ -52,6 +53,14 @@ new_float e (a ∷ w ∷ []) f v h = elim (cases_Bool (bytes_eq v w)) [
   | inr d ↦ let bad : false ≡ true = rw d at h in absurd cc
 ]
 new_float e (a ∷ w ∷ x ∷ ns) f v h = absurd f
+
+float_is_variable : (e : List Statement) (ns : List Name) → FloatKnown e ns → (v : Name) → contains (second ns) v ≡ true → contains (variables e) v ≡ true
+float_is_variable e [] f v h = absurd cc
+float_is_variable e (a ∷ []) f v h = absurd cc
+float_is_variable e (a ∷ w ∷ ns) f v h = elim (cases_Bool (bytes_eq v w)) [
+  | inl d ↦ ap (contains (variables e)) (same_names v w d) ∙ f.1
+  | inr d ↦ let bad : false ≡ true = rw d at h in absurd cc
+]
 
 -- ---- a keyword at which no rule holds can stand
 
@@ -105,6 +114,7 @@ sound e s c =
       one_label = least;
       has_label = has_label e s c;
       new_float = λ v h stands. new_float e (symbols_in s) (float_is_new e s c h) v stands;
+      float_is_variable = λ v h stands. float_is_variable e (symbols_in s) (float_known e s c h) v stands;
       has_keyword_or_none = λ none. without e s p.front p.rest c p.whole (subst (λ (ws : List Word). length ws ≤ 1) p.taken least) p.pass p.stop p.dropped none;
     }
 

@@ -3,7 +3,7 @@ use Rattle.std.specs.Prelude.{◌≡◌, ◌≤◌, ℕ, List, [], ◌∷◌, le
 use Rattle.std.specs.List.{list_any}
 use Rattle.std.specs.Str.{bytes_eq}
 use Rattle.mm_model.specs.Names.{Name, contains}
-use Rattle.mm_model.specs.Statements.{Statement, labels_in, has_keyword, has_one_of, labelled, symbols_in, second, typed, statements, statement_fault}
+use Rattle.mm_model.specs.Statements.{Statement, labels_in, has_keyword, has_one_of, labelled, symbols_in, second, typed, variables, statements, statement_fault}
 
 -- the keywords that a statement may have
 abbrev pub statement_keywords : List (List ℕ)
@@ -15,6 +15,8 @@ pub record IsSound (e : List Statement) (s : Statement) : Type 0 where
   pub has_label : (k : List ℕ) → list_any (bytes_eq k) labelled ≡ true → has_keyword k s ≡ true → length (labels_in s) ≡ 1
   -- the variable of a `$f` has no active `$f` yet
   pub new_float : (v : Name) → has_keyword (codes "$f") s ≡ true → contains (second (symbols_in s)) v ≡ true → contains (typed e) v ≡ false
+  -- and it is an active variable
+  pub float_is_variable : (v : Name) → has_keyword (codes "$f") s ≡ true → contains (second (symbols_in s)) v ≡ true → contains (variables e) v ≡ true
   -- one without a keyword has no symbols
   pub has_keyword_or_none : has_one_of statement_keywords s ≡ false → symbols_in s ≡ []
 

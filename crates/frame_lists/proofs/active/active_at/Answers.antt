@@ -1,5 +1,10 @@
+use Rattle.frame_lists.proofs.HypothesisLaws.{hypotheses-law}
+use Rattle.frame_lists.proofs.MandatoryLaws.{mandatory-law}
+use Rattle.frame_lists.proofs.StateLaws.{float-is}
+use Rattle.frame_lists.proofs.Added.{filter-map}
+use Rattle.frame_lists.proofs.Placed.{below-length}
 use Rattle.frame_lists.proofs.Members.{unique}
-use Rattle.frame_lists.proofs.Passing.{scope-next}
+use Rattle.frame_lists.proofs.ByNumber.{contains-symbols}
 use Rattle.frame_lists.proofs.active.active_at.Goals as goal
 
 pub returns : goal.returns
