@@ -213,21 +213,24 @@ module _ (names : List Name) where
     | inr d ↦ let later = passing-in q xs n d e in elim (cases_Bool (q x)) [ inl p ↦ rw p (inr later) | inr p ↦ rw p later ]
   ]
 
+  -- a number of the set is that of a name that passes, and the other way
+  pub to-passing : (q : Name → Bool) (set : List ℕ) → Fresh [] names → ((j : ℕ) → has set j ≡ true → j < length names) → ((n : Name) → contains names n ≡ true → q n ≡ has set (number n)) → (j : ℕ) → has set j ≡ true → In j (numbers_passing q names)
+  to-passing q set fresh within law j there =
+      let n = number-at [] names j refl fresh (within j there) in
+      let is : number n.0 ≡ j = omega (arith, n.2) in
+      let passes : q n.0 ≡ true = law n.0 n.1 ∙ ap (has set) is ∙ there in
+      subst (λ (k : ℕ). In k (numbers_passing q names)) is (passing-in q names n.0 n.1 passes)
+
+  pub from-passing : (q : Name → Bool) (set : List ℕ) → ((n : Name) → contains names n ≡ true → q n ≡ has set (number n)) → (j : ℕ) → In j (numbers_passing q names) → has set j ≡ true
+  from-passing q set law j i = let r = in-passing q names j i in ap (has set) (sym r.3) ∙ sym (law r.0 r.1) ∙ r.2
+
   -- numbers in order, each of a name that passes
   pub ordered-is : (q : Name → Bool) (set ns : List ℕ) → Fresh [] names → Ordered Rises set ns → ((j : ℕ) → has set j ≡ true → j < length names) → ((n : Name) → contains names n ≡ true → q n ≡ has set (number n))
       → ns ≡ numbers_passing q names
   ordered-is q set ns fresh o within law =
       unique nat_cmp nat_cmp_total ns (numbers_passing q names) o.rises (passing-rise q fresh)
-      (λ j i.
-          let there : has set j ≡ true = in_has j set (contains_in j set (o.adds_none j (in_contains j ns i))) in
-          let n = number-at [] names j refl fresh (within j there) in
-          let is : number n.0 ≡ j = omega (arith, n.2) in
-          let passes : q n.0 ≡ true = law n.0 n.1 ∙ ap (has set) is ∙ there in
-          subst (λ (k : ℕ). In k (numbers_passing q names)) is (passing-in q names n.0 n.1 passes))
-      (λ j i.
-          let r = in-passing q names j i in
-          let there : has set j ≡ true = ap (has set) (sym r.3) ∙ sym (law r.0 r.1) ∙ r.2 in
-          contains_in j ns (o.keeps j (in_contains j set (has_in j set there))))
+      (λ j i. to-passing q set fresh within law j (in_has j set (contains_in j set (o.adds_none j (in_contains j ns i)))))
+      (λ j i. contains_in j ns (o.keeps j (in_contains j set (has_in j set (from-passing q set law j i)))))
 
 -- ---- a variable that is declared is known
 

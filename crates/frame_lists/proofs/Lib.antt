@@ -9,3 +9,4 @@ pub mod PairOrder
 pub mod Passing
 pub mod Placed
 pub mod StateLaws
+pub mod PairLaws

@@ -113,7 +113,7 @@ get-or [] (suc k) x d h = absurd cc
 get-or (y ∷ xs) zero x d h = cc
 get-or (y ∷ xs) (suc k) x d h = get-or xs k x d h
 
-filter-reverse : {X : Type 0} (q : X → Bool) (xs : List X) → filter q (reverse xs) ≡ reverse (filter q xs)
+pub filter-reverse : {X : Type 0} (q : X → Bool) (xs : List X) → filter q (reverse xs) ≡ reverse (filter q xs)
 filter-reverse q [] = refl
 filter-reverse q (x ∷ xs) =
     ap (λ l. filter q l) (reverse-append (x ∷ []) xs) ∙ filter-append q (reverse xs) (x ∷ []) ∙ ap (λ l. l ++ filter q (x ∷ [])) (filter-reverse q xs)
