@@ -44,6 +44,7 @@ fresh-less seen more (x ∷ xs) f h = (less (contains seen x) refl, fresh-less (
     less : (b : Bool) → contains seen x ≡ b → b ≡ false
     less true e = let bad : true ≡ false = sym (f x e) ∙ h.0 in absurd cc
     less false e = refl
+
     both : (n : Name) → contains (x ∷ seen) n ≡ true → contains (x ∷ more) n ≡ true
     both n k = elim (or_cases (bytes_eq n x) (contains seen n) k) [ inl e ↦ or_left (bytes_eq n x) (contains more n) e | inr e ↦ or_right (bytes_eq n x) (contains more n) (f n e) ]
 

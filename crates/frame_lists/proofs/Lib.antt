@@ -10,3 +10,4 @@ pub mod Passing
 pub mod Placed
 pub mod StateLaws
 pub mod PairLaws
+pub mod Upto

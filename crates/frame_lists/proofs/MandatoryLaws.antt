@@ -69,9 +69,11 @@ module _ (vars : List ℕ) where
       there : (b : Bool) → nat_eq j s.0 ≡ b → has set s.0 ≡ true → (has set j || (has vars j && has_symbol ss j)) ≡ (has set j || (has vars j && (nat_eq j s.0 || has_symbol ss j)))
       there true e h = let same : s.0 ≡ j = grind (arith, nat_tests) in let is : has set j ≡ true = ap (has set) (sym same) ∙ h in rw is refl
       there false e h = rw e refl
+
       new : (b : Bool) → nat_eq j s.0 ≡ b → has vars s.0 ≡ true → ((has set j || nat_eq j s.0) || (has vars j && has_symbol ss j)) ≡ (has set j || (has vars j && (nat_eq j s.0 || has_symbol ss j)))
       new true e v = let same : s.0 ≡ j = grind (arith, nat_tests) in let is : has vars j ≡ true = ap (has vars) (sym same) ∙ v in step-in (has set j) (has vars j) (nat_eq j s.0) (has_symbol ss j) is
       new false e v = rw e (ap (λ b. b || (has vars j && has_symbol ss j)) (or-none (has set j)))
+
       other : (b : Bool) → nat_eq j s.0 ≡ b → has vars s.0 ≡ false → (has set j || (has vars j && has_symbol ss j)) ≡ (has set j || (has vars j && (nat_eq j s.0 || has_symbol ss j)))
       other true e v = let same : s.0 ≡ j = grind (arith, nat_tests) in let is : has vars j ≡ false = ap (has vars) (sym same) ∙ v in rw is refl
       other false e v = rw e refl

@@ -60,13 +60,16 @@ module _ {X : Type 0} where
     where
       less_self : (x : X) → R x x ≡ Less → ⊥
       less_self x e = let bad : Less ≡ Equal = sym e ∙ tied_itself o x in absurd cc
+
       less_both : (x y : X) → R x y ≡ Less → R y x ≡ Less → ⊥
       less_both x y e f = less_self x (o.trans x y x e f)
+
       heads : (x : X) (xs : List X) (y : X) (ys : List X) → AllByRecursion (λ z. R x z ≡ Less) xs → AllByRecursion (λ z. R y z ≡ Less) ys → In x (y ∷ ys) → In y (x ∷ xs) → x ≡ y
       heads x xs y ys a b i j = elim i [
         | inl e ↦ e
         | inr k ↦ elim j [ inl e ↦ sym e | inr l ↦ absurd (less_both x y (in_all (λ z. R x z ≡ Less) y xs a l) (in_all (λ z. R y z ≡ Less) x ys b k)) ]
       ]
+
       behind : (z x y : X) (ys : List X) → x ≡ y → R x z ≡ Less → In z (y ∷ ys) → In z ys
       behind z x y ys same l i = elim i [ inl e ↦ absurd (less_self x (subst (λ (w : X). R x w ≡ Less) (e ∙ sym same) l)) | inr k ↦ k ]
 

@@ -237,11 +237,11 @@ module _ (g : ℕ → ℕ → Bool) where
       let rest = sorted_tail nat_cmp a v r in
       sorted_append pair_cmp (map (joined a) (filter (g a) v)) (pairs_of v) (row-rises a (filter (g a) v) (IsStrictlySortedBy-filter nat_cmp (g a) v rest)) (pairs_rise v rest)
       (all_of_in (λ p. AllByRecursion (λ q. pair_cmp p q ≡ Less) (pairs_of v)) (map (joined a) (filter (g a) v)) (λ p i.
-          let m = in_map (joined a) p (filter (g a) v) i in
-          all_of_in (λ q. pair_cmp p q ≡ Less) (pairs_of v) (λ q k.
-              let later = in_pairs v rest q k in
-              let low = in_all (λ y. nat_cmp a y ≡ Less) q.0 v (sorted_head nat_cmp a v r) later.0.0 in
-              ap (λ (o : ℕ × ℕ). pair_cmp o q) (sym m.2) ∙ ap (λ o. ordering_then o (nat_cmp m.0 q.1)) low)))
+      let m = in_map (joined a) p (filter (g a) v) i in
+      all_of_in (λ q. pair_cmp p q ≡ Less) (pairs_of v) (λ q k.
+      let later = in_pairs v rest q k in
+      let low = in_all (λ y. nat_cmp a y ≡ Less) q.0 v (sorted_head nat_cmp a v r) later.0.0 in
+      ap (λ (o : ℕ × ℕ). pair_cmp o q) (sym m.2) ∙ ap (λ o. ordering_then o (nat_cmp m.0 q.1)) low)))
 
 -- ---- in a database
 
@@ -321,8 +321,8 @@ module _ (ss : List Statement) where
             | inr f ↦ pairs_in g v rise p.0 p.1 (to-passing names q set fresh within law p.0 f.one) (to-passing names q set fresh within law p.1 f.other) f.less f.stand
           ])
           (λ p i.
-              let r = in_pairs g v rise p i in
-              contains_in p a.0 (o.keeps p (in_contains p found (found_in l set [] s.distinct p.0 p.1 (from-passing names q set law p.0 r.0.0) (from-passing names q set law p.1 r.0.1) r.0.2 r.1)))) in
+          let r = in_pairs g v rise p i in
+          contains_in p a.0 (o.keeps p (in_contains p found (found_in l set [] s.distinct p.0 p.1 (from-passing names q set law p.0 r.0.0) (from-passing names q set law p.1 r.0.1) r.0.2 r.1)))) in
           let known : AllByRecursion Known (filter q names) = all_of_in Known (filter q names) (λ n i. any_there (bytes_eq n) n names (in_filter q n names i).0 (name-self n)) in
           let by_name : map numbers (model.pairs_with (with_keyword (codes "$d") (active e)) (filter q names)) ≡ pairs_of g v = pairs-are (with_keyword (codes "$d") (active e)) g together-law (filter q names) known in
           a.2 ∙ ap (λ ps. map pair_of ps) (same ∙ sym by_name) ∙ twice (model.pairs_with (with_keyword (codes "$d") (active e)) (filter q names))

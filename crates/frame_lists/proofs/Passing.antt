@@ -120,8 +120,10 @@ snoc-last bs b = ap (λ (k : ℕ). slice_get (bs ++ b ∷ []) (k - 1)) (longer b
     longer : (bs : List Block) (b : Block) → length (bs ++ b ∷ []) ≡ suc (length bs)
     longer [] b = refl
     longer (c ∷ bs) b = ap (λ (k : ℕ). suc k) (longer bs b)
+
     less : (k : ℕ) → suc k - 1 ≡ k
     less k = omega arith
+
     there : (bs : List Block) (b : Block) → slice_get (bs ++ b ∷ []) (length bs) ≡ Some b
     there [] b = refl
     there (c ∷ bs) b = there bs b
@@ -132,8 +134,10 @@ snoc-rest bs b = ap (λ (k : ℕ). take (k - 1) (bs ++ b ∷ [])) (longer bs b) 
     longer : (bs : List Block) (b : Block) → length (bs ++ b ∷ []) ≡ suc (length bs)
     longer [] b = refl
     longer (c ∷ bs) b = ap (λ (k : ℕ). suc k) (longer bs b)
+
     less : (k : ℕ) → suc k - 1 ≡ k
     less k = omega arith
+
     front : (bs : List Block) (b : Block) → take (length bs) (bs ++ b ∷ []) ≡ bs
     front [] b = refl
     front (c ∷ bs) b = ap (λ l. c ∷ l) (front bs b)

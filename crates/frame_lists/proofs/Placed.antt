@@ -121,6 +121,7 @@ next-label s e rest ss h few =
     nowhere : (o : Option ℕ) (at : ℕ) → ((m : ℕ) → o ≡ Some m → suc at ≤ m) → is_at o at ≡ false
     nowhere None at f = refl
     nowhere (Some m) at f = let more = f m refl in grind (arith, nat_tests, more)
+
     go : (ws : List Word) → is_at (slice_get (map (λ (w : Word). length e) ws ++ positions_from (suc (length e)) rest) 0) (length e) ≡ not (is_empty ws)
     go [] = nowhere (slice_get (positions_from (suc (length e)) rest) 0) (length e) (λ m q. past (suc (length e)) rest m q)
     go (w ∷ ws) = grind (arith, nat_tests)

@@ -394,6 +394,7 @@ module _ (ss : List Statement) where
     where
       typed-put : has (state names ns).typed (number names v) ≡ false → (with_float (record (state names ns) { hyps = (state names ns).hyps ++ i.label ∷ [] }) i.label (map (symbol_in names) (a ∷ v ∷ us))).typed ≡ (state names ns).typed ++ number names v ∷ []
       typed-put h = rw h refl
+
       floats-put : has (state names ns).typed (number names v) ≡ false → (with_float (record (state names ns) { hyps = (state names ns).hyps ++ i.label ∷ [] }) i.label (map (symbol_in names) (a ∷ v ∷ us))).floats ≡ (state names ns).floats ++ i.label ∷ []
       floats-put h = rw h refl
 

@@ -1,5 +1,5 @@
 -- What the passes make of their lists, step by step. Variables, labels and statements are numbers here.
-use Rattle.std.specs.Prelude.{◌≡◌, ℕ, suc, ◌-◌, ◌==◌, Bool, true, false, not, ◌&&◌, List, [], ◌∷◌, ◌++◌, length, take, map, fold, Option, None, Some, if◌then◌else◌, nat_eq, nat_lt, slice_get, slice_index_or, unwrap_or, option_map, option_and_then, position}
+use Rattle.std.specs.Prelude.{◌≡◌, ℕ, zero, suc, ◌+◌, ◌-◌, ◌==◌, Bool, true, false, not, ◌&&◌, List, [], ◌∷◌, ◌++◌, length, take, map, fold, Option, None, Some, if◌then◌else◌, nat_eq, nat_lt, slice_get, slice_index_or, unwrap_or, option_map, option_and_then, position}
 use Rattle.std.specs.List.{list_any}
 use Rattle.mm_base.specs.declared.symbols.Sym.{Sym}
 use Rattle.mm_base.specs.declared.symbols.Pair.{Pair}
@@ -98,6 +98,21 @@ passed (entry.Statement kind.Floating) ss at n s = with_float (record s { hyps =
 passed (entry.Statement kind.Essential) ss at n s = record s { essentials = s.essentials ++ n ∷ []; hyps = s.hyps ++ n ∷ [] }
 passed (entry.Statement kind.Axiom) ss at n s = s
 passed (entry.Statement kind.Provable) ss at n s = s
+
+abbrev pub kind_at : Listed → ℕ → EntryKind
+kind_at l at = unwrap_or (option_map (λ (x : Entry). x.kind) (slice_get l.entries at)) entry.OpenBlock
+
+-- the number of the next label, and the scope, behind the first so many statements
+abbrev pub label_after : Listed → ℕ → ℕ → ℕ
+label_after l n at = if is_label_of l n at then n + 1 else n
+
+abbrev pub label_upto : Listed → ℕ → ℕ
+label_upto l zero = 0
+label_upto l (suc k) = label_after l (label_upto l k) k
+
+abbrev pub scope_upto : Listed → ℕ → Scope
+scope_upto l zero = first_scope
+scope_upto l (suc k) = passed (kind_at l k) (symbols_at l k) k (label_upto l k) (scope_upto l k)
 
 -- ---- mandatory variables
 

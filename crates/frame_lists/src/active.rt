@@ -6,6 +6,7 @@ ghost use Rattle.mm_model.specs.Frames as spec;
 ghost use Rattle.frame_lists.specs.Lists.{AreOf};
 ghost use Rattle.mm_model.specs.Names.{sym};
 ghost use Rattle.frame_lists.specs.Orders.{AreVariables};
+ghost use Rattle.frame_lists.specs.Steps.{scope_upto};
 
 use crate::hypotheses::active_hypotheses;
 use crate::listed::Listed;
@@ -14,19 +15,21 @@ use crate::scope::Scope;
 use crate::sorted::rising;
 use mm_base::{List, Memory, Sym};
 use mm_model::Active;
+use model_laws::statements_are_sound;
 use number_set::NumberSet;
 use std::alloc::Global;
 
 /// What is active behind the first so many statements.
-fn scope_at(alloc: Global, listed: &Listed, place: u32) -> Result<Scope, Memory> {
+fn scope_at(alloc: Global, listed: &Listed, place: u32) -> Result<Scope, Memory>
+    requires { place ≤ length listed.now.entries }
+    ensures { IfOk result (λ s. s ≡ scope_upto listed.now place) }
+{
     let mut scope = Scope::new(alloc);
     let entries = listed.entries.as_slice();
     let mut label = 0;
     for number in 0..place {
         scope.pass(&entries[number as usize], number, label)?;
-        if listed.is_label_of(label, number) {
-            label += 1;
-        }
+        label = listed.next_label(label, number);
     }
     Ok(scope)
 }
@@ -55,6 +58,7 @@ pub fn active_at(alloc: Global, listed: &Listed, place: u32) -> Result<Active, M
     requires { place ≤ length listed.now.entries }
     ensures { (text : List ℕ) → statement_fault text ≡ None → AreOf listed.now (statements text) → IfOk result (λ a. a ≡ spec.active_at (statements text) place) }
 {
+    statements_are_sound();
     let scope = scope_at(alloc, listed, place)?;
     Ok(Active {
         variables: in_order(alloc, &scope.variables)?,

@@ -4,6 +4,8 @@ ghost use Rattle.std.specs.Prelude.{◌≡◌, ◌<◌, ◌^◌, ℕ, List, leng
 ghost use Rattle.mm_model.specs.Statements.{statements, statement_fault};
 ghost use Rattle.frame_lists.specs.Lists.{AreOf};
 ghost use Rattle.frame_lists.specs.Listings.{frames_of};
+ghost use Rattle.frame_lists.specs.Orders.{IsFrameOf, IsFrameIf};
+ghost use Rattle.frame_lists.specs.Steps as step;
 
 use crate::entry::{Entry, is_assertion, is_axiom};
 use crate::hypotheses::mandatory_hypotheses;
@@ -14,61 +16,49 @@ use crate::scope::Scope;
 use crate::stack::Stack;
 use mm_base::{Label, List, Memory};
 use mm_model::Frame;
+use model_laws::statements_are_sound;
 use number_set::NumberSet;
 use std::alloc::Global;
 
-/// What the pass over the statements keeps.
-#[derive(Drop)]
-struct Framing {
-    scope: Scope,
-    /// The mandatory variables of an assertion.
-    marked: NumberSet,
-    /// The frames of the labels of the statements that were passed; none where it is no label of an assertion.
-    frames: Stack<Option<Frame>>,
+/// The frame of an assertion. The set is used for its mandatory variables.
+fn assertion(
+    alloc: Global,
+    listed: &Listed,
+    scope: &Scope,
+    marked: &mut NumberSet,
+    entry: &Entry,
+    number: u32,
+    label: u32,
+) -> Result<Frame, Memory>
+    ensures { IfOk result (IsFrameOf listed.now scope.now entry.now number label) }
+{
+    mark_mandatory(marked, scope, listed, entry.symbols.as_slice())?;
+    Ok(Frame {
+        label: Label(label),
+        is_axiom: is_axiom(entry.kind),
+        at: number,
+        formula: List::from_vec(Vec::from_slice(alloc, entry.symbols.as_slice())?),
+        hyps: mandatory_hypotheses(alloc, listed, scope, marked)?,
+        pairs: pairs_among(alloc, listed, scope.distinct.as_slice(), marked)?,
+    })
 }
 
-impl Framing {
-    /// The frame of an assertion.
-    fn assertion(
-        &mut self,
-        alloc: Global,
-        listed: &Listed,
-        entry: &Entry,
-        number: u32,
-        label: u32,
-    ) -> Result<Frame, Memory> {
-        mark_mandatory(
-            &mut self.marked,
-            &self.scope,
-            listed,
-            entry.symbols.as_slice(),
-        )?;
-        Ok(Frame {
-            label: Label(label),
-            is_axiom: is_axiom(entry.kind),
-            at: number,
-            formula: List::from_vec(Vec::from_slice(alloc, entry.symbols.as_slice())?),
-            hyps: mandatory_hypotheses(alloc, listed, &self.scope, &self.marked)?,
-            pairs: pairs_among(alloc, listed, self.scope.distinct.as_slice(), &self.marked)?,
-        })
+/// The frame of the label of a statement, if that is an assertion.
+fn of_label(
+    alloc: Global,
+    listed: &Listed,
+    scope: &Scope,
+    marked: &mut NumberSet,
+    entry: &Entry,
+    number: u32,
+    label: u32,
+) -> Result<Option<Frame>, Memory>
+    ensures { IfOk result (IsFrameIf (step.is_assertion entry.now.kind) listed.now scope.now entry.now number label) }
+{
+    if is_assertion(entry.kind) {
+        return Ok(Some(assertion(alloc, listed, scope, marked, entry, number, label)?));
     }
-
-    /// Adds what the label of a statement has.
-    fn add(
-        &mut self,
-        alloc: Global,
-        listed: &Listed,
-        entry: &Entry,
-        number: u32,
-        label: u32,
-    ) -> Result<(), Memory> {
-        let frame = if is_assertion(entry.kind) {
-            Some(self.assertion(alloc, listed, entry, number, label)?)
-        } else {
-            None
-        };
-        self.frames.push(frame)
-    }
+    Ok(None)
 }
 
 /// The frames by label; none where it is no label of an assertion. It takes one pass over the statements; at each assertion
@@ -77,20 +67,27 @@ pub fn frames_by_label(alloc: Global, listed: &Listed) -> Result<Stack<Option<Fr
     requires { length listed.now.entries < 2 ^ 32 }
     ensures { (text : List ℕ) → statement_fault text ≡ None → AreOf listed.now (statements text) → IfOk result (λ fs. fs ≡ frames_of (statements text)) }
 {
-    let mut framing = Framing {
-        scope: Scope::new(alloc),
-        marked: NumberSet::new(alloc),
-        frames: Stack::new(alloc),
-    };
+    statements_are_sound();
+    let mut scope = Scope::new(alloc);
+    let mut marked = NumberSet::new(alloc);
+    let mut frames = Stack::new(alloc);
     let entries = listed.entries.as_slice();
     for number in 0..entries.len() {
         let entry = &entries[number];
-        let label = framing.frames.len() as u32;
+        let label = frames.len() as u32;
         if listed.is_label_of(label, number as u32) {
-            framing.add(alloc, listed, entry, number as u32, label)?;
+            let frame = of_label(
+                alloc,
+                listed,
+                &scope,
+                &mut marked,
+                entry,
+                number as u32,
+                label,
+            )?;
+            frames.push(frame)?;
         }
-        framing.scope.pass(entry, number as u32, label)?;
+        scope.pass(entry, number as u32, label)?;
     }
-    let Framing { frames, .. } = framing;
     Ok(frames)
 }

@@ -17,8 +17,8 @@ pub struct Listed {
 }
 
 impl Listed {
-    ghost use Rattle.std.specs.Prelude.{◌≡◌, IfOk, slice_index_or, []};
-    ghost use Rattle.frame_lists.specs.Steps.{symbols_at, floating_at, position_at, is_label_of, hypothesis_at};
+    ghost use Rattle.std.specs.Prelude.{◌≡◌, ◌+◌, ◌<◌, ◌^◌, IfOk, slice_index_or, []};
+    ghost use Rattle.frame_lists.specs.Steps.{symbols_at, floating_at, position_at, is_label_of, hypothesis_at, label_after};
 
     /// The symbols of the statement of this number.
     pub(crate) fn symbols(&self, number: u32) -> &[Sym]
@@ -48,6 +48,17 @@ impl Listed {
             None => false,
             Some(position) => *position == number,
         }
+    }
+
+    /// The label that comes next behind the statement of this number, where this one came next before it.
+    pub(crate) fn next_label(&self, label: u32, number: u32) -> u32
+        requires { label + 1 < 2 ^ 32 }
+        ensures { result ≡ label_after self.now label number }
+    {
+        if self.is_label_of(label, number) {
+            return label + 1;
+        }
+        label
     }
 
     /// The hypothesis of this label.
