@@ -180,6 +180,15 @@ module _ (ss : List Statement) where
       abbrev mand : List Name
       mand = mandatory_variables names e st
 
+      -- the test of a mandatory variable
+      abbrev pub passes : Name → Bool
+      passes n = contains (variables e) n && list_any (λ f. contains (symbols_in f) n) (st ∷ with_keyword (codes "$e") (active e))
+
+      pub passes-is : (v : Name) → contains names v ≡ true → passes v ≡ has set (number names v)
+      passes-is v known =
+          let q : List Statement → Name → Bool = λ a n. contains (listed_by symbols_in (codes "$v") a) n && list_any (λ f. contains (symbols_in f) n) (st ∷ with_keyword (codes "$e") a) in
+          ap (λ a. q a v) active-is ∙ sym (mandatory-law ss l of ns s st v known good is_v is_e)
+
       -- a known variable is mandatory by name and by number
       pub mandatory-is : (v : Name) → contains names v ≡ true → contains mand v ≡ has set (number names v)
       mandatory-is v known =

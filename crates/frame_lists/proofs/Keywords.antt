@@ -1,17 +1,18 @@
 -- The kind of a statement by its keyword.
-use Rattle.std.proofs.Common.{◌≡◌, ℕ, Bool, true, false, cond, List, ◌∷◌, [], take, refl, sym, ap, ◌∙◌, inl, inr, codes}
+use Rattle.std.proofs.Common.{◌≡◌, ℕ, Bool, true, false, cond, ◌||◌, List, ◌∷◌, [], take, refl, sym, ap, ◌∙◌, inl, inr, codes}
 use Rattle.std.specs.List.{list_any}
 use Rattle.std.specs.Str.{bytes_eq}
 use Rattle.std.proofs.lemmas.Bool.{cases_Bool}
 use Rattle.std.proofs.lemmas.Slice.Eq.{bytes_eq-Decides}
 use Rattle.mm_model.specs.Words.{Word}
-use Rattle.mm_model.specs.Statements.{Statement, has_keyword, is, body}
+use Rattle.mm_model.specs.Frames as model
+use Rattle.mm_model.specs.Statements.{Statement, has_keyword, has_one_of, is, is_one_of, body}
 use Rattle.frame_lists.specs.declared.entry.EntryKind.{EntryKind}
 use Rattle.frame_lists.specs.declared.entry.EntryKind.TheVariants as entry
 use Rattle.frame_lists.specs.declared.entry.StatementKind.TheVariants as kind
 use Rattle.frame_lists.specs.declared.entry.StatementKind.{StatementKind}
 use Rattle.frame_lists.specs.Entries.{kind_in}
-use Rattle.frame_lists.specs.Steps.{is_floating, is_axiom}
+use Rattle.frame_lists.specs.Steps.{is_floating, is_axiom, is_assertion}
 
 abbrev pub is_open : EntryKind → Bool
 is_open entry.OpenBlock = true
@@ -143,3 +144,35 @@ closes s e = (kind-is_open s ∙ ap is_open e, kind-is_close s ∙ ap is_close e
 
 pub neither : (s : Statement) {k : StatementKind} → kind_in s ≡ entry.Statement k → (has_keyword (codes "${") s ≡ false) × (has_keyword (codes "$}") s ≡ false)
 neither s e = (kind-is_open s ∙ ap is_open e, kind-is_close s ∙ ap is_close e)
+
+-- one of two keywords
+either : (j k : List ℕ) (s : Statement) → has_one_of (j ∷ k ∷ []) s ≡ (has_keyword j s || has_keyword k s)
+either j k s = go (body s)
+  where
+    join : (a b : Bool) → ((a || (b || false)) || false) ≡ ((a || false) || (b || false))
+    join true true = refl
+    join true false = refl
+    join false true = refl
+    join false false = refl
+    go : (ws : List Word) → list_any (is_one_of (j ∷ k ∷ [])) (take 1 ws) ≡ (list_any (is j) (take 1 ws) || list_any (is k) (take 1 ws))
+    go [] = refl
+    go (w ∷ ws) = join (is j w) (is k w)
+
+assertion-kinds : (k : EntryKind) → (is_axiom k || is_provable k) ≡ is_assertion k
+assertion-kinds entry.OpenBlock = refl
+assertion-kinds entry.CloseBlock = refl
+assertion-kinds (entry.Statement kind.Constants) = refl
+assertion-kinds (entry.Statement kind.Variables) = refl
+assertion-kinds (entry.Statement kind.Distinct) = refl
+assertion-kinds (entry.Statement kind.Floating) = refl
+assertion-kinds (entry.Statement kind.Essential) = refl
+assertion-kinds (entry.Statement kind.Axiom) = refl
+assertion-kinds (entry.Statement kind.Provable) = refl
+
+pub kind-is_assertion : (s : Statement) → model.is_assertion s ≡ is_assertion (kind_in s)
+kind-is_assertion s =
+    either (codes "$a") (codes "$p") s ∙ ap (λ b. b || has_keyword (codes "$p") s) (kind-is_axiom s) ∙ ap (λ b. is_axiom (kind_in s) || b) (kind-is_provable s) ∙ assertion-kinds (kind_in s)
+
+pub kind-is_hypothesis : (s : Statement) → model.is_hypothesis s ≡ (is_floating (kind_in s) || is_essential (kind_in s))
+kind-is_hypothesis s =
+    either (codes "$f") (codes "$e") s ∙ ap (λ b. b || has_keyword (codes "$e") s) (kind-is_floating s) ∙ ap (λ b. is_floating (kind_in s) || b) (kind-is_essential s)

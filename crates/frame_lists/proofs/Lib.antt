@@ -11,3 +11,5 @@ pub mod Placed
 pub mod StateLaws
 pub mod PairLaws
 pub mod Upto
+pub mod UptoLaws
+pub mod FrameLaws

@@ -1,3 +1,4 @@
+use Rattle.frame_lists.proofs.FrameLaws.{framed-whole}
 use Rattle.frame_lists.proofs.PairLaws.{pairs-law}
 use Rattle.frame_lists.proofs.HypothesisLaws.{hypotheses-law}
 use Rattle.frame_lists.proofs.MandatoryLaws.{mandatory-law}
