@@ -19,8 +19,8 @@ use Rattle.frame_lists.specs.declared.scope.Scope.{Scope}
 use Rattle.frame_lists.specs.Lists.{AreOf}
 use Rattle.frame_lists.specs.Entries.{entry_in, kind_in}
 use Rattle.frame_lists.specs.Listings.{frames_of}
-use Rattle.frame_lists.specs.Orders.{IsFrameOf, IsFrameIf}
-use Rattle.frame_lists.specs.Steps.{has, is_axiom, is_assertion, mandatory, is_label_of, label_upto, scope_upto}
+use Rattle.frame_lists.specs.Orders.{IsFrameOf, IsFrameIf, IsAdded}
+use Rattle.frame_lists.specs.Steps.{has, is_axiom, is_assertion, mandatory, is_label_of, label_after, label_upto, scope_upto}
 use Rattle.frame_lists.proofs.Keywords.{kind-is_axiom, kind-is_assertion}
 use Rattle.frame_lists.proofs.Numbered.{Numbered, count, on, here}
 use Rattle.frame_lists.proofs.Placed.{IsPlaced, item-placed, all-placed, count-labels, below-whole, below-length}
@@ -29,6 +29,7 @@ use Rattle.frame_lists.proofs.StateLaws.{IsGood, all-good, floats-here, variable
 use Rattle.frame_lists.proofs.MandatoryLaws.{get-map, mandatory-has}
 use Rattle.frame_lists.proofs.HypothesisLaws.{passes, passes-is, hypotheses-law}
 use Rattle.frame_lists.proofs.PairLaws.{pairs-law}
+use Rattle.frame_lists.proofs.Upto.{next-is}
 use Rattle.frame_lists.proofs.UptoLaws.{UptoIs, upto, sound-below, label-here, sound-at, whole-at}
 
 and-left : (a b : Bool) → (a && b) ≡ true → a ≡ true
@@ -92,8 +93,8 @@ module _ (ss : List Statement) (l : Listed) (of : AreOf l ss) (sound : AreSound 
       frame-fields f (frame_at ss (label n) k st) is_f.label_is (is_f.axiom_is ∙ sym (kind-is_axiom st)) is_f.at_is is_f.formula_is
       (hypotheses-law ss l of e good fs s sh.variables_are sh.typed_are sh.floats_are sh.essentials_are st f.hyps is_f.hyps_are)
       (pairs-law ss l of e good s sh.distinct_are q set
-        (λ j i. kept-within e (drop k ss) s whole sh j (and-left (has s.variables j) _ (sym (mandatory-has l s (formula_of names st) j) ∙ i)))
-        law f.pairs is_f.pairs_are)
+      (λ j i. kept-within e (drop k ss) s whole sh j (and-left (has s.variables j) _ (sym (mandatory-has l s (formula_of names st) j) ∙ i)))
+      law f.pairs is_f.pairs_are)
 
   one-label : (ws : List Word) → length ws ≤ 1 → not (is_empty ws) ≡ true → length ws ≡ 1
   one-label [] h t = absurd cc
@@ -153,6 +154,33 @@ framed-push l fs o f h ss sound of =
     ∙ sym (map-append g (range_with_len 0 (length fs)) ((0 + length fs) ∷ [])) ∙ ap (λ r. map g r) (sym (range-last 0 (length fs)))
     ∙ ap (λ (n : ℕ). map g (range_with_len 0 n)) (sym (length-push fs o))
 
+pub record FramedNext (l : Listed) (k : ℕ) (gs : List (Option Frame)) : Type 0 where
+  pub long : length gs ≡ label_upto l (k + 1)
+  pub small : length gs ≤ k + 1
+  pub framed : Framed l gs
+
+pub framed-next : (l : Listed) (k n : ℕ) (x : Entry) (s : Scope) (fs gs : List (Option Frame)) → slice_get l.entries k ≡ Some x → s ≡ scope_upto l k → length fs ≡ label_upto l k → length fs ≤ k → n ≡ length fs → Framed l fs
+    → IsAdded (is_label_of l n k) l s x k n fs gs → FramedNext l k gs
+framed-next l k n x s fs gs at is_s long small is_n f added = go (is_label_of l n k) refl added
+  where
+    after : (b : Bool) → is_label_of l n k ≡ b → cond b (n + 1) n ≡ label_upto l (k + 1)
+    after b e =
+        ap (λ c. cond c (n + 1) n) (sym e) ∙ ap (λ (m : ℕ). label_after l m k) (is_n ∙ long) ∙ ap (λ (m : ℕ). label_upto l m) (sym (next-is k))
+
+    go : (b : Bool) → is_label_of l n k ≡ b → IsAdded b l s x k n fs gs → FramedNext l k gs
+    go false e is =
+        let same = after false e in
+        subst (λ (hs : List (Option Frame)). FramedNext l k hs) (sym is) (record { long = sym is_n ∙ same; small = omega (arith, small); framed = f })
+    go true e added =
+        let o = added.0 in
+        let grown = length-push fs o in
+        let sum = after true e in
+        subst (λ (hs : List (Option Frame)). FramedNext l k hs) (sym added.1) (record {
+          long = omega (arith, grown, is_n, sum);
+          small = omega (arith, grown, small);
+          framed = framed-push l fs o f (λ ss sound of. frame-here ss l of sound k n x s o at is_s (is_n ∙ long) e added.2 ∙ ap (λ (m : ℕ). frame_of ss (label m)) is_n);
+        })
+
 pub framed-whole : (l : Listed) (fs : List (Option Frame)) (ss : List Statement) → length fs ≡ label_upto l (length l.entries) → Framed l fs → AreSound (reverse ss) → AreOf l ss → fs ≡ frames_of ss
 framed-whole l fs ss long f sound of =
     let g : ℕ → Option Frame = λ n. frame_of ss (label n) in
@@ -165,6 +193,7 @@ framed-whole l fs ss long f sound of =
     mapped : {A B : Type 0} (h : A → B) (xs : List A) → length (map h xs) ≡ length xs
     mapped h [] = refl
     mapped h (x ∷ xs) = ap (λ (n : ℕ). suc n) (mapped h xs)
+
     take-all : (xs : List Statement) → take (length xs) xs ≡ xs
     take-all [] = refl
     take-all (x ∷ xs) = ap (λ l. x ∷ l) (take-all xs)

@@ -154,6 +154,7 @@ either j k s = go (body s)
     join true false = refl
     join false true = refl
     join false false = refl
+
     go : (ws : List Word) → list_any (is_one_of (j ∷ k ∷ [])) (take 1 ws) ≡ (list_any (is j) (take 1 ws) || list_any (is k) (take 1 ws))
     go [] = refl
     go (w ∷ ws) = join (is j w) (is k w)

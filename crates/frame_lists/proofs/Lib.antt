@@ -13,3 +13,4 @@ pub mod PairLaws
 pub mod Upto
 pub mod UptoLaws
 pub mod FrameLaws
+pub mod ActiveLaws

@@ -1,5 +1,5 @@
 -- Lists in order, each item once.
-use Rattle.std.specs.Prelude.{ℕ, Bool, true, false, List, Option, Some, None, Contains, map, ◌≡◌}
+use Rattle.std.specs.Prelude.{ℕ, Bool, true, false, List, [], ◌∷◌, ◌++◌, Option, Some, None, Contains, map, ◌≡◌}
 use Rattle.std.specs.Ordering.{nat_cmp, ordering_then}
 use Rattle.std.specs.List.Sorted.{IsStrictlySortedBy}
 use Rattle.mm_base.specs.declared.symbols.Pair.{Pair}
@@ -10,7 +10,7 @@ use Rattle.frame_lists.specs.declared.listed.Listed.{Listed}
 use Rattle.frame_lists.specs.declared.scope.Scope.{Scope}
 use Rattle.mm_model.specs.declared.frames.Hyp.{Hyp}
 use Rattle.mm_model.specs.declared.frames.Frame.{Frame}
-use Rattle.frame_lists.specs.Steps.{hypothesis_at, is_axiom, labels_of, mandatory, found_pairs, pair_of}
+use Rattle.frame_lists.specs.Steps.{hypothesis_at, is_axiom, is_assertion, labels_of, mandatory, found_pairs, pair_of}
 
 -- the items of a list in their order, each once
 pub record Ordered {X : Type 0} (IsInOrder : List X → Type 0) (xs ys : List X) : Type 0 where
@@ -50,3 +50,8 @@ abbrev pub IsFrameIf : Bool → Listed → Scope → Entry → ℕ → ℕ → O
 IsFrameIf true l s x at n None = ⊥
 IsFrameIf true l s x at n (Some f) = IsFrameOf l s x at n f
 IsFrameIf false l s x at n o = o ≡ None
+
+-- the frames with that of the statement's label, if it has one
+abbrev pub IsAdded : Bool → Listed → Scope → Entry → ℕ → ℕ → List (Option Frame) → List (Option Frame) → Type 0
+IsAdded true l s x at n fs gs = (o : Option Frame) × (gs ≡ fs ++ o ∷ []) × IsFrameIf (is_assertion x.kind) l s x at n o
+IsAdded false l s x at n fs gs = gs ≡ fs

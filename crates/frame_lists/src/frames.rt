@@ -1,10 +1,10 @@
 //! The frames of all assertions.
 
-ghost use Rattle.std.specs.Prelude.{◌≡◌, ◌<◌, ◌^◌, ℕ, List, length, None, IfOk};
+ghost use Rattle.std.specs.Prelude.{◌≡◌, ◌<◌, ◌^◌, ℕ, List, length, None, IfOk, OnOk};
 ghost use Rattle.mm_model.specs.Statements.{statements, statement_fault};
 ghost use Rattle.frame_lists.specs.Lists.{AreOf};
 ghost use Rattle.frame_lists.specs.Listings.{frames_of};
-ghost use Rattle.frame_lists.specs.Orders.{IsFrameOf, IsFrameIf};
+ghost use Rattle.frame_lists.specs.Orders.{IsAdded, IsFrameIf, IsFrameOf};
 ghost use Rattle.frame_lists.specs.Steps as step;
 
 use crate::entry::{Entry, is_assertion, is_axiom};
@@ -61,6 +61,26 @@ fn of_label(
     Ok(None)
 }
 
+/// Adds what the label of a statement has, if it has one.
+fn add_frame(
+    alloc: Global,
+    listed: &Listed,
+    scope: &Scope,
+    marked: &mut NumberSet,
+    frames: &mut Stack<Option<Frame>>,
+    entry: &Entry,
+    number: u32,
+    label: u32,
+) -> Result<(), Memory>
+    ensures { OnOk result (IsAdded (step.is_label_of listed.now label number) listed.now scope.now entry.now number label frames.old frames.new) }
+{
+    if listed.is_label_of(label, number) {
+        let frame = of_label(alloc, listed, scope, marked, entry, number, label)?;
+        frames.push(frame)?;
+    }
+    Ok(())
+}
+
 /// The frames by label; none where it is no label of an assertion. It takes one pass over the statements; at each assertion
 /// only its frame, the active `$e` and the active `$d` are looked at.
 pub fn frames_by_label(alloc: Global, listed: &Listed) -> Result<Stack<Option<Frame>>, Memory>
@@ -75,18 +95,16 @@ pub fn frames_by_label(alloc: Global, listed: &Listed) -> Result<Stack<Option<Fr
     for number in 0..entries.len() {
         let entry = &entries[number];
         let label = frames.len() as u32;
-        if listed.is_label_of(label, number as u32) {
-            let frame = of_label(
-                alloc,
-                listed,
-                &scope,
-                &mut marked,
-                entry,
-                number as u32,
-                label,
-            )?;
-            frames.push(frame)?;
-        }
+        add_frame(
+            alloc,
+            listed,
+            &scope,
+            &mut marked,
+            &mut frames,
+            entry,
+            number as u32,
+            label,
+        )?;
         scope.pass(entry, number as u32, label)?;
     }
     Ok(frames)
