@@ -7,3 +7,6 @@ pub mod WalkLaws
 pub mod MarkLaws
 pub mod CycleLaws
 pub mod StepLaws
+pub mod ArenaLaws
+pub mod PushLaws
+pub mod SinceLaws

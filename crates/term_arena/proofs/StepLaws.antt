@@ -164,3 +164,8 @@ scanned_all n marks items k h s = sym s.rest ∙ ap (λ (xs : List Id). are_mark
     nothing_left [] (suc k) h = refl
     nothing_left (x ∷ xs) zero h = absurd (omega arith)
     nothing_left (x ∷ xs) (suc k) h = nothing_left xs k (omega arith)
+
+pub entry_below : (xs : List ℕ) (k i : ℕ) → slice_get xs k ≡ Some i → k < length xs
+entry_below [] k i e = let impossible : ◌≡◌ {A = Option ℕ} None (Some i) = e in cc
+entry_below (x ∷ xs) zero i e = omega arith
+entry_below (x ∷ xs) (suc k) i e = omega (arith, entry_below xs k i e)

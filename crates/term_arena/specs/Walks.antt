@@ -1,5 +1,5 @@
 -- A walk through the nodes of a store: what it knows of each node, and the path on which it is.
-use Rattle.std.specs.Prelude.{◌≡◌, ℕ, ◌+◌, ◌<◌, ◌≤◌, ◌^◌, ◌==◌, if◌then◌else◌, Bool, true, false, List, [], ◌∷◌, length, map, reverse, set, sum_by, count_by, slice_index_or, Option}
+use Rattle.std.specs.Prelude.{◌≡◌, ℕ, ◌+◌, ◌<◌, ◌≤◌, ◌^◌, ◌==◌, if◌then◌else◌, Bool, true, false, List, [], ◌∷◌, length, map, reverse, set, sum_by, count_by, slice_index_or, slice_get, Option, Some}
 use Rattle.undo_trail.specs.Noted.{Noted}
 use Rattle.term_arena.specs.declared.walk.Step.{Step}
 use Rattle.term_arena.specs.Terms.{Term}
@@ -83,3 +83,10 @@ pub record IsWalking (nodes : List Term) (bound : List (Option ℕ)) (root : ℕ
   pub solved : IsPartlySolved nodes bound (marks_of now.states)
   pub kept : KeepsMarks first.states now.states
   pub begun : state_at now.states root ≡ unseen → ⊥
+
+-- some marked nodes have a solution, and all of these from a place on are marked
+pub record AreSettled (nodes : List Term) (bound : List (Option ℕ)) (roots : List ℕ) (start : ℕ) : Type 0 where
+  pub marks : List Bool
+  pub long : length nodes ≤ length marks
+  pub solved : IsPartlySolved nodes bound marks
+  pub each : (k i : ℕ) → start ≤ k → slice_get roots k ≡ Some i → is_marked marks i ≡ true

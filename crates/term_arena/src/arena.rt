@@ -1,6 +1,6 @@
 ghost use Rattle.std.specs.Prelude.{◌≡◌, ◌+◌, ◌^◌, ◌<◌, ◌≤◌, ◌∷◌, ◌++◌, [], length, IfOk, OnOk, OnErr, slice_get, Some, None, take, true, ◌≢◌, IsTrue, ◌↔◌};
 
-use crate::cycles::settle;
+use crate::cycles::settle_since;
 use crate::shape::{Id, Shape};
 use crate::terms::Terms;
 use crate::walk::Walk;
@@ -104,10 +104,150 @@ impl Arena {
         requires below { HasChildrenBelow (length self.old.nodes) (term_of shape constants children.now) }
         ensures id { IfOk result (λ id. id.0 ≡ length self.old.nodes) }
         ensures ok { OnOk result (self.new ≡ with_node self.old (term_of shape constants children.now)) }
+        ensures solved { IsSolved self.old.nodes self.old.links → IsSolved self.new.nodes self.new.links }
         ensures err { OnErr result (self.new ≡ self.old) }
     {
         let id = self.terms.add(shape, constants, children)?;
         self.ready = false;
         Ok(id)
+    }
+
+    /// Adds a variable, as the last node. `Memory`: there is no room or no number for it, and nothing changed.
+    pub fn add_var(&mut self, sym: Sym, code: Typecode) -> Result<Id, Memory>
+        ensures id { IfOk result (λ id. id.0 ≡ length self.old.nodes) }
+        ensures ok { OnOk result (self.new ≡ with_node self.old (term.Var sym code)) }
+        ensures solved { IsSolved self.old.nodes self.old.links → IsSolved self.new.nodes self.new.links }
+        ensures err { OnErr result (self.new ≡ self.old) }
+    {
+        self.add(Shape::Var(sym, code), 0, &[])
+    }
+
+    /// Adds a node that stands for any tree of a typecode, as the last node. `Memory`: there is no room or no number for
+    /// it, and nothing changed.
+    pub fn add_free(&mut self, code: Typecode) -> Result<Id, Memory>
+        ensures id { IfOk result (λ id. id.0 ≡ length self.old.nodes) }
+        ensures ok { OnOk result (self.new ≡ with_node self.old (term.Free code)) }
+        ensures solved { IsSolved self.old.nodes self.old.links → IsSolved self.new.nodes self.new.links }
+        ensures err { OnErr result (self.new ≡ self.old) }
+    {
+        self.add(Shape::Free(code), 0, &[])
+    }
+
+    /// Adds a production, with the number of constants in its text and its children in order, as the last node. `Memory`:
+    /// there is no room or no number for it, and nothing changed.
+    pub fn add_node(&mut self, label: Label, code: Typecode, constants: u32, children: &[Id]) -> Result<Id, Memory>
+        requires { AllByRecursion (λ id. id.0 < length self.old.nodes) children.now }
+        ensures id { IfOk result (λ id. id.0 ≡ length self.old.nodes) }
+        ensures ok { OnOk result (self.new ≡ with_node self.old (term.Node label code constants children.now)) }
+        ensures solved { IsSolved self.old.nodes self.old.links → IsSolved self.new.nodes self.new.links }
+        ensures err { OnErr result (self.new ≡ self.old) }
+    {
+        let Ok(count) = u32::try_from(children.len()) else {
+            return Err(Memory);
+        };
+        self.add(Shape::Node(label, code, count), constants, children)
+    }
+
+    /// Makes room for every binding and for the walks of `acyclic` and `acyclic_since`. `Memory`: there is no room, and
+    /// nothing changed.
+    pub fn ready(&mut self) -> Result<(), Memory>
+        ensures ok { OnOk result (self.new ≡ record self.old { ready = true }) }
+        ensures err { OnErr result (self.new ≡ self.old) }
+    {
+        let count = self.terms.count();
+        let bound = self.trail.mark();
+        self.trail.reserve(count - bound)?;
+        self.walk.reserve(count)?;
+        self.ready = true;
+        Ok(())
+    }
+
+    /// Binds a node to the end of another. It takes no memory.
+    pub fn bind(&mut self, from: Id, to: Id)
+        requires ready { self.old.ready ≡ true }
+        requires from { from.0 < length self.old.nodes }
+        requires to { to.0 < length self.old.nodes }
+        requires unbound { target_of self.old.links from.0 ≡ None }
+        requires apart { from.0 ≢ end_of self.old.links to.0 }
+        requires code { term_code (term_at self.old.nodes from.0) ≡ term_code (term_at self.old.nodes (end_of self.old.links to.0)) }
+        ensures { self.new ≡ with_link self.old (record { from = from.0; to = end_of self.old.links to.0 }) }
+    {
+        let end = self.follow(to);
+        self.terms.bind(from.0, end.0);
+        self.trail.note(from.0);
+    }
+
+    /// Whether the store has a solution: one finite tree a node that respects the terms and the bindings. It takes time
+    /// in proportion to the bound nodes and what they are made of, and no memory.
+    pub fn acyclic(&mut self) -> bool
+        requires ready { self.old.ready ≡ true }
+        requires closed { IsClosed self.old.nodes self.old.links }
+        ensures same { self.new ≡ self.old }
+        ensures solvable { IsTrue result ↔ HasSolution self.old.nodes self.old.links }
+    {
+        settle_since(&self.terms, &self.trail, &mut self.walk, 0)
+    }
+
+    /// The same, where there is a solution under the first `trail` bindings. It takes time in proportion to the nodes
+    /// that were bound since then and what they are made of, however large the store is, and no memory.
+    pub fn acyclic_since(&mut self, trail: u32) -> bool
+        requires ready { self.old.ready ≡ true }
+        requires trail { trail ≤ length self.old.links }
+        requires closed { IsClosed self.old.nodes self.old.links }
+        requires solvable { HasSolution self.old.nodes (take trail self.old.links) }
+        ensures same { self.new ≡ self.old }
+        ensures solvable { IsTrue result ↔ HasSolution self.old.nodes self.old.links }
+    {
+        settle_since(&self.terms, &self.trail, &mut self.walk, trail)
+    }
+
+    /// Takes back the bindings that were made since a mark, and then the nodes that were added. A store that was ready
+    /// stays so.
+    pub fn undo_to(&mut self, mark: Mark)
+        requires nodes { mark.nodes ≤ length self.old.nodes }
+        requires trail { mark.trail ≤ length self.old.links }
+        requires kept { AreBelow mark.nodes (take mark.trail self.old.links) }
+        ensures { self.new ≡ cut_to self.old mark.nodes mark.trail }
+    {
+        while let Some(i) = self.trail.back_to(mark.trail) {
+            self.terms.unbind(i);
+        }
+        self.terms.cut(mark.nodes);
+    }
+
+    /// The present state, for `undo_to`.
+    pub fn mark(&self) -> Mark
+        ensures nodes { result.nodes ≡ length self.now.nodes }
+        ensures trail { result.trail ≡ length self.now.links }
+        ensures store { IsStore self.now.nodes self.now.links }
+        ensures few { length self.now.links ≤ length self.now.nodes }
+    {
+        Mark {
+            nodes: self.terms.count(),
+            trail: self.trail.mark(),
+        }
+    }
+
+    /// The node that a binding bound, by the number of the binding, from 0.
+    pub fn noted(&self, k: u32) -> Id
+        requires { k < length self.now.links }
+        ensures { result.0 ≡ (link_at self.now.links k).from }
+    {
+        Id(self.trail.entry(k))
+    }
+
+    /// The two nodes of a binding, by its number, from 0.
+    pub fn link(&self, k: u32) -> (Id, Id)
+        requires { k < length self.now.links }
+        ensures from { result.0.0 ≡ (link_at self.now.links k).from }
+        ensures to { result.1.0 ≡ (link_at self.now.links k).to }
+        ensures from_below { result.0.0 < length self.now.nodes }
+        ensures to_below { result.1.0 < length self.now.nodes }
+    {
+        let from = self.trail.entry(k);
+        match self.terms.target(from) {
+            Some(to) => (Id(from), Id(to)),
+            None => unreachable!(),
+        }
     }
 }

@@ -1,10 +1,11 @@
-ghost use Rattle.std.specs.Prelude.{◌≡◌, ◌<◌, ◌≤◌, ◌∷◌, [], ℕ, length, true, false, MatchOption, IsTrue, List};
+ghost use Rattle.std.specs.Prelude.{◌≡◌, ◌<◌, ◌≤◌, ◌∷◌, [], ℕ, length, true, false, MatchOption, List, slice_get, Some};
 ghost use Rattle.std.specs.Bool.{OnTrue, OnFalse};
 ghost use Rattle.term_arena.specs.Marks.{IsIn, is_marked, are_marked, parts_of, IsGraph, IsPartlySolved, IsCyclic};
-ghost use Rattle.term_arena.specs.Walks.{marks_of, state_at, IsStep, IsIdle, KeepsMarks};
+ghost use Rattle.term_arena.specs.Walks.{marks_of, state_at, IsStep, IsIdle, KeepsMarks, AreSettled};
 
 use crate::terms::Terms;
 use crate::walk::{Step, Walk};
+use undo_trail::Trail;
 
 /// The first part of a node that is not settled.
 fn unsettled_part(terms: &Terms, walk: &Walk, node: u32) -> Option<u32>
@@ -25,7 +26,7 @@ fn unsettled_part(terms: &Terms, walk: &Walk, node: u32) -> Option<u32>
 }
 
 /// One step from the last node of the path: down to a part that is new, or back, where all parts are settled.
-pub fn step(terms: &Terms, walk: &mut Walk, last: u32) -> Step
+fn step(terms: &Terms, walk: &mut Walk, last: u32) -> Step
     requires graph { IsGraph terms.now.nodes terms.now.bound }
     requires room { length terms.now.nodes ≤ length walk.old.states }
     requires last { (rest : List ℕ) × (walk.old.path ≡ last ∷ rest) }
@@ -44,7 +45,7 @@ pub fn step(terms: &Terms, walk: &mut Walk, last: u32) -> Step
 }
 
 /// Settles a node and what it is made of. It does not, where a path from the node comes back to itself.
-pub fn settle(terms: &Terms, walk: &mut Walk, root: u32) -> bool
+fn settle(terms: &Terms, walk: &mut Walk, root: u32) -> bool
     requires graph { IsGraph terms.now.nodes terms.now.bound }
     requires room { length terms.now.nodes ≤ length walk.old.states }
     requires root { root < length terms.now.nodes }
@@ -63,6 +64,25 @@ pub fn settle(terms: &Terms, walk: &mut Walk, root: u32) -> bool
     walk.open(root);
     while let Some(last) = walk.last() {
         if let Step::Cycle = step(terms, walk, last) {
+            return false;
+        }
+    }
+    true
+}
+
+/// Whether no path from a node that was bound since a place of the trail comes back to itself.
+pub fn settle_since(terms: &Terms, trail: &Trail, walk: &mut Walk, start: u32) -> bool
+    requires graph { IsGraph terms.now.nodes terms.now.bound }
+    requires room { length terms.now.nodes ≤ length walk.old.states }
+    requires start { start ≤ length trail.now.entries }
+    requires trail { (k i : ℕ) → slice_get trail.now.entries k ≡ Some i → i < length terms.now.nodes }
+    ensures room { length walk.new.states ≡ length walk.old.states }
+    ensures settled { OnTrue result (AreSettled terms.now.nodes terms.now.bound trail.now.entries start) }
+    ensures cycle { OnFalse result (IsCyclic terms.now.nodes terms.now.bound) }
+{
+    walk.clear();
+    for k in start..trail.mark() {
+        if !settle(terms, walk, trail.entry(k)) {
             return false;
         }
     }
