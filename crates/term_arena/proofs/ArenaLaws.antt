@@ -6,15 +6,15 @@ use Rattle.std.proofs.lemmas.Bool.{cases_eq, cases_lt, eq-eqb, ne_eqb}
 use Rattle.std.proofs.lemmas.List.{length-set, length_push, get_or-set_same, get_or-set_other, get_or_append_left, get_or_push, get_or_past, map_push, get_or-take, get_or-drop, length-take-le, take_at}
 use Rattle.std.proofs.lemmas.List.Sums.{sum_by_push, sum_by-set, sum_by-cons, sum_by-take-drop, count_by-le-length}
 use Rattle.undo_trail.specs.Noted.{Noted}
-use Rattle.term_arena.specs.declared.shape.Id.{Id}
+use Rattle.term_model.specs.declared.shape.Id.{Id}
 
-use Rattle.term_arena.specs.Terms.{Term, Var, Free, Node, term_code, term_at, HasChildrenBelow}
-use Rattle.term_arena.specs.Links.{Link, link_at, target_of, end_of, Avoids, InOrder, AreBelow}
-use Rattle.term_arena.specs.Store.{HaveSameCodes, IsStore}
-use Rattle.term_arena.specs.Marks.{bound_at, IsTableOf}
+use Rattle.term_model.specs.Terms.{Term, Var, Free, Node, term_code, term_at, HasChildrenBelow}
+use Rattle.term_model.specs.Links.{Link, link_at, target_of, end_of, Avoids, InOrder, AreBelow}
+use Rattle.term_model.specs.Store.{HaveSameCodes, IsStore}
+use Rattle.term_model.specs.Marks.{bound_at, IsTableOf}
 use Rattle.term_arena.specs.Walks.{State}
 use Rattle.term_arena.specs.Inside.{links_of, IsArena}
-use Rattle.term_arena.proofs.LinkLaws.{last_below, in_order_last, in_order_front, in_order_cut, unbound_past, link_at_below, target_of_link_at, in_order_more, in_order_push, target_of_push_other, target_of_push_same}
+use Rattle.term_model.proofs.LinkLaws.{last_below, in_order_last, in_order_front, in_order_cut, unbound_past, link_at_below, target_of_link_at, in_order_more, in_order_push, target_of_push_other, target_of_push_same}
 
 -- a table with one more unbound node says the same
 pub bound_at_push : (bound : List (Option ℕ)) (i : ℕ) → bound_at (bound ++ None ∷ []) i ≡ bound_at bound i

@@ -1,12 +1,6 @@
-pub mod TreeLaws
-pub mod LinkLaws
-pub mod SolutionLaws
-pub mod ClosureLaws
 pub mod TermLaws
 pub mod WalkLaws
-pub mod MarkLaws
-pub mod CycleLaws
 pub mod StepLaws
 pub mod ArenaLaws
-pub mod PushLaws
 pub mod SinceLaws
+pub mod MeasureLaws

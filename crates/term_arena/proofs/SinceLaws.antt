@@ -3,14 +3,14 @@ use Rattle.std.proofs.Common.{◌≡◌, ◌↔◌, IsTrue, ℕ, ◌<◌, ◌≤
 use Rattle.std.specs.List.{slice_get}
 use Rattle.std.specs.Bool.{OnTrue, OnFalse}
 use Rattle.undo_trail.specs.Noted.{Noted}
-use Rattle.term_arena.specs.Terms.{Term}
-use Rattle.term_arena.specs.Links.{Link, link_at}
-use Rattle.term_arena.specs.Store.{IsClosed, HasSolution}
-use Rattle.term_arena.specs.Marks.{is_marked, IsCyclic, IsGraph}
+use Rattle.term_model.specs.Terms.{Term}
+use Rattle.term_model.specs.Links.{Link, link_at}
+use Rattle.term_model.specs.Store.{IsClosed, HasSolution}
+use Rattle.term_model.specs.Marks.{is_marked, IsCyclic, IsGraph}
 use Rattle.term_arena.specs.Walks.{State, AreSettled}
 use Rattle.term_arena.specs.Inside.{links_of, IsArena}
 use Rattle.term_arena.proofs.ArenaLaws.{link_at_trail, length-links_of, trail_bound}
-use Rattle.term_arena.proofs.CycleLaws.{cyclic_none, solution_since, graph_of_store}
+use Rattle.term_model.proofs.CycleLaws.{cyclic_none, solution_since, graph_of_store}
 
 read_at : (xs : List ℕ) (k : ℕ) → k < length xs → slice_get xs k ≡ Some (get_or xs k 0)
 read_at [] k h = absurd (omega arith)

@@ -5,14 +5,14 @@ use Rattle.std.proofs.lemmas.Bool.{cases_eq, and_from}
 use Rattle.std.proofs.lemmas.List.{length-map, length-set, map-set, set-get_or, get_or-set_same, get_or-set_other}
 use Rattle.std.proofs.lemmas.List.Sums.{sum_by-set}
 use Rattle.std.proofs.Math.Seq.{drop-cons}
-use Rattle.term_arena.specs.declared.shape.Id.{Id}
+use Rattle.term_model.specs.declared.shape.Id.{Id}
 use Rattle.term_arena.specs.declared.walk.Step.{Step}
-use Rattle.term_arena.specs.Terms.{Term}
-use Rattle.term_arena.specs.Marks.{IsIn, is_marked, are_marked, parts_of, IsGraph, IsWay, IsPartlySolved, IsCyclic}
+use Rattle.term_model.specs.Terms.{Term}
+use Rattle.term_model.specs.Marks.{IsIn, is_marked, are_marked, parts_of, IsGraph, IsWay, IsPartlySolved, IsCyclic}
 use Rattle.term_arena.specs.Walks.{Walked, State, unseen, opened, settled, state_at, is_settled, marks_of, state_weight, work_left, IsStep, IsIdle, KeepsMarks, IsWalking}
-use Rattle.term_arena.proofs.MarkLaws.{marked_more, mark_more}
+use Rattle.term_model.proofs.MarkLaws.{marked_more, mark_more}
 use Rattle.term_arena.proofs.WalkLaws.{mark_of_state}
-use Rattle.term_arena.proofs.CycleLaws.{way_below}
+use Rattle.term_model.proofs.CycleLaws.{way_below}
 
 -- ---- the parts of a node, looked at one by one
 
@@ -40,14 +40,14 @@ scan_next n marks items k x s m = record { within = s.within.1; rest = rw m at s
 
 -- ---- the marks after a step
 
-settled_marks : (states : List State) (i : ℕ) → marks_of (set states i settled) ≡ set (marks_of states) i true
+pub settled_marks : (states : List State) (i : ℕ) → marks_of (set states i settled) ≡ set (marks_of states) i true
 settled_marks states i = map-set is_settled states i settled
 
-opened_marks : (states : List State) (i : ℕ) → is_marked (marks_of states) i ≡ false → marks_of (set states i opened) ≡ marks_of states
+pub opened_marks : (states : List State) (i : ℕ) → is_marked (marks_of states) i ≡ false → marks_of (set states i opened) ≡ marks_of states
 opened_marks states i m =
     map-set is_settled states i opened ∙ ap (set (marks_of states) i) (sym m) ∙ set-get_or (marks_of states) i false
 
-not_settled : (states : List State) (i : ℕ) (s : State) → state_at states i ≡ s → is_settled s ≡ false → is_marked (marks_of states) i ≡ false
+pub not_settled : (states : List State) (i : ℕ) (s : State) → state_at states i ≡ s → is_settled s ≡ false → is_marked (marks_of states) i ≡ false
 not_settled states i s e n = mark_of_state states i ∙ ap is_settled e ∙ n
 
 weight_set : (states : List State) (i : ℕ) (s : State) → i < length states → work_left (set states i s) + state_weight (state_at states i) ≡ work_left states + state_weight s

@@ -1,10 +1,10 @@
 -- The children of all terms in one list.
 use Rattle.std.proofs.Common.{◌≡◌, ℕ, ◌+◌, ◌<◌, ◌≤◌, ◌^◌, Option, None, List, zero, suc, [], ◌∷◌, ◌++◌, length, take, drop, map, get_or, refl, ap, sym, subst, ◌∙◌, arith, length-append, length-drop}
 use Rattle.std.proofs.lemmas.List.{map_push, length_push, length-map, get_or-map, take-map, take-append-le, drop-append-le, take_all, drop_at, length-take-le, take-append-drop}
-use Rattle.term_arena.specs.declared.shape.Id.{Id}
-use Rattle.term_arena.specs.declared.shape.Shape.{Shape}
+use Rattle.term_model.specs.declared.shape.Id.{Id}
+use Rattle.term_model.specs.declared.shape.Shape.{Shape}
 use Rattle.term_arena.specs.declared.terms.Entry.{Entry}
-use Rattle.term_arena.specs.Terms.{Term, Free, no_code, term_at, shape_count, shape_of, term_of}
+use Rattle.term_model.specs.Terms.{Term, Free, no_code, term_at, shape_count, shape_of, term_of}
 use Rattle.term_arena.specs.Inside.{entry_term, entry_terms, IsPacked, IsTerms}
 
 pub packed_push : (start : ℕ) (entries : List Entry) (end : ℕ) (e : Entry) → IsPacked start entries end → e.start ≡ end → IsPacked start (entries ++ e ∷ []) (end + shape_count e.shape)

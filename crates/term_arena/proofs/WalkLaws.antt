@@ -6,7 +6,7 @@ use Rattle.std.proofs.lemmas.List.{length-map, length-set, length_push, reverse-
 use Rattle.std.proofs.lemmas.Option.{get_or_from_slice_get}
 use Rattle.std.proofs.lemmas.List.Sums.{sum_by-set, sum_by-cons, count_by-le-length}
 use Rattle.undo_trail.specs.Noted.{Noted}
-use Rattle.term_arena.specs.Marks.{IsIn, is_marked}
+use Rattle.term_model.specs.Marks.{IsIn, is_marked}
 use Rattle.term_arena.specs.Walks.{Walked, IsIdle, state_at, is_open, is_settled, marks_of, state_of, IsOpenPath, IsWalk, State, unseen, opened, settled}
 
 -- a zero at the end is not seen

@@ -1,13 +1,13 @@
 -- What the store keeps true of its fields.
 use Rattle.std.specs.Prelude.{◌≡◌, ℕ, ◌+◌, ◌^◌, ◌<◌, ◌≤◌, Bool, true, Option, List, [], ◌∷◌, length, map, take, drop, unwrap_or, is_some, count_by}
 use Rattle.undo_trail.specs.Noted.{Noted}
-use Rattle.term_arena.specs.declared.shape.Id.{Id}
+use Rattle.term_model.specs.declared.shape.Id.{Id}
 use Rattle.term_arena.specs.declared.terms.Entry.{Entry}
-use Rattle.term_arena.specs.Terms.{Term, shape_count, term_of}
-use Rattle.term_arena.specs.Links.{Link}
-use Rattle.term_arena.specs.Store.{IsStore}
+use Rattle.term_model.specs.Terms.{Term, shape_count, term_of}
+use Rattle.term_model.specs.Links.{Link}
+use Rattle.term_model.specs.Store.{IsStore}
 use Rattle.term_arena.specs.Walks.{State}
-use Rattle.term_arena.specs.Marks.{bound_at, IsTableOf}
+use Rattle.term_model.specs.Marks.{bound_at, IsTableOf}
 
 -- the term of an entry, whose children stand together in the list of all children
 abbrev pub entry_term : List Id → Entry → Term

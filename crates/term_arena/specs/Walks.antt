@@ -2,8 +2,8 @@
 use Rattle.std.specs.Prelude.{◌≡◌, ℕ, ◌+◌, ◌<◌, ◌≤◌, ◌^◌, ◌==◌, if◌then◌else◌, Bool, true, false, List, [], ◌∷◌, length, map, reverse, set, sum_by, count_by, slice_index_or, slice_get, Option, Some}
 use Rattle.undo_trail.specs.Noted.{Noted}
 use Rattle.term_arena.specs.declared.walk.Step.{Step}
-use Rattle.term_arena.specs.Terms.{Term}
-use Rattle.term_arena.specs.Marks.{IsIn, is_marked, are_marked, parts_of, IsWay, IsPartlySolved}
+use Rattle.term_model.specs.Terms.{Term}
+use Rattle.term_model.specs.Marks.{IsIn, is_marked, are_marked, parts_of, IsWay, IsPartlySolved}
 
 -- what a walk knows of a node: nothing, that it stands on the path, or that its tree is finite
 pub data State : Type 0 where

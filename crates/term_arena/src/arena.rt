@@ -1,10 +1,11 @@
 ghost use Rattle.std.specs.Prelude.{◌≡◌, ◌+◌, ◌^◌, ◌<◌, ◌≤◌, ◌∷◌, ◌++◌, [], length, IfOk, OnOk, OnErr, slice_get, Some, None, take, true, ◌≢◌, IsTrue, ◌↔◌};
 
 use crate::cycles::settle_since;
-use crate::shape::{Id, Shape};
+use term_model::{Id, Shape};
+use crate::sizes::measure_all;
 use crate::terms::Terms;
 use crate::walk::Walk;
-use mm_base::{Label, Memory, Sym, Typecode};
+use mm_base::{Label, List, Memory, Sym, Typecode};
 use std::alloc::Global;
 use std::marker::Model;
 use undo_trail::Trail;
@@ -28,7 +29,7 @@ pub struct Mark {
 }
 
 impl Model for Arena {
-    ghost use Rattle.term_arena.specs.Store.{Store};
+    ghost use Rattle.term_model.specs.Store.{Store};
     ghost use Rattle.term_arena.specs.Inside.{links_of, IsArena};
 
     ghost Value = { Store };
@@ -40,15 +41,17 @@ impl Model for Arena {
 
 impl Arena {
     ghost use Rattle.std.specs.List.{AllByRecursion};
-    ghost use Rattle.term_arena.specs.Terms as term;
-    ghost use Rattle.term_arena.specs.Terms.{term_code, term_at, shape_of, shape_count, children_of, term_of, HasChildrenBelow};
-    ghost use Rattle.term_arena.specs.Links.{end_of, target_of, link_at, AreBelow};
-    ghost use Rattle.term_arena.specs.Store.{with_node, with_link, cut_to, IsStore, IsClosed, IsSolved, HasSolution};
+    ghost use Rattle.term_model.specs.Terms as term;
+    ghost use Rattle.term_model.specs.Terms.{term_code, term_at, shape_of, shape_count, children_of, term_of, HasChildrenBelow};
+    ghost use Rattle.term_model.specs.Links.{end_of, target_of, link_at, AreBelow};
+    ghost use Rattle.term_model.specs.Store.{with_node, with_link, cut_to, IsStore, IsClosed, IsSolved, HasSolution};
+    ghost use Rattle.term_model.specs.Sizes.{AreSizes, AreTreeSizes};
 
     /// No nodes.
     pub fn new(alloc: Global) -> Result<Arena, Memory>
         ensures nodes { IfOk result (λ a. a.nodes ≡ []) }
         ensures links { IfOk result (λ a. a.links ≡ []) }
+        ensures solved { IfOk result (λ a. IsSolved a.nodes a.links) }
     {
         Ok(Arena {
             terms: Terms::new(alloc),
@@ -199,6 +202,19 @@ impl Arena {
         ensures solvable { IsTrue result ↔ HasSolution self.old.nodes self.old.links }
     {
         settle_since(&self.terms, &self.trail, &mut self.walk, trail)
+    }
+
+    /// The number of tokens of the text of each node's tree: a variable and an unbound free node count 1, a production
+    /// counts its constants and its children's numbers, and a bound node has the number of its end. A number above
+    /// 2^64 - 1 is given as 2^64 - 1. Each node is counted once, however often it is shared. `Memory`: there is no room
+    /// for 16 bytes a node.
+    pub fn sizes(&self) -> Result<List<u64>, Memory>
+        requires { IsSolved self.now.nodes self.now.links }
+        ensures sizes { IfOk result (AreSizes self.now.nodes self.now.links) }
+        ensures trees { IfOk result (AreTreeSizes self.now.nodes self.now.links) }
+    {
+        let sizes = measure_all(self.terms.allocator(), &self.terms)?;
+        Ok(List::from_vec(sizes))
     }
 
     /// Takes back the bindings that were made since a mark, and then the nodes that were added. A store that was ready

@@ -1,6 +1,6 @@
 ghost use Rattle.std.specs.Prelude.{◌≡◌, ◌<◌, ◌≤◌, ◌∷◌, [], ℕ, length, true, false, MatchOption, List, slice_get, Some};
 ghost use Rattle.std.specs.Bool.{OnTrue, OnFalse};
-ghost use Rattle.term_arena.specs.Marks.{IsIn, is_marked, are_marked, parts_of, IsGraph, IsPartlySolved, IsCyclic};
+ghost use Rattle.term_model.specs.Marks.{IsIn, is_marked, are_marked, parts_of, IsGraph, IsPartlySolved, IsCyclic};
 ghost use Rattle.term_arena.specs.Walks.{marks_of, state_at, IsStep, IsIdle, KeepsMarks, AreSettled};
 
 use crate::terms::Terms;
@@ -26,7 +26,7 @@ fn unsettled_part(terms: &Terms, walk: &Walk, node: u32) -> Option<u32>
 }
 
 /// One step from the last node of the path: down to a part that is new, or back, where all parts are settled.
-fn step(terms: &Terms, walk: &mut Walk, last: u32) -> Step
+pub fn step(terms: &Terms, walk: &mut Walk, last: u32) -> Step
     requires graph { IsGraph terms.now.nodes terms.now.bound }
     requires room { length terms.now.nodes ≤ length walk.old.states }
     requires last { (rest : List ℕ) × (walk.old.path ≡ last ∷ rest) }

@@ -3,9 +3,9 @@
 
 mod arena;
 mod cycles;
-mod shape;
+mod sizes;
 mod terms;
 mod walk;
 
 pub use arena::{Arena, Mark};
-pub use shape::{Id, Shape};
+pub use term_model::{Id, Shape};

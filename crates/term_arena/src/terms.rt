@@ -1,7 +1,7 @@
 ghost use Rattle.std.specs.Prelude.{◌≡◌, ◌+◌, ◌<◌, ◌≤◌, ◌∷◌, ◌++◌, ◌^◌, [], length, take, set, Some, None, IfOk, OnOk, OnErr, vec_len};
 ghost use Rattle.term_arena.specs.Inside.{IsPacked};
 
-use crate::shape::{Id, Shape};
+use term_model::{Id, Shape};
 use mm_base::Memory;
 use std::alloc::Global;
 use std::marker::Model;
@@ -24,7 +24,7 @@ pub struct Terms {
 }
 
 impl Model for Terms {
-    ghost use Rattle.term_arena.specs.Marks.{Graph};
+    ghost use Rattle.term_model.specs.Marks.{Graph};
     ghost use Rattle.term_arena.specs.Inside.{entry_terms, IsTerms};
 
     ghost Value = { Graph };
@@ -36,8 +36,8 @@ impl Model for Terms {
 
 impl Terms {
     ghost use Rattle.std.specs.Prelude.{option_map};
-    ghost use Rattle.term_arena.specs.Terms.{shape_of, children_of, constants_of, shape_count, term_of, term_at};
-    ghost use Rattle.term_arena.specs.Marks.{bound_at};
+    ghost use Rattle.term_model.specs.Terms.{shape_of, children_of, constants_of, shape_count, term_of, term_at};
+    ghost use Rattle.term_model.specs.Marks.{bound_at};
 
     pub fn new(alloc: Global) -> Terms
         ensures nodes { result.nodes ≡ [] }
@@ -48,6 +48,10 @@ impl Terms {
             children: Vec::new(alloc),
             bound: Vec::new(alloc),
         }
+    }
+
+    pub fn allocator(&self) -> Global {
+        *self.entries.allocator()
     }
 
     pub fn count(&self) -> u32

@@ -39,7 +39,7 @@ impl Model for Walk {
 }
 
 impl Walk {
-    ghost use Rattle.term_arena.specs.Marks.{IsIn, is_marked};
+    ghost use Rattle.term_model.specs.Marks.{IsIn, is_marked};
     ghost use Rattle.term_arena.specs.Walks.{Walked, IsIdle, state_at, marks_of, unseen, opened, settled};
 
     pub fn new(alloc: Global) -> Result<Walk, Memory>

@@ -9,15 +9,15 @@ use Rattle.mm_base.specs.declared.tree.Tree.{Tree}
 use Rattle.mm_base.specs.declared.symbols.Sym.{Sym}
 use Rattle.mm_base.specs.declared.symbols.Label.{Label}
 use Rattle.mm_base.specs.declared.symbols.Typecode.{Typecode}
-use Rattle.term_arena.specs.declared.shape.Id.{Id}
-use Rattle.term_arena.specs.declared.shape.Shape.{Shape}
-use Rattle.term_arena.specs.Terms.{Term, Var, Free, Node, children_of, term_code, term_at, shape_of, shape_code, is_free, is_free_shape}
-use Rattle.term_arena.specs.Links.{Link, AreBelow, link_at, target_of, end_of}
-use Rattle.term_arena.specs.Store.{Store, IsStore, IsClosed, cut_to, Fits, Respects, Agrees, with_link, tree_at, trees_at, ends_of, IsClosedUpTo, Solution}
+use Rattle.term_model.specs.declared.shape.Id.{Id}
+use Rattle.term_model.specs.declared.shape.Shape.{Shape}
+use Rattle.term_model.specs.Terms.{Term, Var, Free, Node, children_of, term_code, term_at, shape_of, shape_code, is_free, is_free_shape}
+use Rattle.term_model.specs.Links.{Link, AreBelow, link_at, target_of, end_of}
+use Rattle.term_model.specs.Store.{Store, IsStore, IsClosed, cut_to, Fits, Respects, Agrees, with_link, tree_at, trees_at, ends_of, IsClosedUpTo, Solution}
 use Rattle.mm_base.specs.Trees.{code_of}
-use Rattle.term_arena.proofs.LinkLaws.{are_below, end_of_unbound, end_of_append, end_of_push, hop, hop_at, hop_past}
-use Rattle.term_arena.proofs.SolutionLaws.{respects_end, solution_push, solution_front, same_end, fits_code, fits_Var, fits_Node, fits_Var_Node}
-use Rattle.term_arena.proofs.ClosureLaws.{closed_push, closed_step, closed_start}
+use Rattle.term_model.proofs.LinkLaws.{are_below, end_of_unbound, end_of_append, end_of_push, hop, hop_at, hop_past}
+use Rattle.term_model.proofs.SolutionLaws.{respects_end, solution_push, solution_front, same_end, fits_code, fits_Var, fits_Node, fits_Var_Node}
+use Rattle.term_model.proofs.ClosureLaws.{closed_push, closed_step, closed_start}
 use Rattle.term_unify.specs.Steps.{IsOriented, Extends, Forces, Excludes, HaveSameTree, HaveSameChildren, HasNone, pairs_of}
 
 pub code_of_shape : (e : Term) → shape_code (shape_of e) ≡ term_code e

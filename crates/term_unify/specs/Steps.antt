@@ -2,11 +2,11 @@
 use Rattle.std.specs.Prelude.{◌≡◌, ℕ, ◌<◌, ◌==◌, ◌&&◌, if◌then◌else◌, Option, Some, None, Bool, true, false, List, [], ◌∷◌, ◌++◌, length, ⊤}
 use Rattle.std.specs.List.{AllByRecursion}
 use Rattle.mm_base.specs.declared.tree.Tree.{Tree}
-use Rattle.term_arena.specs.declared.shape.Id.{Id}
-use Rattle.term_arena.specs.declared.shape.Shape.{Shape}
-use Rattle.term_arena.specs.Links.{Link, end_of}
-use Rattle.term_arena.specs.Store.{Store, tree_at, trees_at, Solution}
-use Rattle.term_arena.specs.Terms.{Term, term_at, children_of, is_free}
+use Rattle.term_model.specs.declared.shape.Id.{Id}
+use Rattle.term_model.specs.declared.shape.Shape.{Shape}
+use Rattle.term_model.specs.Links.{Link, end_of}
+use Rattle.term_model.specs.Store.{Store, tree_at, trees_at, Solution}
+use Rattle.term_model.specs.Terms.{Term, term_at, children_of, is_free}
 
 -- a free node is never the target of a node that is not free
 abbrev pub IsOriented : List Term → Link → Type 0

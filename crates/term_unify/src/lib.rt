@@ -4,9 +4,9 @@
 ghost use Rattle.std.specs.Prelude.{◌≡◌, ◌<◌, ◌≤◌, length, drop, true, List, IsOk, OnOk, OnErr, ◌↔◌};
 ghost use Rattle.mm_base.specs.declared.tree.Tree.{Tree};
 ghost use Rattle.std.specs.Bool.{OnTrue, OnFalse};
-ghost use Rattle.term_arena.specs.Links.{end_of, link_at};
-ghost use Rattle.term_arena.specs.Store.{tree_at, ends_of, Agrees, IsClosed, IsClosedUpTo, IsSolved, IsStore, Solution, HasSolution};
-ghost use Rattle.term_arena.specs.Terms.{term_at, children_of};
+ghost use Rattle.term_model.specs.Links.{end_of, link_at};
+ghost use Rattle.term_model.specs.Store.{tree_at, ends_of, Agrees, IsClosed, IsClosedUpTo, IsSolved, IsStore, Solution, HasSolution};
+ghost use Rattle.term_model.specs.Terms.{term_at, children_of};
 ghost use Rattle.std.specs.List.{AllByRecursion};
 ghost use Rattle.term_unify.specs.Steps.{Extends, Forces, Excludes, HaveSameTree, HaveSameChildren, IsOriented, KeepsSolutions, HasNone, pairs_of};
 

@@ -1,8 +1,8 @@
 use Rattle.std.proofs.Common.{◌≡◌, ◌≢◌, ℕ, length, true, false, ap, sym, ◌∙◌, arith}
 use Rattle.std.proofs.lemmas.Bool.{both_ways}
-use Rattle.term_arena.specs.Links.{end_of}
-use Rattle.term_arena.specs.Terms.{term_code, term_at}
-use Rattle.term_arena.proofs.LinkLaws.{end_of_unbound}
+use Rattle.term_model.specs.Links.{end_of}
+use Rattle.term_model.specs.Terms.{term_code, term_at}
+use Rattle.term_model.proofs.LinkLaws.{end_of_unbound}
 use Rattle.term_unify.proofs.StepLaws.{IsJoined, bound_step, joined_swap, codes_exclude, look_code, look_free, same_codes, other_codes, ends_apart}
 use Rattle.term_unify.proofs.merge.Goals as goal
 

@@ -1,6 +1,6 @@
 use Rattle.std.proofs.Common.{◌≡◌, ◌<◌, List, length, Some, ap, sym, ◌∙◌, arith}
 use Rattle.std.specs.Prelude.{slice_get}
-use Rattle.term_arena.specs.Terms.{term_at, children_of}
+use Rattle.term_model.specs.Terms.{term_at, children_of}
 use Rattle.term_unify.proofs.StepLaws.{extends_trans, child_trees, ends_more}
 use Rattle.term_unify.proofs.merge_children.Goals as goal
 

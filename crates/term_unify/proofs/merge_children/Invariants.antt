@@ -1,6 +1,6 @@
 use Rattle.std.proofs.Common.{◌≡◌, List, take}
-use Rattle.term_arena.specs.Store.{ends_of}
-use Rattle.term_arena.specs.Terms.{term_at, children_of}
+use Rattle.term_model.specs.Store.{ends_of}
+use Rattle.term_model.specs.Terms.{term_at, children_of}
 use Rattle.term_unify.specs.Steps.{Extends, Forces, HaveSameChildren}
 use Rattle.term_unify.proofs.merge_children.Given as goal
 

@@ -1,8 +1,8 @@
 use Rattle.std.proofs.Common.{◌≡◌, ℕ, List, true, false, refl, ap, sym, ◌∙◌, ◌↔◌}
 use Rattle.mm_base.specs.declared.tree.Tree.{Tree}
-use Rattle.term_arena.specs.Store.{Store, Solution, HasSolution}
+use Rattle.term_model.specs.Store.{Store, Solution, HasSolution}
 use Rattle.term_unify.specs.Steps.{Extends, Forces, HaveSameTree, KeepsSolutions}
-use Rattle.term_arena.specs.Links.{end_of}
+use Rattle.term_model.specs.Links.{end_of}
 use Rattle.term_unify.proofs.StepLaws.{extends_trans, extends_end, start_closed, undo_kept, exact}
 use Rattle.term_unify.proofs.unify.Goals as goal
 

@@ -2,9 +2,9 @@ use Rattle.std.proofs.Common.{◌≡◌, ◌<◌, ◌≤◌, ◌+◌, ℕ, List,
 use Rattle.std.specs.List.{slice_get}
 use Rattle.std.proofs.lemmas.Bool.{cases_eq}
 use Rattle.std.proofs.lemmas.List.{length-map}
-use Rattle.term_arena.specs.Marks.{is_marked}
+use Rattle.term_model.specs.Marks.{is_marked}
 use Rattle.term_arena.specs.Walks.{marks_of, is_settled}
-use Rattle.term_arena.proofs.MarkLaws.{none_marked}
+use Rattle.term_model.proofs.MarkLaws.{none_marked}
 use Rattle.term_arena.proofs.WalkLaws.{mark_of_state}
 use Rattle.term_arena.proofs.StepLaws.{entry_below}
 use Rattle.term_arena.proofs.cycles.settle_since.Goals as goal

@@ -1,6 +1,6 @@
 use Rattle.std.proofs.Common.{◌≡◌, ◌<◌, ◌≤◌, ℕ, true, Some, length}
 use Rattle.std.specs.List.{slice_get}
-use Rattle.term_arena.specs.Marks.{is_marked, IsPartlySolved}
+use Rattle.term_model.specs.Marks.{is_marked, IsPartlySolved}
 use Rattle.term_arena.specs.Walks.{marks_of, IsIdle}
 use Rattle.term_arena.proofs.cycles.settle_since.Given as goal
 

@@ -1,6 +1,6 @@
 use Rattle.std.proofs.Common.{◌≡◌}
 use Rattle.term_arena.specs.Inside.{links_of}
-use Rattle.term_arena.proofs.CycleLaws.{start_solution}
+use Rattle.term_model.proofs.CycleLaws.{start_solution}
 use Rattle.term_arena.proofs.SinceLaws.{arena_graph, trail_below, since_exact}
 use Rattle.term_arena.proofs.arena.Arena.acyclic.Goals as goal
 

@@ -1,9 +1,9 @@
 use Rattle.std.proofs.Common.{◌≡◌, ◌<◌, ◌+◌, ◌^◌, length, refl, ap, sym, ◌∙◌, arith}
 use Rattle.std.proofs.lemmas.List.{length_push}
-use Rattle.term_arena.specs.Terms.{term_of}
+use Rattle.term_model.specs.Terms.{term_of}
 use Rattle.term_arena.specs.Inside.{links_of}
 use Rattle.term_arena.proofs.ArenaLaws.{arena_push, links_of_same, bound_at_push}
-use Rattle.term_arena.proofs.PushLaws.{solved_pushed}
+use Rattle.term_model.proofs.PushLaws.{solved_pushed}
 use Rattle.term_arena.proofs.arena.Arena.add.Goals as goal
 
 pub invariant_of-self-2 : goal.invariant_of-self-2

@@ -1,9 +1,9 @@
 use Rattle.std.proofs.Common.{◌≡◌, ◌++◌, ◌∷◌, [], ◌<◌, List, length, None, Some, true, ap, sym, ◌∙◌, arith}
-use Rattle.term_arena.specs.Links.{Link, target_of, end_of}
-use Rattle.term_arena.specs.Store.{Store}
+use Rattle.term_model.specs.Links.{Link, target_of, end_of}
+use Rattle.term_model.specs.Store.{Store}
 use Rattle.term_arena.specs.Inside.{links_of}
-use Rattle.term_arena.specs.Marks.{bound_at}
-use Rattle.term_arena.proofs.LinkLaws.{end_unbound, end_below}
+use Rattle.term_model.specs.Marks.{bound_at}
+use Rattle.term_model.proofs.LinkLaws.{end_unbound, end_below}
 use Rattle.term_arena.proofs.ArenaLaws.{arena_bind, count_below, links_of_bind}
 use Rattle.term_arena.proofs.arena.Arena.bind.Goals as goal
 

@@ -1,8 +1,8 @@
 use Rattle.std.proofs.Common.{◌≡◌, ℕ, ◌<◌, length, Option, Some, None, get_or, refl, sym, ◌∙◌, arith}
 use Rattle.std.proofs.lemmas.List.{get_or_read}
-use Rattle.term_arena.specs.Links.{target_of, end_of, hops_of}
+use Rattle.term_model.specs.Links.{target_of, end_of, hops_of}
 use Rattle.term_arena.specs.Inside.{links_of}
-use Rattle.term_arena.proofs.LinkLaws.{target_ends, target_hops, target_below, end_of_unbound}
+use Rattle.term_model.proofs.LinkLaws.{target_ends, target_hops, target_below, end_of_unbound}
 use Rattle.term_arena.proofs.arena.Arena.follow.Goals as goal
 
 pub loop-to-smaller : goal.loop-to-smaller

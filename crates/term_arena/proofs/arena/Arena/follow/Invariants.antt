@@ -1,5 +1,5 @@
 use Rattle.std.proofs.Common.{◌≡◌, ◌<◌, length}
-use Rattle.term_arena.specs.Links.{end_of, hops_of}
+use Rattle.term_model.specs.Links.{end_of, hops_of}
 use Rattle.term_arena.specs.Inside.{links_of}
 use Rattle.term_arena.proofs.arena.Arena.follow.Given as goal
 

@@ -1,10 +1,10 @@
 use Rattle.std.proofs.Common.{◌≡◌, ◌<◌, length, Option, None, Some, ap, sym, ◌∙◌, arith}
 use Rattle.std.proofs.lemmas.List.{get_or_read}
-use Rattle.term_arena.specs.Links.{Link, link_at}
-use Rattle.term_arena.specs.Marks.{bound_at}
+use Rattle.term_model.specs.Links.{Link, link_at}
+use Rattle.term_model.specs.Marks.{bound_at}
 use Rattle.term_arena.specs.Inside.{links_of}
 use Rattle.term_arena.proofs.ArenaLaws.{trail_bound, link_at_trail, length-links_of}
-use Rattle.term_arena.proofs.LinkLaws.{target_below}
+use Rattle.term_model.proofs.LinkLaws.{target_below}
 use Rattle.term_arena.proofs.arena.Arena.link.Goals as goal
 
 pub target-requires : goal.target-requires

@@ -1,7 +1,7 @@
 use Rattle.std.proofs.Common.{◌≡◌, ◌<◌, ◌≤◌, ℕ, List, length, take, refl, ap, sym, subst, ◌∙◌, arith, length-append, ◌+◌}
 use Rattle.std.proofs.lemmas.List.{take-take, length_push}
-use Rattle.term_arena.specs.Links.{Link, AreBelow}
-use Rattle.term_arena.specs.Store.{Store}
+use Rattle.term_model.specs.Links.{Link, AreBelow}
+use Rattle.term_model.specs.Store.{Store}
 use Rattle.term_arena.specs.Inside.{links_of}
 use Rattle.term_arena.proofs.ArenaLaws.{arena_unbind, arena_cut, last_entry_below, length-links_of}
 use Rattle.term_arena.proofs.arena.Arena.undo_to.Goals as goal

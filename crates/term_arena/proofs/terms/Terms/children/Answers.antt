@@ -1,6 +1,6 @@
 use Rattle.std.proofs.Common.{◌≡◌, ◌<◌, ◌≤◌, ◌+◌, length, sym, ap, arith}
 use Rattle.std.proofs.lemmas.List.{length-map}
-use Rattle.term_arena.specs.Terms.{shape_count}
+use Rattle.term_model.specs.Terms.{shape_count}
 use Rattle.term_arena.proofs.TermLaws.{entry_within}
 use Rattle.term_arena.proofs.terms.Terms.children.Goals as goal
 

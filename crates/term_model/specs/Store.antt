@@ -6,9 +6,9 @@ use Rattle.mm_base.specs.declared.symbols.Typecode.{Typecode}
 use Rattle.mm_base.specs.declared.tree.Tree.{Tree}
 use Rattle.mm_base.specs.declared.tree.Tree.TheVariants as tree
 use Rattle.mm_base.specs.Trees.{code_of}
-use Rattle.term_arena.specs.declared.shape.Id.{Id}
-use Rattle.term_arena.specs.Terms.{Term, Var, Free, Node, term_code, term_at, no_code, HasChildrenBelow}
-use Rattle.term_arena.specs.Links.{Link, end_of, InOrder}
+use Rattle.term_model.specs.declared.shape.Id.{Id}
+use Rattle.term_model.specs.Terms.{Term, Var, Free, Node, term_code, term_at, no_code, HasChildrenBelow}
+use Rattle.term_model.specs.Links.{Link, end_of, InOrder}
 
 abbrev pub tree_at : List Tree → ℕ → Tree
 tree_at trees i = slice_index_or trees i (tree.Fresh no_code 0)

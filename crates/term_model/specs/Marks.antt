@@ -2,10 +2,10 @@
 use Rattle.std.specs.Prelude.{◌≡◌, ℕ, ◌+◌, ◌<◌, Bool, true, false, ◌&&◌, Option, Some, None, List, [], ◌∷◌, length, map, slice_index_or, not, count_by, ◌⊎◌}
 use Rattle.std.specs.List.{AllByRecursion}
 use Rattle.mm_base.specs.declared.tree.Tree.{Tree}
-use Rattle.term_arena.specs.declared.shape.Id.{Id}
-use Rattle.term_arena.specs.Terms.{Term, Var, Free, Node, children_of, term_at}
-use Rattle.term_arena.specs.Links.{Link, target_of}
-use Rattle.term_arena.specs.Store.{tree_at, Fits}
+use Rattle.term_model.specs.declared.shape.Id.{Id}
+use Rattle.term_model.specs.Terms.{Term, Var, Free, Node, children_of, term_at}
+use Rattle.term_model.specs.Links.{Link, target_of}
+use Rattle.term_model.specs.Store.{tree_at, Fits}
 
 -- the terms by place, and what each node is bound to
 pub record Graph : Type 0 where

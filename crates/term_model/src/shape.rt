@@ -18,7 +18,7 @@ pub enum Shape {
 }
 
 impl Shape {
-    ghost use Rattle.term_arena.specs.Terms.{shape_code, shape_count, is_free_shape};
+    ghost use Rattle.term_model.specs.Terms.{shape_code, shape_count, is_free_shape};
 
     /// Its typecode.
     pub fn code(self) -> Typecode
@@ -41,8 +41,8 @@ impl Shape {
         }
     }
 
-    // The number of its children.
-    pub(crate) fn count(self) -> u32
+    /// The number of its children.
+    pub fn count(self) -> u32
         ensures { result ≡ shape_count self }
     {
         match self {

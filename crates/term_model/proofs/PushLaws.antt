@@ -5,14 +5,14 @@ use Rattle.std.proofs.lemmas.Bool.{cases_eq}
 use Rattle.std.proofs.lemmas.List.{length_push, get_or_push, get_or_append_left}
 use Rattle.mm_base.specs.declared.tree.Tree.{Tree}
 use Rattle.mm_base.specs.declared.tree.Tree.TheVariants as tree
-use Rattle.term_arena.specs.declared.shape.Id.{Id}
-use Rattle.term_arena.specs.Terms.{Term, Var, Free, Node, term_at, children_of, HasChildrenBelow}
-use Rattle.term_arena.specs.Links.{Link, end_of, InOrder}
-use Rattle.term_arena.specs.Store.{tree_at, trees_at, Fits, Respects, Solution, Agrees, IsClosed, IsSolved, IsStore}
-use Rattle.term_arena.proofs.TreeLaws.{code_of-Fresh}
-use Rattle.term_arena.proofs.LinkLaws.{end_below, end_of_unbound, unbound_past, are_below}
-use Rattle.term_arena.proofs.ClosureLaws.{agrees_refl}
-use Rattle.term_arena.proofs.CycleLaws.{children_within}
+use Rattle.term_model.specs.declared.shape.Id.{Id}
+use Rattle.term_model.specs.Terms.{Term, Var, Free, Node, term_at, children_of, HasChildrenBelow}
+use Rattle.term_model.specs.Links.{Link, end_of, InOrder}
+use Rattle.term_model.specs.Store.{tree_at, trees_at, Fits, Respects, Solution, Agrees, IsClosed, IsSolved, IsStore}
+use Rattle.term_model.proofs.TreeLaws.{code_of-Fresh}
+use Rattle.term_model.proofs.LinkLaws.{end_below, end_of_unbound, unbound_past, are_below}
+use Rattle.term_model.proofs.ClosureLaws.{agrees_refl}
+use Rattle.term_model.proofs.CycleLaws.{children_within}
 
 module _ (trees : List Tree) (t : Tree) where
   tree_old : (i : ℕ) → i < length trees → tree_at (trees ++ t ∷ []) i ≡ tree_at trees i

@@ -5,11 +5,11 @@ use Rattle.std.proofs.lemmas.List.Sums.{sum_by-set, count_by-le-length}
 use Rattle.std.proofs.lemmas.List.{length-replicate, length-set, get_or-set_same, get_or-set_other, get_or_past}
 use Rattle.mm_base.specs.declared.tree.Tree.{Tree}
 use Rattle.mm_base.specs.declared.tree.Tree.TheVariants as tree
-use Rattle.term_arena.proofs.TreeLaws.{code_of-Fresh}
-use Rattle.term_arena.specs.declared.shape.Id.{Id}
-use Rattle.term_arena.specs.Terms.{Term, Var, Free, Node, no_code, term_at, children_of}
-use Rattle.term_arena.specs.Store.{tree_at, trees_at, Fits}
-use Rattle.term_arena.specs.Marks.{bound_at, parts_at, parts_of, IsIn, is_marked, are_marked, rank_at, unmarked_count, FitsAt, IsMarkedWell, IsPartlySolved, IsGraph}
+use Rattle.term_model.proofs.TreeLaws.{code_of-Fresh}
+use Rattle.term_model.specs.declared.shape.Id.{Id}
+use Rattle.term_model.specs.Terms.{Term, Var, Free, Node, no_code, term_at, children_of}
+use Rattle.term_model.specs.Store.{tree_at, trees_at, Fits}
+use Rattle.term_model.specs.Marks.{bound_at, parts_at, parts_of, IsIn, is_marked, are_marked, rank_at, unmarked_count, FitsAt, IsMarkedWell, IsPartlySolved, IsGraph}
 use Rattle.std.specs.List.{AllByRecursion}
 
 -- each of marked nodes is marked

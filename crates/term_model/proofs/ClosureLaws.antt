@@ -4,12 +4,12 @@ use Rattle.std.proofs.lemmas.Bool.{cases_eq}
 use Rattle.std.proofs.lemmas.List.{take_all, take-append-le, take_more}
 use Rattle.mm_base.specs.declared.symbols.Label.{Label}
 use Rattle.mm_base.specs.declared.symbols.Typecode.{Typecode}
-use Rattle.term_arena.specs.declared.shape.Id.{Id}
+use Rattle.term_model.specs.declared.shape.Id.{Id}
 
-use Rattle.term_arena.specs.Terms.{Term, Var, Free, Node, term_at}
-use Rattle.term_arena.specs.Links.{Link, end_of}
-use Rattle.term_arena.specs.Store.{ends_of, IsSameNode, Agrees, IsClosed, IsClosedUpTo}
-use Rattle.term_arena.proofs.LinkLaws.{hop, hop_at, hop_past, end_of_push}
+use Rattle.term_model.specs.Terms.{Term, Var, Free, Node, term_at}
+use Rattle.term_model.specs.Links.{Link, end_of}
+use Rattle.term_model.specs.Store.{ends_of, IsSameNode, Agrees, IsClosed, IsClosedUpTo}
+use Rattle.term_model.proofs.LinkLaws.{hop, hop_at, hop_past, end_of_push}
 
 pub ends_of_push : (links : List Link) (link : Link) (kids : List Id) → ends_of (links ++ link ∷ []) kids ≡ map (hop link) (ends_of links kids)
 ends_of_push links link [] = refl

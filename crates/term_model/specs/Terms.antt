@@ -4,8 +4,8 @@ use Rattle.std.specs.List.{AllByRecursion}
 use Rattle.mm_base.specs.declared.symbols.Sym.{Sym}
 use Rattle.mm_base.specs.declared.symbols.Label.{Label}
 use Rattle.mm_base.specs.declared.symbols.Typecode.{Typecode}
-use Rattle.term_arena.specs.declared.shape.Id.{Id}
-use Rattle.term_arena.specs.declared.shape.Shape.{Shape}
+use Rattle.term_model.specs.declared.shape.Id.{Id}
+use Rattle.term_model.specs.declared.shape.Shape.{Shape}
 
 -- a variable, a node that stands for any tree of its typecode, or a production with the number of its constants and its children
 pub data Term : Type 0 where

@@ -7,12 +7,12 @@ use Rattle.mm_base.specs.declared.symbols.Typecode.{Typecode}
 use Rattle.mm_base.specs.declared.tree.Tree.{Tree}
 use Rattle.mm_base.specs.declared.tree.Tree.TheVariants as tree
 use Rattle.mm_base.specs.Trees.{code_of}
-use Rattle.term_arena.proofs.TreeLaws.{code_of-Var, code_of-Node, Node-parts, Var-parts, Var-no-Node}
-use Rattle.term_arena.specs.declared.shape.Id.{Id}
+use Rattle.term_model.proofs.TreeLaws.{code_of-Var, code_of-Node, Node-parts, Var-parts, Var-no-Node}
+use Rattle.term_model.specs.declared.shape.Id.{Id}
 
-use Rattle.term_arena.specs.Terms.{Term, Var, Free, Node, term_code, term_at}
-use Rattle.term_arena.specs.Links.{Link, target_of, end_of}
-use Rattle.term_arena.specs.Store.{tree_at, trees_at, Fits, Respects, Solution}
+use Rattle.term_model.specs.Terms.{Term, Var, Free, Node, term_code, term_at}
+use Rattle.term_model.specs.Links.{Link, target_of, end_of}
+use Rattle.term_model.specs.Store.{tree_at, trees_at, Fits, Respects, Solution}
 
 -- a node has the tree of its end
 pub respects_end : (trees : List Tree) (links : List Link) (i : ℕ) → Respects trees links → tree_at trees i ≡ tree_at trees (end_of links i)

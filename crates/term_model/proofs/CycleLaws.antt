@@ -12,15 +12,15 @@ use Rattle.mm_base.specs.declared.tree.Tree.TheVariants as tree
 use Rattle.mm_base.specs.Trees.{code_of}
 use Rattle.mm_model.specs.Sizes.{nodes as size_of}
 use Rattle.mm_model.proofs.SizeLaws.{nodes-Node}
-use Rattle.term_arena.specs.declared.shape.Id.{Id}
-use Rattle.term_arena.specs.Terms.{Term, Var, Free, Node, term_code, term_at, children_of, HasChildrenBelow}
-use Rattle.term_arena.specs.Links.{Link, link_at, target_of, end_of, hops_of, Avoids, InOrder}
-use Rattle.term_arena.specs.Store.{tree_at, trees_at, ends_of, Fits, Respects, Solution, Agrees, IsSameNode, IsClosed, HaveSameCodes, IsStore, HasSolution}
-use Rattle.term_arena.specs.Marks.{bound_at, IsTableOf, parts_at, parts_of, IsIn, is_marked, are_marked, unmarked_count, FitsAt, IsMarkedWell, IsPartlySolved, IsGraph, IsWay, IsCyclic}
-use Rattle.term_arena.proofs.LinkLaws.{target_of_avoided, target_ends, target_hops, target_below, end_unbound, end_below, in_order_take}
-use Rattle.term_arena.proofs.SolutionLaws.{respects_end, same_end, fits_code}
-use Rattle.term_arena.proofs.MarkLaws.{unmarked_in, unmarked_falls, marked_more, mark_more, part_below, child_below, none_marked}
-use Rattle.term_arena.proofs.ClosureLaws.{agrees_refl}
+use Rattle.term_model.specs.declared.shape.Id.{Id}
+use Rattle.term_model.specs.Terms.{Term, Var, Free, Node, term_code, term_at, children_of, HasChildrenBelow}
+use Rattle.term_model.specs.Links.{Link, link_at, target_of, end_of, hops_of, Avoids, InOrder}
+use Rattle.term_model.specs.Store.{tree_at, trees_at, ends_of, Fits, Respects, Solution, Agrees, IsSameNode, IsClosed, HaveSameCodes, IsStore, HasSolution}
+use Rattle.term_model.specs.Marks.{bound_at, IsTableOf, parts_at, parts_of, IsIn, is_marked, are_marked, unmarked_count, FitsAt, IsMarkedWell, IsPartlySolved, IsGraph, IsWay, IsCyclic}
+use Rattle.term_model.proofs.LinkLaws.{target_of_avoided, target_ends, target_hops, target_below, end_unbound, end_below, in_order_take}
+use Rattle.term_model.proofs.SolutionLaws.{respects_end, same_end, fits_code}
+use Rattle.term_model.proofs.MarkLaws.{unmarked_in, unmarked_falls, marked_more, mark_more, part_below, child_below, none_marked}
+use Rattle.term_model.proofs.ClosureLaws.{agrees_refl}
 
 -- a target further on is the target
 target_of_tail : (n : ℕ) (l : Link) (links : List Link) (i j : ℕ) → InOrder n (l ∷ links) → target_of links i ≡ Some j → target_of (l ∷ links) i ≡ Some j
@@ -131,7 +131,7 @@ child_size trees j (id ∷ kids) h =
       inl e ↦ omega (arith, whole, ap (λ (k : ℕ). size_of (tree_at trees k)) e)
     | inr rest ↦ omega (arith, whole, child_size trees j kids rest) ]
 
-child_smaller : (trees : List Tree) (t : Tree) (e : Term) (j : ℕ) → Fits trees t e → IsIn j (map (λ (id : Id). id.0) (children_of e)) → size_of (tree_at trees j) < size_of t
+pub child_smaller : (trees : List Tree) (t : Tree) (e : Term) (j : ℕ) → Fits trees t e → IsIn j (map (λ (id : Id). id.0) (children_of e)) → size_of (tree_at trees j) < size_of t
 child_smaller trees t (Var s c) j f h = absurd h
 child_smaller trees t (Free c) j f h = absurd h
 child_smaller trees t (Node l c k kids) j f h =
@@ -179,6 +179,9 @@ pub record AllSolved (nodes : List Term) (bound : List (Option ℕ)) (size : ℕ
   pub all : (i : ℕ) → i < length nodes → is_marked marks i ≡ true
   pub count : length marks ≡ size
 
+same_count : (nodes : List Term) (bound : List (Option ℕ)) (more marks : List Bool) → length more ≡ length marks → AllSolved nodes bound (length more) → AllSolved nodes bound (length marks)
+same_count nodes bound more marks e a = rw (← e) a
+
 find_unmarked : (marks : List Bool) (n : ℕ) → ((i : ℕ) → i < n → is_marked marks i ≡ true) ⊎ ((i : ℕ) × (i < n) × (is_marked marks i ≡ false))
 find_unmarked marks zero = inl (λ i h. absurd (omega arith))
 find_unmarked marks (suc n) = elim (find_unmarked marks n) [
@@ -215,7 +218,7 @@ module _ (nodes : List Term) (bound : List (Option ℕ)) (g : IsGraph nodes boun
           let rest = settle_rest s (set marks next.0 true) (omega (arith, one, h)) (omega (arith, length-set marks next.0 true, long))
             (λ i j below m is. f i j below (fresh_still marks next.0 i next.2 m) is)
             (mark_more nodes bound marks next.0 next.1 within next.2 g next.3 p) in
-          record { marks = rest.marks; solved = rest.solved; all = rest.all; count = rest.count ∙ length-set marks next.0 true } ]
+          same_count nodes bound (set marks next.0 true) marks (length-set marks next.0 true) rest ]
 
 pub children_within : (n m : ℕ) (xs : List Id) → n ≤ m → AllByRecursion (λ (id : Id). id.0 < n) xs → AllByRecursion (λ (id : Id). id.0 < m) xs
 children_within n m [] h a = tt
@@ -241,6 +244,11 @@ none_bound : (i : ℕ) → bound_at [] i ≡ None
 none_bound zero = refl
 none_bound (suc i) = refl
 
+pub none_in : (n k : ℕ) → is_marked (replicate n false) k ≡ false
+none_in n k = elim (cases_lt k n) [
+      inl h ↦ get_or-replicate n k false false h
+    | inr past ↦ get_or_past (replicate n false) k false (omega (arith, length-replicate n false)) ]
+
 -- without bindings there is a solution
 pub start_solution : (nodes : List Term) (links : List Link) → IsStore nodes links → HasSolution nodes []
 start_solution nodes links s =
@@ -253,11 +261,6 @@ start_solution nodes links s =
       (settle_rest nodes [] g (λ i. i) (unmarked_count marks + 1) marks (omega arith) (omega (arith, length-replicate (length nodes) false))
         (λ i j below m h. child_before nodes i j below s h) (none_marked nodes [] marks none))
   where
-    none_in : (n k : ℕ) → is_marked (replicate n false) k ≡ false
-    none_in n k = elim (cases_lt k n) [
-          inl h ↦ get_or-replicate n k false false h
-        | inr past ↦ get_or_past (replicate n false) k false (omega (arith, length-replicate n false)) ]
-
     child_before : (nodes : List Term) (i j : ℕ) → i < length nodes → IsStore nodes links → IsIn j (parts_of nodes [] i) → j < i
     child_before nodes i j below s h = child_below i j (children_of (term_at nodes i)) (s.children i below) (subst (λ (o : Option ℕ). IsIn j (parts_at o (term_at nodes i))) (none_bound i) h)
 
