@@ -1,6 +1,10 @@
 //! Unification of two nodes of a store of terms.
 #![tactic(auto)]
 
+mod reading;
+
+pub use reading::read_off;
+
 ghost use Rattle.std.specs.Prelude.{◌≡◌, ◌<◌, ◌≤◌, length, drop, true, List, IsOk, OnOk, OnErr, ◌↔◌};
 ghost use Rattle.mm_base.specs.declared.tree.Tree.{Tree};
 ghost use Rattle.std.specs.Bool.{OnTrue, OnFalse};
