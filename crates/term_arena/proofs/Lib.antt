@@ -1,0 +1,6 @@
+pub mod TermLaws
+pub mod WalkLaws
+pub mod StepLaws
+pub mod ArenaLaws
+pub mod SinceLaws
+pub mod MeasureLaws

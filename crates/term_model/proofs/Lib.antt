@@ -1,0 +1,9 @@
+pub mod TreeLaws
+pub mod LinkLaws
+pub mod SolutionLaws
+pub mod ClosureLaws
+pub mod MarkLaws
+pub mod CycleLaws
+pub mod PushLaws
+pub mod SizeLaws
+pub mod RankLaws
