@@ -42,6 +42,10 @@ pub record IsEntry (chart : List (List Entry)) (b e : ℕ) (code : Typecode) : T
 abbrev pub IsOnce : List Entry → Type 0
 IsOnce entries = (i j : ℕ) (x : Entry) → slice_get entries i ≡ Some x → slice_get entries j ≡ Some x → i ≡ j
 
+-- the production of this number is below a place
+abbrev pub IsRowBelow : List Production → ℕ → ℕ → Type 0
+IsRowBelow rows before i = (r : Production) × (slice_get rows i ≡ Some r) × (r.at < before)
+
 abbrev pub entry_of : ℕ → Typecode → ℕ → Entry
 entry_of e code i = record { end = e; code = code; row = i }
 

@@ -46,12 +46,6 @@ fn chain_from(row: &Production) -> Option<Typecode>
     }
 }
 
-fn row_at(rows: &[Production], number: usize) -> Option<&Production>
-    ensures { option_copied result ≡ slice_get rows.now number }
-{
-    rows.get(number)
-}
-
 /// The grammar of these productions, with what they are looked up by.
 fn indexed(alloc: Global, rows: List<Production>) -> Result<Grammar, Memory>
     requires { IsGrammar rows }
@@ -98,12 +92,19 @@ impl Grammar {
         &self.rows
     }
 
+    /// The kept production of a number, from 0. None where there are not so many.
+    pub fn row(&self, number: usize) -> Option<&Production>
+        ensures { option_copied result ≡ slice_get self.now number }
+    {
+        self.rows.as_slice().get(number)
+    }
+
     /// The kept production with that label. None exactly where there is none. It takes constant time.
     pub fn production(&self, label: Label) -> Option<&Production>
         ensures { option_copied result ≡ row_of self.now label }
     {
         match self.by_label.at(label.0) {
-            [number, ..] => row_at(self.rows.as_slice(), *number),
+            [number, ..] => self.row(*number),
             [] => None,
         }
     }
@@ -131,7 +132,7 @@ impl Grammar {
     {
         let mut labels = Vec::new(self.rows.allocator());
         for number in self.by_const.at(first.0) {
-            if let Some(row) = row_at(self.rows.as_slice(), *number) {
+            if let Some(row) = self.row(*number) {
                 labels.push(row.label)?;
             }
         }

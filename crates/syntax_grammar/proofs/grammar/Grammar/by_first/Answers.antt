@@ -9,23 +9,22 @@ use Rattle.syntax_grammar.proofs.grammar.Grammar.by_first.Goals.{in-Some+in_ok-p
 
 pub loop-number-preserved : goal.loop-number-preserved
 loop-number-preserved c =
-    let rows = c.self.inside.rows in
+    let rows = c.args.self.now in
     let ns = c.at-number-items.result.now in
     let k = c.loop-number.number-index in
-    let there = λ (xs : List Production). slice_get xs (get_or ns k 0) in
-    elim c.match-row_at.branch [
+    elim c.match-row.branch [
       | in-Some+in_ok-push w ↦ (
-          let at : slice_get rows (get_or ns k 0) ≡ Some w.in-Some.row.now = ap there (sym c.as_slice.ensures) ∙ sym w.in-Some.ensures in
+          let at : slice_get rows (get_or ns k 0) ≡ Some w.in-Some.row.now = sym w.in-Some.ensures in
           ap (λ (v : Vec Label Global). v.items) w.labels-is ∙ w.in_ok-push.ensures.items ∙ ap (λ xs. xs ++ w.in-Some.row.now.label ∷ []) c.loop-number.invariant
           ∙ sym (labels_found rows ns k w.in-Some.row.now c.loop-number-test.true at))
       | in_default w ↦ (
-          let at : slice_get rows (get_or ns k 0) ≡ None = ap there (sym c.as_slice.ensures) ∙ sym w.in_default.ensures in
+          let at : slice_get rows (get_or ns k 0) ≡ None = sym w.in_default.ensures in
           ap (λ (v : Vec Label Global). v.items) w.labels-is ∙ c.loop-number.invariant ∙ sym (labels_none rows ns k c.loop-number-test.true at))
     ]
 
 pub returns : goal.returns
 returns c =
-    let rows = c.self.inside.rows in
+    let rows = c.args.self.now in
     let ns = c.at-number-items.result.now in
     c.from_vec.ensures ∙ c.loop-number.invariant ∙ ap (labels_of rows) (take_all c.loop-number.number-index ns c.loop-number-test.false)
-    ∙ ap (labels_of rows) (c.at-number-items.ensures ∙ c.self.invariant.2 c.args.first.0) ∙ by_first_of rows c.args.first ∙ ap (λ (rs : List Production). by_first rs c.args.first) c.self.view_is
+    ∙ ap (labels_of rows) (c.at-number-items.ensures ∙ c.self.invariant.2 c.args.first.0 ∙ ap (numbers (begins_const c.args.first.0) 0) c.self.view_is) ∙ by_first_of rows c.args.first

@@ -3,4 +3,4 @@ use Rattle.syntax_grammar.proofs.IndexLaws.{labels_of}
 use Rattle.syntax_grammar.proofs.grammar.Grammar.by_first.Given as goal
 
 abbrev pub invariant-loop-number : goal.invariant-loop-number
-invariant-loop-number l = l.labels.items ≡ labels_of l.self-inside.rows (take l.number-index l.number-items)
+invariant-loop-number l = l.labels.items ≡ labels_of l.self (take l.number-index l.number-items)

@@ -23,6 +23,6 @@ returns-in-empty c =
 pub returns-in-len1-up : goal.returns-in-len1-up
 returns-in-len1-up c =
     let rows = c.self.inside.rows in
-    c.row_at.ensures ∙ ap (λ (rs : List Production). slice_get rs (get_or c.at.result.now 0 0)) c.as_slice.ensures
+    c.row.ensures ∙ ap (λ (rs : List Production). slice_get rs (get_or c.at.result.now 0 0)) (sym c.self.view_is)
     ∙ sym (a_first rows c.at.result.now c.in-len1-up.len_at_least) ∙ ap (first_row rows) (c.at.ensures ∙ c.self.invariant.1 c.args.label.0)
     ∙ row_of_label rows c.args.label ∙ ap (λ (rs : List Production). row_of rs c.args.label) c.self.view_is
