@@ -49,6 +49,12 @@ IsRowBelow rows before i = (r : Production) × (slice_get rows i ≡ Some r) × 
 abbrev pub entry_of : ℕ → Typecode → ℕ → Entry
 entry_of e code i = record { end = e; code = code; row = i }
 
+-- the text has the constant at a place that the items begin with, if they begin with one
+abbrev pub CanLead : List Leaf → List Item → ℕ → Type 0
+CanLead leaves [] q = Unit {0}
+CanLead leaves (Const s ∷ items) q = slice_get leaves q ≡ Some (leaf.Const s)
+CanLead leaves (Slot k ∷ items) q = Unit {0}
+
 module _ (leaves : List Leaf) (chart : List (List Entry)) where
   -- the chart leads from one place to another by these items
   abbrev pub Reaches : List Typecode → List Item → ℕ → ℕ → Type 0

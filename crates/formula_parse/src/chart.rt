@@ -13,7 +13,7 @@ ghost use Rattle.formula_parse.specs.Charts.{
   IsChart,
 };
 
-use crate::reach::{Entry, reach_from};
+use crate::reach::{Entry, can_lead, reach_from};
 use mm_base::{List, Memory, Typecode};
 use mm_model::{Leaf, Production};
 use std::alloc::Global;
@@ -72,6 +72,9 @@ fn enter(
 {
     if let Some(production) = g.row(row) {
         if let [_, rest @ ..] = production.items.as_slice() {
+            if !can_lead(leaves, rest, place) {
+                return Ok(());
+            }
             let ends = reach_from(
                 alloc,
                 leaves,
