@@ -1,0 +1,7 @@
+mod Floats
+mod Lists
+mod Repeats
+mod Syntax
+mod Typed
+mod Wholes
+mod Zips

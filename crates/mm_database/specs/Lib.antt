@@ -1,0 +1,4 @@
+pub mod Assertions
+pub mod Formulas
+pub mod Productions
+pub mod Variables
