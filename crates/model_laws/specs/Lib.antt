@@ -1,3 +1,4 @@
 pub mod DatabaseLaws
+pub mod FrameLaws
 pub mod Paths
 pub mod SubstitutedTrees
