@@ -1,4 +1,5 @@
 mod Floats
+mod HeadLaws
 mod Lists
 mod Repeats
 mod Syntax

@@ -3,9 +3,11 @@
 
 mod assertions;
 mod formulas;
+mod heads;
 mod productions;
 mod variables;
 
 pub use assertions::{Parsed, parse_all};
 pub use formulas::KindCodes;
+pub use heads::Heads;
 pub use productions::rows;
