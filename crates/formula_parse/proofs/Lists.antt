@@ -1,8 +1,13 @@
 -- Lists that grow, element by element.
-use Rattle.std.specs.Prelude.{◌≡◌, ◌<◌, ◌≤◌, ◌+◌, ℕ, List, length, Some, slice_get}
+use Rattle.std.specs.Prelude.{◌≡◌, ◌<◌, ◌≤◌, ◌+◌, ℕ, List, [], ◌∷◌, length, Some, slice_get}
 use Rattle.std.proofs.Common.{arith, ap, ◌∙◌, subst, ⊎_elim}
 use Rattle.std.proofs.lemmas.Bool.{cases_lt}
-use Rattle.formula_parse.specs.Charts.{IsIn, Stays}
+use Rattle.mm_base.specs.declared.symbols.Typecode.{Typecode}
+use Rattle.mm_model.specs.declared.rows.Item.{Item}
+use Rattle.mm_model.specs.declared.rows.Item.TheVariants.{Const, Slot}
+use Rattle.mm_model.specs.declared.rows.Leaf.{Leaf}
+use Rattle.formula_parse.specs.declared.reach.Entry.{Entry}
+use Rattle.formula_parse.specs.Charts.{IsIn, Stays, CanLead, Reaches}
 use Rattle.formula_parse.proofs.Places.{some_at}
 
 pub stays_refl : {X : Type 0} (xs : List X) → Stays xs xs
@@ -31,3 +36,9 @@ at_turn P xs n x at before here j y l e = ⊎_elim (λ (i : j < n). before j y i
     let there : slice_get xs n ≡ Some y = subst (λ k. slice_get xs k ≡ Some y) is e in
     let same : x ≡ y = cc in
     subst P same here) (cases_lt j n)
+
+-- where the items lead, they can begin
+pub can_of : (leaves : List Leaf) (chart : List (List Entry)) (slots : List Typecode) (items : List Item) (q e : ℕ) → Reaches leaves chart slots items q e → CanLead leaves items q
+can_of leaves chart slots [] q e h = tt
+can_of leaves chart slots (Const s ∷ items) q e h = h.0
+can_of leaves chart slots (Slot k ∷ items) q e h = tt

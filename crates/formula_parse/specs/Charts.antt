@@ -42,8 +42,18 @@ pub record IsEntry (chart : List (List Entry)) (b e : ℕ) (code : Typecode) : T
 abbrev pub IsOnce : List Entry → Type 0
 IsOnce entries = (i j : ℕ) (x : Entry) → slice_get entries i ≡ Some x → slice_get entries j ≡ Some x → i ≡ j
 
+-- the production of this number is below a place
+abbrev pub IsRowBelow : List Production → ℕ → ℕ → Type 0
+IsRowBelow rows before i = (r : Production) × (slice_get rows i ≡ Some r) × (r.at < before)
+
 abbrev pub entry_of : ℕ → Typecode → ℕ → Entry
 entry_of e code i = record { end = e; code = code; row = i }
+
+-- the text has the constant at a place that the items begin with, if they begin with one
+abbrev pub CanLead : List Leaf → List Item → ℕ → Type 0
+CanLead leaves [] q = Unit {0}
+CanLead leaves (Const s ∷ items) q = slice_get leaves q ≡ Some (leaf.Const s)
+CanLead leaves (Slot k ∷ items) q = Unit {0}
 
 module _ (leaves : List Leaf) (chart : List (List Entry)) where
   -- the chart leads from one place to another by these items

@@ -3,4 +3,3 @@ pub mod Charts
 pub mod Finds
 pub mod Fits
 pub mod Made
-pub mod Starts

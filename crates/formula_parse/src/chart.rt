@@ -1,24 +1,23 @@
-ghost use Rattle.std.specs.Prelude.{◌≡◌, ◌<◌, ◌+◌, ◌^◌, ◌∷◌, [], ℕ, length, IfOk, OnOk, slice_get, Some};
+ghost use Rattle.std.specs.Prelude.{◌≡◌, ◌<◌, ◌+◌, ◌^◌, ◌∷◌, [], ℕ, length, IfOk, IsTrue, OnOk, slice_get, Some};
 ghost use Rattle.mm_model.specs.Rows.{IsGrammar};
 ghost use Rattle.formula_parse.specs.Charts.{
   entry_of,
   Stays,
   IsIn,
   IsOnce,
+  IsRowBelow,
   Enters,
+  Follows,
   IsBegun,
   IsFilled,
   IsChart,
 };
-ghost use Rattle.formula_parse.specs.Starts.{HaveConsts, HaveSlots};
-ghost use Rattle.formula_parse.specs.declared.starts.ConstStart.{ConstStart};
-ghost use Rattle.formula_parse.specs.declared.starts.SlotStart.{SlotStart};
 
-use crate::reach::{Entry, reach_from};
-use crate::starts::{ConstStart, SlotStart, const_starts, slot_starts};
-use mm_base::{List, Memory, Sym, Typecode};
+use crate::reach::{Entry, can_lead, reach_from};
+use mm_base::{List, Memory, Typecode};
 use mm_model::{Leaf, Production};
 use std::alloc::Global;
+use syntax_grammar::Grammar;
 
 /// Adds an entry that does not stand there.
 fn add_entry(entries: &mut Vec<Entry>, entry: Entry) -> Result<(), Memory>
@@ -60,7 +59,7 @@ fn add_ends(
 /// Enters each end of a row whose items after the first begin at a place.
 fn enter(
     alloc: Global,
-    rows: &[Production],
+    g: &Grammar,
     leaves: &[Leaf],
     chart: &[List<Entry>],
     row: usize,
@@ -69,10 +68,13 @@ fn enter(
 ) -> Result<(), Memory>
     ensures stays { OnOk result (Stays entries.old.items entries.new.items) }
     ensures once { OnOk result (IsOnce entries.old.items → IsOnce entries.new.items) }
-    ensures entered { OnOk result (Enters leaves.now chart.now rows.now row place entries.new.items) }
+    ensures entered { OnOk result (Enters leaves.now chart.now g.now row place entries.new.items) }
 {
-    if let Some(production) = rows.get(row) {
+    if let Some(production) = g.row(row) {
         if let [_, rest @ ..] = production.items.as_slice() {
+            if !can_lead(leaves, rest, place) {
+                return Ok(());
+            }
             let ends = reach_from(
                 alloc,
                 leaves,
@@ -87,25 +89,36 @@ fn enter(
     Ok(())
 }
 
-/// Enters the productions that begin with a constant, behind it.
-fn begin_const(
+/// Whether the production of a number is below a place of the database.
+fn is_below(g: &Grammar, row: usize, before: u32) -> bool
+    ensures { IsRowBelow g.now before row → IsTrue result }
+{
+    match g.row(row) {
+        None => false,
+        Some(production) => production.at < before,
+    }
+}
+
+/// Enters the productions of these numbers that are below a place of the database, where their items after the first
+/// begin at a place of the text.
+fn enter_all(
     alloc: Global,
-    rows: &[Production],
-    starts: &[ConstStart],
+    g: &Grammar,
+    before: u32,
+    numbers: &[usize],
     leaves: &[Leaf],
     chart: &[List<Entry>],
-    sym: Sym,
     place: usize,
     entries: &mut Vec<Entry>,
 ) -> Result<(), Memory>
     ensures stays { OnOk result (Stays entries.old.items entries.new.items) }
     ensures once { OnOk result (IsOnce entries.old.items → IsOnce entries.new.items) }
-    ensures entered { OnOk result ((j : ℕ) (start : ConstStart) → slice_get starts.now j ≡ Some start → start.sym ≡ sym
-        → Enters leaves.now chart.now rows.now start.row place entries.new.items) }
+    ensures entered { OnOk result ((j i : ℕ) → slice_get numbers.now j ≡ Some i → IsRowBelow g.now before i
+        → Enters leaves.now chart.now g.now i place entries.new.items) }
 {
-    for start in starts {
-        if start.sym == sym {
-            enter(alloc, rows, leaves, chart, start.row, place, entries)?;
+    for number in numbers {
+        if is_below(g, *number, before) {
+            enter(alloc, g, leaves, chart, *number, place, entries)?;
         }
     }
     Ok(())
@@ -140,29 +153,27 @@ fn variable_entry(
 /// What the leaf at a place begins.
 fn begin_entries(
     alloc: Global,
-    rows: &[Production],
+    g: &Grammar,
     before: u32,
-    starts: &[ConstStart],
     leaves: &[Leaf],
     chart: &[List<Entry>],
     begin: usize,
 ) -> Result<Vec<Entry>, Memory>
-    requires starts { HaveConsts rows.now before (length rows.now) starts.now }
-    requires within { begin < length leaves.now }
-    ensures { IfOk result (λ entries. IsBegun leaves.now chart.now rows.now before begin entries.items) }
+    requires { begin < length leaves.now }
+    ensures { IfOk result (λ entries. IsBegun leaves.now chart.now g.now before begin entries.items) }
 {
     match leaf_at(leaves, begin) {
-        Leaf::Var(_, code) => variable_entry(alloc, begin, code, rows.len()),
-        Leaf::Work(code, _) => variable_entry(alloc, begin, code, rows.len()),
+        Leaf::Var(_, code) => variable_entry(alloc, begin, code, g.kept().as_slice().len()),
+        Leaf::Work(code, _) => variable_entry(alloc, begin, code, g.kept().as_slice().len()),
         Leaf::Const(sym) => {
             let mut entries = Vec::new(alloc);
-            begin_const(
+            enter_all(
                 alloc,
-                rows,
-                starts,
+                g,
+                before,
+                g.rows_by_const(sym),
                 leaves,
                 chart,
-                sym,
                 begin + 1,
                 &mut entries,
             )?;
@@ -174,8 +185,8 @@ fn begin_entries(
 /// Enters the productions that begin with a slot of an entry's typecode, behind the entry.
 fn follow(
     alloc: Global,
-    rows: &[Production],
-    starts: &[SlotStart],
+    g: &Grammar,
+    before: u32,
     leaves: &[Leaf],
     chart: &[List<Entry>],
     entry: Entry,
@@ -183,14 +194,18 @@ fn follow(
 ) -> Result<(), Memory>
     ensures stays { OnOk result (Stays entries.old.items entries.new.items) }
     ensures once { OnOk result (IsOnce entries.old.items → IsOnce entries.new.items) }
-    ensures followed { OnOk result ((j : ℕ) (start : SlotStart) → slice_get starts.now j ≡ Some start → start.code ≡ entry.code
-        → Enters leaves.now chart.now rows.now start.row entry.end entries.new.items) }
+    ensures followed { OnOk result (Follows leaves.now chart.now g.now before entry entries.new.items) }
 {
-    for start in starts {
-        if start.code == entry.code {
-            enter(alloc, rows, leaves, chart, start.row, entry.end, entries)?;
-        }
-    }
+    enter_all(
+        alloc,
+        g,
+        before,
+        g.rows_by_slot(entry.code),
+        leaves,
+        chart,
+        entry.end,
+        entries,
+    )?;
     Ok(())
 }
 
@@ -204,26 +219,22 @@ fn entry_at(entries: &[Entry], k: usize) -> Entry
 /// The entries of a place, where those of the later places stand.
 fn entries_at(
     alloc: Global,
-    rows: &[Production],
+    g: &Grammar,
     before: u32,
-    consts: &[ConstStart],
-    slots: &[SlotStart],
     leaves: &[Leaf],
     chart: &[List<Entry>],
     begin: usize,
 ) -> Result<List<Entry>, Memory>
-    requires consts { HaveConsts rows.now before (length rows.now) consts.now }
-    requires slots { HaveSlots rows.now before (length rows.now) slots.now }
-    requires within { begin < length leaves.now }
-    ensures { IfOk result (IsFilled leaves.now chart.now rows.now before begin) }
+    requires { begin < length leaves.now }
+    ensures { IfOk result (IsFilled leaves.now chart.now g.now before begin) }
 {
-    let mut entries = begin_entries(alloc, rows, before, consts, leaves, chart, begin)?;
+    let mut entries = begin_entries(alloc, g, before, leaves, chart, begin)?;
     for k in 0..usize::MAX {
         if k >= entries.len() {
             break;
         }
         let entry = entry_at(&entries, k);
-        follow(alloc, rows, slots, leaves, chart, entry, &mut entries)?;
+        follow(alloc, g, before, leaves, chart, entry, &mut entries)?;
     }
     Ok(List::from_vec(entries))
 }
@@ -242,19 +253,17 @@ fn empty_chart(alloc: Global, places: usize) -> Result<Vec<List<Entry>>, Memory>
 /// The entries of each place of a text, over the productions below a place of the database.
 pub fn chart(
     alloc: Global,
-    rows: &[Production],
+    g: &Grammar,
     before: u32,
     leaves: &[Leaf],
 ) -> Result<Vec<List<Entry>>, Memory>
-    requires { IsGrammar rows.now }
-    ensures { IfOk result (λ chart. IsChart rows.now before leaves.now 0 chart.items) }
+    requires { IsGrammar g.now }
+    ensures { IfOk result (λ chart. IsChart g.now before leaves.now 0 chart.items) }
 {
-    let consts = const_starts(alloc, rows, before)?;
-    let slots = slot_starts(alloc, rows, before)?;
     let mut chart = empty_chart(alloc, leaves.len())?;
     for k in 0..leaves.len() {
         let begin = leaves.len() - 1 - k;
-        let entries = entries_at(alloc, rows, before, &consts, &slots, leaves, &chart, begin)?;
+        let entries = entries_at(alloc, g, before, leaves, &chart, begin)?;
         chart[begin] = entries;
     }
     Ok(chart)

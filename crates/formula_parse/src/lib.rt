@@ -8,7 +8,6 @@ mod parsing;
 mod reach;
 mod search;
 mod sizes;
-mod starts;
 mod texts;
 
 pub use mm_model::Leaf;

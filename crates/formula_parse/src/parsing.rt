@@ -1,6 +1,5 @@
 ghost use Rattle.std.specs.Prelude.{◌≤◌, length, IfErr, IfOk};
 ghost use Rattle.mm_model.specs.Typed.{Parses};
-ghost use Rattle.mm_model.specs.Rows.{IsGrammar};
 ghost use Rattle.formula_parse.specs.Finds.{Finds};
 ghost use Rattle.formula_parse.specs.Answers.{HasCause, IsOnly};
 
@@ -8,7 +7,7 @@ use crate::chart::chart;
 use crate::found::Found;
 use crate::search::trees;
 use mm_base::{List, Memory, Tree, Typecode};
-use mm_model::{Leaf, Production};
+use mm_model::Leaf;
 use std::alloc::Global;
 use syntax_grammar::Grammar;
 use thiserror::Error;
@@ -30,19 +29,19 @@ pub enum ParseFault {
 /// The trees of an expression: none, the only one, or two of them.
 fn search(
     alloc: Global,
-    rows: &[Production],
+    g: &Grammar,
     before: u32,
     leaves: &[Leaf],
     want: Typecode,
 ) -> Result<Found<Tree>, Memory>
-    requires { IsGrammar rows.now }
-    ensures { IfOk result (Finds (Parses rows.now before leaves.now want)) }
+    ensures { IfOk result (Finds (Parses g.now before leaves.now want)) }
 {
-    let chart = chart(alloc, rows, before, leaves)?;
+    let rows = g.kept();
+    let chart = chart(alloc, g, before, leaves)?;
     let mut found = Found::Nothing;
     trees(
         alloc,
-        rows,
+        rows.as_slice(),
         before,
         leaves,
         &chart,
@@ -58,8 +57,8 @@ fn search(
 /// have numbers below `before`. There are at most 4,095 leaves: a formula has at most 4,096 tokens, and the first is its
 /// typecode.
 ///
-/// Fails where there is no tree, where there are two or more, and where memory runs out. The time grows with the number
-/// of productions and, for the usual formulas, with their length; at worst with a power of it.
+/// Fails where there is no tree, where there are two or more, and where memory runs out. For the
+/// usual formulas the time grows with their length; at worst with a power of it.
 pub fn parse(
     alloc: Global,
     g: &Grammar,
@@ -71,8 +70,7 @@ pub fn parse(
     ensures tree { IfOk result (IsOnly (Parses g.now before leaves.now want)) }
     ensures fault { IfErr result (HasCause (Parses g.now before leaves.now want)) }
 {
-    let rows = g.kept();
-    match search(alloc, rows.as_slice(), before, leaves.as_slice(), want) {
+    match search(alloc, g, before, leaves.as_slice(), want) {
         Err(_) => Err(ParseFault::Memory),
         Ok(Found::Nothing) => Err(ParseFault::NoTree),
         Ok(Found::One(tree)) => Ok(tree),

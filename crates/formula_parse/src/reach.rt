@@ -1,7 +1,7 @@
-ghost use Rattle.std.specs.Prelude.{◌≡◌, ◌+◌, ℕ, IfOk, OnOk, slice_get, Some};
+ghost use Rattle.std.specs.Prelude.{◌≡◌, ◌+◌, ℕ, IfOk, IsTrue, OnOk, slice_get, Some};
 ghost use Rattle.mm_base.specs.declared.symbols.Typecode.{Typecode};
 ghost use Rattle.mm_model.specs.declared.rows.Leaf.TheVariants.{Const};
-ghost use Rattle.formula_parse.specs.Charts.{IsIn, Stays, IsEntry, Reaches};
+ghost use Rattle.formula_parse.specs.Charts.{IsIn, Stays, IsEntry, CanLead, Reaches};
 
 use mm_base::{List, Memory, Sym, Typecode};
 use mm_model::{Item, Leaf};
@@ -47,32 +47,61 @@ fn after_const(
     Ok(next)
 }
 
-/// Adds the ends of the entries of a typecode.
-fn add_ends(next: &mut Vec<usize>, entries: &[Entry], code: Typecode) -> Result<(), Memory>
+fn is_const(leaves: &[Leaf], place: usize, sym: Sym) -> bool
+    ensures { slice_get leaves.now place ≡ Some (Const sym) → IsTrue result }
+{
+    match leaves.get(place) {
+        Some(Leaf::Const(other)) => *other == sym,
+        _ => false,
+    }
+}
+
+/// Whether the text has the constant at a place that the items begin with, if they begin with one.
+pub fn can_lead(leaves: &[Leaf], items: &[Item], place: usize) -> bool
+    ensures { CanLead leaves.now items.now place → IsTrue result }
+{
+    match items {
+        [Item::Const(sym), ..] => is_const(leaves, place, *sym),
+        _ => true,
+    }
+}
+
+/// Adds the ends of the entries of a typecode at which the items behind can begin.
+fn add_ends(
+    next: &mut Vec<usize>,
+    entries: &[Entry],
+    code: Typecode,
+    leaves: &[Leaf],
+    behind: &[Item],
+) -> Result<(), Memory>
     ensures stays { OnOk result (Stays next.old.items next.new.items) }
-    ensures ends { OnOk result ((x : Entry) → IsIn entries.now x → x.code ≡ code → IsIn next.new.items x.end) }
+    ensures ends { OnOk result ((x : Entry) → IsIn entries.now x → x.code ≡ code → CanLead leaves.now behind.now x.end
+        → IsIn next.new.items x.end) }
 {
     for entry in entries {
-        if entry.code == code {
+        if entry.code == code && can_lead(leaves, behind, entry.end) {
             add(next, entry.end)?;
         }
     }
     Ok(())
 }
 
-/// The ends of the entries of a typecode that begin at some places.
+/// The ends of the entries of a typecode that begin at some places, at which the items behind can begin.
 fn after_slot(
     alloc: Global,
     chart: &[List<Entry>],
     places: &[usize],
     code: Typecode,
+    leaves: &[Leaf],
+    behind: &[Item],
 ) -> Result<Vec<usize>, Memory>
-    ensures { IfOk result (λ next. (q m : ℕ) → IsIn places.now q → IsEntry chart.now q m code → IsIn next.items m) }
+    ensures { IfOk result (λ next. (q m : ℕ) → IsIn places.now q → IsEntry chart.now q m code → CanLead leaves.now behind.now m
+        → IsIn next.items m) }
 {
     let mut next = Vec::new(alloc);
     for place in places {
         if let Some(entries) = chart.get(*place) {
-            add_ends(&mut next, entries.as_slice(), code)?;
+            add_ends(&mut next, entries.as_slice(), code, leaves, behind)?;
         }
     }
     Ok(next)
@@ -90,6 +119,9 @@ fn reach(
     ensures { IfOk result (λ ends. (q e : ℕ) → IsIn places.items q
         → Reaches leaves.now chart.now slots.now items.now q e → IsIn ends.items e) }
 {
+    if places.is_empty() {
+        return Ok(places);
+    }
     match items {
         [] => Ok(places),
         [Item::Const(sym), rest @ ..] => {
@@ -99,7 +131,7 @@ fn reach(
         [Item::Slot(k), rest @ ..] => match slots.get(*k as usize) {
             None => Ok(Vec::new(alloc)),
             Some(code) => {
-                let next = after_slot(alloc, chart, &places, *code)?;
+                let next = after_slot(alloc, chart, &places, *code, leaves, rest)?;
                 reach(alloc, leaves, chart, rest, slots, next)
             }
         },

@@ -40,14 +40,14 @@ kept_names seen (x ∷ ns) n h new = elim (cases_Bool (contains seen x)) [
   ]
 ]
 
-one_of_two : (j k : List ℕ) (i : List ℕ) → list_any (bytes_eq i) (j ∷ k ∷ []) ≡ true → (ws : List Word) → list_any (is i) ws ≡ true → list_any (is_one_of (j ∷ k ∷ [])) ws ≡ true
+pub one_of_two : (j k : List ℕ) (i : List ℕ) → list_any (bytes_eq i) (j ∷ k ∷ []) ≡ true → (ws : List Word) → list_any (is i) ws ≡ true → list_any (is_one_of (j ∷ k ∷ [])) ws ≡ true
 one_of_two j k i listed_ ws h = any-with (is i) (is_one_of (j ∷ k ∷ [])) (λ w d. ap (λ (bs : List ℕ). list_any (bytes_eq bs) (j ∷ k ∷ [])) (same_names w.bytes i d) ∙ listed_) ws h
 
 module _ (ss : List Statement) (at : ℕ) where
-  abbrev names : List Name
+  abbrev pub names : List Name
   names = symbols ss
 
-  abbrev b : List Statement
+  abbrev pub b : List Statement
   b = below ss at
 
   declares : (k : List ℕ) → list_any (bytes_eq k) (codes "$c" ∷ codes "$v" ∷ []) ≡ true → (n : Name) → list_any (λ x. has_keyword k x && contains (symbols_in x) n) b ≡ true → contains names n ≡ true
@@ -59,11 +59,11 @@ module _ (ss : List Statement) (at : ℕ) where
       any-flat (bytes_eq n) symbols_in (filter (has_one_of (codes "$c" ∷ codes "$v" ∷ [])) ss) ∙ any_kept (λ x. contains (symbols_in x) n) (has_one_of (codes "$c" ∷ codes "$v" ∷ [])) ss some in
       kept_names [] (flat_map symbols_in (filter (has_one_of (codes "$c" ∷ codes "$v" ∷ [])) ss)) n stands refl
 
-  constant_known : (n : Name) → contains (constants b) n ≡ true → contains names n ≡ true
+  pub constant_known : (n : Name) → contains (constants b) n ≡ true → contains names n ≡ true
   constant_known n h =
       declares (codes "$c") refl n (any-filter (λ x. contains (symbols_in x) n) (has_keyword (codes "$c")) b (sym (any-flat (bytes_eq n) symbols_in (with_keyword (codes "$c") b)) ∙ h))
 
-  variable_known : (n : Name) → contains (variables b) n ≡ true → contains names n ≡ true
+  pub variable_known : (n : Name) → contains (variables b) n ≡ true → contains names n ≡ true
   variable_known n h =
       declares (codes "$v") refl n
       (any-active _ (path b) b (any-filter (λ x. contains (symbols_in x) n) (has_keyword (codes "$v")) (active b) (sym (any-flat (bytes_eq n) symbols_in (with_keyword (codes "$v") (active b))) ∙ h)))
@@ -71,7 +71,7 @@ module _ (ss : List Statement) (at : ℕ) where
   number_known : (n : Name) → contains names n ≡ true → (symbol_in names n).0 < length names
   number_known n h = first_within (bytes_eq n) names h
 
-  name_back : (n : Name) → contains names n ≡ true → get_or names (symbol_in names n).0 [] ≡ n
+  pub name_back : (n : Name) → contains names n ≡ true → get_or names (symbol_in names n).0 [] ≡ n
   name_back n h = sym (same_names n (get_or names (symbol_in names n).0 []) (passes_at_first (bytes_eq n) names [] (first_within (bytes_eq n) names h)))
 
   -- ---- a symbol that means something is a leaf
@@ -82,7 +82,7 @@ module _ (ss : List Statement) (at : ℕ) where
       ∙ any-with (bytes_eq n) (λ m. (symbol_in names m).0 == (symbol_in names n).0)
       (λ m d. eq-eqb (symbol_in names m).0 (symbol_in names n).0 (ap (λ x. (symbol_in names x).0) (sym (same_names n m d)))) ms h
 
-  variable_is_active : (n : Name) → contains (variables b) n ≡ true → list_any (λ (v : Sym). v.0 == (symbol_in names n).0) (active_at ss at).variables ≡ true
+  pub variable_is_active : (n : Name) → contains (variables b) n ≡ true → list_any (λ (v : Sym). v.0 == (symbol_in names n).0) (active_at ss at).variables ≡ true
   variable_is_active n h =
       let both = any-with (bytes_eq n) (λ m. contains (variables b) m && bytes_eq n m)
       (λ m d. and_from (contains (variables b) m) (bytes_eq n m) (ap (contains (variables b)) (sym (same_names n m d)) ∙ h) d) names (variable_known n h) in

@@ -1,11 +1,13 @@
 mod Checked
 mod DatabaseFacts
 mod FrameFacts
+mod FrameForms
 mod KnownAt
 mod KnownFacts
 mod LabelFacts
 mod Listed
 mod OneDatabase
+mod OwnLeaves
 mod Passing
 pub mod PathLaws
 mod RowFacts

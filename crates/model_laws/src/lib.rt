@@ -3,6 +3,7 @@
 
 mod chains;
 mod databases;
+mod frames;
 mod trees;
 
 pub use chains::{kept_rows_are_a_grammar, kept_rows_have_no_cycle, leads_by_paths};
@@ -11,4 +12,5 @@ pub use databases::{
     positions_rise, rows_are_a_grammar, rows_are_frames, statements_are_sound,
     symbols_are_distinct,
 };
+pub use frames::{frames_give_rows, frames_have_own_expressions};
 pub use trees::{substituted_is_typed, text_of_substituted};

@@ -1,2 +1,3 @@
 mod CheckLaws
+mod IndexLaws
 mod JoinLaws

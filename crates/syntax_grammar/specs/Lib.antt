@@ -1,4 +1,5 @@
 pub mod Checks
+pub mod Index
 pub mod Joins
 pub mod Selections
 pub mod SelectionsExamples

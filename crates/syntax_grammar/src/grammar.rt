@@ -1,31 +1,39 @@
-ghost use Rattle.std.specs.Prelude.{◌≡◌, ◌++◌, ◌∷◌, [], IfOk, reverse};
+ghost use Rattle.std.specs.Prelude.{◌≡◌, ◌++◌, ◌∷◌, [], IfOk, reverse, slice_get};
 ghost use Rattle.std.specs.Option.{option_copied};
 ghost use Rattle.mm_model.specs.Chains.{chain_from, kept};
 ghost use Rattle.mm_model.specs.Rows.{AreRows, IsGrammar};
 ghost use Rattle.mm_model.specs.Texts.{row_of};
 ghost use Rattle.syntax_grammar.specs.Selections as spec;
 
+use crate::index::{RowIndex, const_index, label_index, slot_index};
 use crate::joins::{leads, take_chain};
 use mm_base::{Label, List, Memory, Sym, Typecode};
 use mm_model::{Item, Production};
+use std::alloc::Global;
 use std::marker::Model;
 
 /// The productions that are kept, in their order.
 #[derive(Debug, Drop)]
 pub struct Grammar {
     rows: List<Production>,
+    by_label: RowIndex,
+    by_const: RowIndex,
+    by_slot: RowIndex,
 }
 
 impl Model for Grammar {
     ghost use Rattle.std.specs.Prelude.{List};
     ghost use Rattle.mm_model.specs.declared.rows.Production.{Production};
     ghost use Rattle.mm_model.specs.Rows.{IsGrammar};
+    ghost use Rattle.syntax_grammar.specs.Selections.{has_label, begins_const, begins_slot};
+    ghost use Rattle.syntax_grammar.specs.Index.{IsIndex};
 
     ghost Value = { List Production };
 
     ghost view = { λ g. g.rows };
 
-    ghost invariant = { λ g. IsGrammar g.rows };
+    ghost invariant = { λ g. IsGrammar g.rows × IsIndex has_label g.rows g.by_label
+        × IsIndex begins_const g.rows g.by_const × IsIndex begins_slot g.rows g.by_slot };
 }
 
 /// The typecode of a chain's variable.
@@ -38,14 +46,20 @@ fn chain_from(row: &Production) -> Option<Typecode>
     }
 }
 
-/// Whether the production's text begins with the constant.
-fn begins_with(row: &Production, first: Sym) -> bool
-    ensures { result ≡ spec.is_first first row.now.items }
+/// The grammar of these productions, with what they are looked up by.
+fn indexed(alloc: Global, rows: List<Production>) -> Result<Grammar, Memory>
+    requires { IsGrammar rows }
+    ensures { IfOk result (λ g. g ≡ rows) }
 {
-    match row.items.as_slice() {
-        [Item::Const(sym), ..] => *sym == first,
-        _ => false,
-    }
+    let by_label = label_index(alloc, rows.as_slice())?;
+    let by_const = const_index(alloc, rows.as_slice())?;
+    let by_slot = slot_index(alloc, rows.as_slice())?;
+    Ok(Grammar {
+        rows,
+        by_label,
+        by_const,
+        by_slot,
+    })
 }
 
 /// Keeps the productions, in their order, but a chain for which the chains kept before it already lead from what it
@@ -66,9 +80,7 @@ pub fn keep_rows(rows: List<Production>) -> Result<Grammar, Memory>
         }
         kept.push(row)?;
     }
-    Ok(Grammar {
-        rows: List::from_vec(kept),
-    })
+    indexed(alloc, List::from_vec(kept))
 }
 
 impl Grammar {
@@ -80,21 +92,47 @@ impl Grammar {
         &self.rows
     }
 
-    /// The kept production with that label. None exactly where there is none. It takes time in proportion to their
-    /// number.
+    /// The kept production of a number, from 0. None where there are not so many.
+    pub fn row(&self, number: usize) -> Option<&Production>
+        ensures { option_copied result ≡ slice_get self.now number }
+    {
+        self.rows.as_slice().get(number)
+    }
+
+    /// The kept production with that label. None exactly where there is none. It takes constant time.
     pub fn production(&self, label: Label) -> Option<&Production>
         ensures { option_copied result ≡ row_of self.now label }
     {
-        self.rows.as_slice().iter().find(|row| row.label == label)
+        match self.by_label.at(label.0) {
+            [number, ..] => self.row(*number),
+            [] => None,
+        }
     }
 
-    /// The labels of the kept productions whose text begins with that constant, in their order.
+    /// The numbers, from 0, of the kept productions whose text begins with that constant, in their order. It takes
+    /// constant time.
+    pub fn rows_by_const(&self, first: Sym) -> &[usize]
+        ensures { result.now ≡ spec.numbers (spec.begins_const first.0) 0 self.now }
+    {
+        self.by_const.at(first.0)
+    }
+
+    /// The numbers, from 0, of the kept productions whose text begins with a slot of that typecode, in their order. It
+    /// takes constant time.
+    pub fn rows_by_slot(&self, first: Typecode) -> &[usize]
+        ensures { result.now ≡ spec.numbers (spec.begins_slot first.0.0) 0 self.now }
+    {
+        self.by_slot.at(first.0.0)
+    }
+
+    /// The labels of the kept productions whose text begins with that constant, in their order. It takes time in
+    /// proportion to their number.
     pub fn by_first(&self, first: Sym) -> Result<List<Label>, Memory>
         ensures { IfOk result (λ labels. labels ≡ spec.by_first self.now first) }
     {
         let mut labels = Vec::new(self.rows.allocator());
-        for row in self.rows.as_slice() {
-            if begins_with(row, first) {
+        for number in self.by_const.at(first.0) {
+            if let Some(row) = self.row(*number) {
                 labels.push(row.label)?;
             }
         }

@@ -3,6 +3,7 @@
 
 mod checks;
 mod grammar;
+mod index;
 mod joins;
 
 pub use checks::{are_rows, slot_place};

@@ -1,4 +1,4 @@
-use Rattle.std.proofs.Common.{◌≡◌, ◌∷◌, [], ◌+◌, Some, ap, sym, ◌∙◌, subst, length, List}
+use Rattle.std.proofs.Common.{◌≡◌, ◌∷◌, [], ◌+◌, Some, ap, sym, ◌∙◌, subst, length, List, slice_get}
 use Rattle.std.proofs.lemmas.Result.{IfOk-weaker}
 use Rattle.formula_parse.specs.declared.reach.Entry.{Entry}
 use Rattle.formula_parse.specs.Charts.{IsBegun, IsOnce, entry_of}
@@ -8,21 +8,22 @@ use Rattle.formula_parse.proofs.chart.begin_entries.Goals as goal
 pub returns-in-Var : goal.returns-in-Var
 returns-in-Var c =
     let here = c.leaf_at.ensures ∙ ap (λ x. Some x) c.in-Var.is in
-    let begun = begun_var c.args.leaves.now c.args.chart.now c.args.rows.now c.args.before c.args.begin c.in-Var.field-0 c.in-Var.code (length c.args.rows.now) here in
-    IfOk-weaker c.variable_entry.result (λ v. v.items ≡ entry_of (c.args.begin + 1) c.in-Var.code (length c.args.rows.now) ∷ [])
-    (λ v. IsBegun c.args.leaves.now c.args.chart.now c.args.rows.now c.args.before c.args.begin v.items)
-    (λ v is. subst (λ (xs : List Entry). IsBegun c.args.leaves.now c.args.chart.now c.args.rows.now c.args.before c.args.begin xs) (sym is) begun) c.variable_entry.ensures
+    let begun = begun_var c.args.leaves.now c.args.chart.now c.args.g.now c.args.before c.args.begin c.in-Var.field-0 c.in-Var.code (length c.as_slice.result.now) here in
+    IfOk-weaker c.variable_entry.result (λ v. v.items ≡ entry_of (c.args.begin + 1) c.in-Var.code (length c.as_slice.result.now) ∷ [])
+    (λ v. IsBegun c.args.leaves.now c.args.chart.now c.args.g.now c.args.before c.args.begin v.items)
+    (λ v is. subst (λ (xs : List Entry). IsBegun c.args.leaves.now c.args.chart.now c.args.g.now c.args.before c.args.begin xs) (sym is) begun) c.variable_entry.ensures
 
 pub returns-in-Work : goal.returns-in-Work
 returns-in-Work c =
     let here = c.leaf_at.ensures ∙ ap (λ x. Some x) c.in-Work.is in
-    let begun = begun_work c.args.leaves.now c.args.chart.now c.args.rows.now c.args.before c.args.begin c.in-Work.code c.in-Work.field-1 (length c.args.rows.now) here in
-    IfOk-weaker c.variable_entry-in-Work.result (λ v. v.items ≡ entry_of (c.args.begin + 1) c.in-Work.code (length c.args.rows.now) ∷ [])
-    (λ v. IsBegun c.args.leaves.now c.args.chart.now c.args.rows.now c.args.before c.args.begin v.items)
-    (λ v is. subst (λ (xs : List Entry). IsBegun c.args.leaves.now c.args.chart.now c.args.rows.now c.args.before c.args.begin xs) (sym is) begun) c.variable_entry-in-Work.ensures
+    let begun = begun_work c.args.leaves.now c.args.chart.now c.args.g.now c.args.before c.args.begin c.in-Work.code c.in-Work.field-1 (length c.as_slice-in-Work.result.now) here in
+    IfOk-weaker c.variable_entry-in-Work.result (λ v. v.items ≡ entry_of (c.args.begin + 1) c.in-Work.code (length c.as_slice-in-Work.result.now) ∷ [])
+    (λ v. IsBegun c.args.leaves.now c.args.chart.now c.args.g.now c.args.before c.args.begin v.items)
+    (λ v is. subst (λ (xs : List Entry). IsBegun c.args.leaves.now c.args.chart.now c.args.g.now c.args.before c.args.begin xs) (sym is) begun) c.variable_entry-in-Work.ensures
 
-pub returns-in_ok-begin_const-in-Const : goal.returns-in_ok-begin_const-in-Const
-returns-in_ok-begin_const-in-Const c =
+pub returns-in_ok-enter_all-in-Const : goal.returns-in_ok-enter_all-in-Const
+returns-in_ok-enter_all-in-Const c =
     let here = c.leaf_at.ensures ∙ ap (λ x. Some x) c.in-Const.is in
-    begun_const c.args.leaves.now c.args.chart.now c.args.rows.now c.args.before c.args.begin c.args.starts.now c.requires.starts c.in-Const.sym c.begin_const.new.entries.items here
-    c.in_ok-begin_const-in-Const.ensures.entered (c.in_ok-begin_const-in-Const.ensures.once (subst IsOnce (sym c.new-entries.ensures.items) once_none))
+    let e = c.in_ok-enter_all-in-Const.ensures in
+    begun_const c.args.leaves.now c.args.chart.now c.args.g.now c.args.before c.args.begin c.in-Const.sym c.enter_all.new.entries.items here
+    (λ j i at b. e.entered j i (subst (λ ns. slice_get ns j ≡ Some i) (sym c.rows_by_const.ensures) at) b) (e.once (subst IsOnce (sym c.new-entries.ensures.items) once_none))

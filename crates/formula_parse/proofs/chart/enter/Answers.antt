@@ -7,9 +7,9 @@ use Rattle.formula_parse.proofs.chart.enter.Goals as goal
 pub returns-in_ok-add_ends-clause-entered : goal.returns-in_ok-add_ends-clause-entered
 returns-in_ok-add_ends-clause-entered c =
     let p = c.in-Some.production.now in
-    let at = slice_get-get_or c.args.rows.now c.args.row p c.in-Some.ensures.lookup.3.0 ∙ ap (λ x. Some x) (sym c.in-Some.ensures.lookup.1) in
-    enters_from c.args.leaves.now c.args.chart.now c.args.rows.now c.args.row c.args.place _ p c.as_slice.result.now c.as_slice-in-len1-up.result.now c.in_ok-ends.ends.items at c.as_slice.ensures c.as_slice-in-len1-up.ensures c.in_ok-ends.ensures
+    let at = sym c.in-Some.ensures in
+    enters_from c.args.leaves.now c.args.chart.now c.args.g.now c.args.row c.args.place _ p c.as_slice.result.now c.as_slice-in-len1-up.result.now c.in_ok-ends.ends.items at c.as_slice.ensures c.as_slice-in-len1-up.ensures c.in_ok-ends.ensures
     (λ e i. c.in_ok-add_ends.ensures.stand e (subst (λ xs. IsIn xs e) (sym c.deref.ensures.value) i))
 
 pub returns-in_default-clause-entered : goal.returns-in_default-clause-entered
-returns-in_default-clause-entered c = λ r first rest e at is reach. absurd (none-some r (sym (slice_get_past c.args.rows.now c.args.row c.in_default.ensures.lookup.3) ∙ at))
+returns-in_default-clause-entered c = λ r first rest e at is reach. absurd (none-some r (c.in_default.ensures ∙ at))

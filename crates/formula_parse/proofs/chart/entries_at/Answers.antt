@@ -1,6 +1,5 @@
 use Rattle.std.proofs.Common.{rules, ◌≡◌, ◌<◌, slice_get, Some, sym, arith, length, subst}
 use Rattle.std.proofs.lemmas.Option.{slice_get_within}
-use Rattle.formula_parse.proofs.Begun.{follows_from}
 use Rattle.formula_parse.proofs.Grows.{begun_grow, followed_turn}
 use Rattle.formula_parse.specs.Charts.{IsFilled}
 use Rattle.formula_parse.proofs.chart.entries_at.Goals as goal
@@ -15,14 +14,14 @@ loop-k-preserved c =
     let l : n < length xs = omega arith in
     let x = c.entry_at-entry.result in
     let at : slice_get xs n ≡ Some x = search rules in (
-      begun_grow c.args.leaves.now c.args.chart.now c.args.rows.now c.args.before c.args.begin xs ys s.stays s.once c.loop-k.invariant.0,
+      begun_grow c.args.leaves.now c.args.chart.now c.args.g.now c.args.before c.args.begin xs ys s.stays s.once c.loop-k.invariant.0,
       (let m = slice_get_within ys n x (s.stays n x at) in omega (arith, m)),
-      followed_turn c.args.leaves.now c.args.chart.now c.args.rows.now c.args.before n x xs ys s.stays l at (follows_from c.args.leaves.now c.args.chart.now c.args.rows.now c.args.before c.args.begin c.args.slots.now c.requires.slots x ys s.followed) c.loop-k.invariant.2,
+      followed_turn c.args.leaves.now c.args.chart.now c.args.g.now c.args.before n x xs ys s.stays l at s.followed c.loop-k.invariant.2,
     )
 
 pub returns : goal.returns
 returns c =
     let i = c.loop-k.invariant in
     let xs = c.loop-k.entries.items in
-    subst (IsFilled c.args.leaves.now c.args.chart.now c.args.rows.now c.args.before c.args.begin) (sym c.from_vec.ensures)
+    subst (IsFilled c.args.leaves.now c.args.chart.now c.args.g.now c.args.before c.args.begin) (sym c.from_vec.ensures)
     (record { begun = i.0; by_slot = λ j x at. i.2 j x (let l = slice_get_within xs j x at in elim c.loop-k-test.branch [ else-loop-k-test w ↦ omega (arith, l, w.loop-k-test.false, c.loop-k.entries.small) | then-loop-k-test+then-k-len w ↦ omega (arith, l, w.if-k-len.true, w.len.ensures) ]) at })

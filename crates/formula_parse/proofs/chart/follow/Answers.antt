@@ -1,30 +1,8 @@
-use Rattle.std.proofs.Common.{◌≡◌, ◌+◌, List, slice_get, Some, sym, ◌∙◌, arith, get_or, subst}
-use Rattle.std.proofs.lemmas.Option.{slice_get_within, slice_get-get_or}
-use Rattle.formula_parse.proofs.Comparisons.{code_other}
-use Rattle.formula_parse.specs.declared.reach.Entry.{Entry}
-use Rattle.formula_parse.specs.declared.starts.SlotStart.{SlotStart}
-use Rattle.formula_parse.specs.Charts.{Enters}
-use Rattle.formula_parse.proofs.Grows.{Grown, grown_turn, enters_grow}
-use Rattle.formula_parse.proofs.Lists.{stays_refl}
+use Rattle.std.proofs.Common.{◌≡◌, Some, slice_get, subst, sym}
+use Rattle.formula_parse.proofs.Begun.{follows_from}
 use Rattle.formula_parse.proofs.chart.follow.Goals as goal
-use Rattle.formula_parse.proofs.chart.follow.Goals.{then-eq+in_ok-enter, else-eq}
-
-pub loop-start-preserved : goal.loop-start-preserved
-loop-start-preserved c =
-    let starts = c.args.starts.now in
-    let n = c.loop-start.start-index in
-    let d : SlotStart = record { code = record { 0 = record { 0 = 0 } }; row = 0 } in
-    let x : SlotStart = get_or starts n d in
-    let at : slice_get starts n ≡ Some x = slice_get-get_or starts n d (omega (arith, c.loop-start-test.true)) in
-    let E = λ (s : SlotStart) (ys : List Entry). Enters c.args.leaves.now c.args.chart.now c.args.rows.now s.row c.args.entry.end ys in
-    let mono = λ (s : SlotStart) (xs ys : List Entry). enters_grow c.args.leaves.now c.args.chart.now c.args.rows.now s.row c.args.entry.end xs ys in
-    let turn = grown_turn starts (λ s. s.code ≡ c.args.entry.code) E mono c.args.entries.now.items c.loop-start.entries.items in
-    elim c.if-eq.branch [
-      | then-eq+in_ok-enter w ↦ subst (λ v. Grown starts (λ s. s.code ≡ c.args.entry.code) E c.args.entries.now.items (n + 1) v.items) (sym w.entries-is)
-          (turn w.enter.new.entries.items n x at w.in_ok-enter.ensures.stays w.in_ok-enter.ensures.once (λ q. w.in_ok-enter.ensures.entered) c.loop-start.invariant)
-      | else-eq w ↦ subst (λ v. Grown starts (λ s. s.code ≡ c.args.entry.code) E c.args.entries.now.items (n + 1) v.items) (sym w.entries-is)
-          (turn c.loop-start.entries.items n x at (stays_refl c.loop-start.entries.items) (λ o. o) (λ q. absurd (code_other x.code c.args.entry.code (sym w.if-eq.false ∙ c.eq.ensures) q)) c.loop-start.invariant)
-    ]
 
 pub returns-clause-followed : goal.returns-clause-followed
-returns-clause-followed c = λ j start at is. c.loop-start.invariant.2 j start (omega (arith, slice_get_within c.args.starts.now j start at, c.loop-start-test.false)) at is
+returns-clause-followed c =
+    follows_from c.args.leaves.now c.args.chart.now c.args.g.now c.args.before c.args.entry.end c.args.entry c.enter_all.new.entries.items
+    (λ j i at b. c.in_ok-enter_all.ensures.entered j i (subst (λ ns. slice_get ns j ≡ Some i) (sym c.rows_by_slot.ensures) at) b)

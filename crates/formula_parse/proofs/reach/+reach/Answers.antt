@@ -3,6 +3,7 @@ use Rattle.std.proofs.lemmas.Option.{slice_get-get_or}
 use Rattle.std.proofs.lemmas.Result.{IfOk-weaker}
 use Rattle.mm_model.specs.declared.rows.Item.TheVariants.{Const, Slot}
 use Rattle.formula_parse.specs.Charts.{IsIn, IsEntry, Reaches}
+use Rattle.formula_parse.proofs.Lists.{can_of}
 use Rattle.formula_parse.proofs.Places.{cons_of}
 use Rattle.formula_parse.proofs.reach.+reach.Goals as goal
 
@@ -19,4 +20,4 @@ returns t c =
     (λ ends h q e i r.
     let at = subst (λ xs. Reaches c.args.leaves.now c.args.chart.now c.args.slots.now xs q e) split r in
     let same : at.1 ≡ c.in-Some.code.now = (let a = sym at.2 ∙ slot in cc) in
-    h at.0 e (next q at.0 (subst (λ xs. IsIn xs q) (sym c.deref-in-Some.ensures.value) i) (subst (λ d. IsEntry c.args.chart.now q at.0 d) same at.3)) at.4) c.reach-in-Some.ensures
+    h at.0 e (next q at.0 (subst (λ xs. IsIn xs q) (sym c.deref-in-Some.ensures.value) i) (subst (λ d. IsEntry c.args.chart.now q at.0 d) same at.3) (can_of c.args.leaves.now c.args.chart.now c.args.slots.now (take (length items - 1) (drop 1 items)) at.0 e at.4)) at.4) c.reach-in-Some.ensures

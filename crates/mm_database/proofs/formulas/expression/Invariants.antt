@@ -1,0 +1,7 @@
+use Rattle.std.proofs.Common.{◌≡◌, take}
+use Rattle.std.specs.List.{filter_map}
+use Rattle.mm_database.specs.Formulas.{leaf_of}
+use Rattle.mm_database.proofs.formulas.expression.Given as goal
+
+abbrev pub invariant-loop-sym : goal.invariant-loop-sym
+invariant-loop-sym l = l.leaves.items ≡ filter_map (leaf_of l.constants l.place l.vars) (take l.sym-index l.symbols)

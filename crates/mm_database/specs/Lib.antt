@@ -1,0 +1,6 @@
+pub mod Assertions
+pub mod Formulas
+pub mod HeadKeys
+pub mod Heads
+pub mod Productions
+pub mod Variables
