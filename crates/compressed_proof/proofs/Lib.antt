@@ -2,6 +2,7 @@ pub mod Digits
 pub mod FaultLaw
 pub mod FaultLemmas
 pub mod Fronts
+pub mod Labelling
 pub mod LetterFaults
 pub mod Listing
 pub mod Reverses

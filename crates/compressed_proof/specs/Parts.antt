@@ -1,10 +1,11 @@
 -- What the parts of the reader answer.
 use Rattle.std.specs.Prelude.{◌≡◌, ℕ, true, false, List, [], take, drop, reverse, flat_map, map, slice_index_or, Some, codes}
 use Rattle.std.specs.List.{list_any, before_first, after_first}
-use Rattle.mm_model.specs.Faults.{fault, first_code}
+use Rattle.mm_model.specs.Faults.{fault}
+use Rattle.mm_model.specs.Names.{contains}
 use Rattle.mm_model.specs.Statements.{is}
 use Rattle.mm_model.specs.Words.{Word, words_from}
-use Rattle.proof_model.specs.ProofCode.{is_bracketed, label_rules, label_fault, letter_fault, number_at}
+use Rattle.proof_model.specs.ProofCode.{is_bracketed, label_fault, letter_fault, number_at}
 use Rattle.compressed_proof.specs.Decoded.{capped}
 use Rattle.compressed_proof.specs.declared.fault.CodeFault.{CodeFault}
 use Rattle.compressed_proof.specs.declared.fault.CodeFault.TheVariants as faults
@@ -33,8 +34,8 @@ IsNotBracketed text _ = ⊥
 -- the error is want of memory, or what is wrong with one label, the labels before it known
 abbrev pub IsFaultAt : List (List ℕ) → List (List ℕ) → ℕ → List ℕ → CodeFault → Type 0
 IsFaultAt mandatory before place label faults.Memory = Unit {0}
-IsFaultAt mandatory before place label (faults.MandatoryListed i l) = (i ≡ place) × (l ≡ label) × (first_code (label_rules mandatory) before label ≡ Some 7)
-IsFaultAt mandatory before place label (faults.LabelTwice i l) = (i ≡ place) × (l ≡ label) × (first_code (label_rules mandatory) before label ≡ Some 8)
+IsFaultAt mandatory before place label (faults.MandatoryListed i l) = (i ≡ place) × (l ≡ label) × (contains mandatory label ≡ true)
+IsFaultAt mandatory before place label (faults.LabelTwice i l) = (i ≡ place) × (l ≡ label) × (contains mandatory label ≡ false) × (contains before label ≡ true)
 IsFaultAt mandatory before place label _ = ⊥
 
 -- the error is want of memory, or the first fault of the labels

@@ -1,9 +1,8 @@
 //! The brackets: the labels in them, and the letters behind them.
 
-ghost use Rattle.std.specs.Prelude.{◌≡◌, ◌∷◌, ◌≤◌, length, drop, flat_map, false, true, codes, IfOk, IfErr, MatchResult};
-ghost use Rattle.std.specs.List.{list_any};
-ghost use Rattle.mm_model.specs.Words.{words, words_from};
-ghost use Rattle.mm_model.specs.Statements.{is};
+ghost use Rattle.std.specs.Prelude.{◌≡◌, ◌≤◌, length, drop, true, codes, vec_len, IfOk, IfErr};
+ghost use Rattle.std.specs.Str.{bytes_eq};
+ghost use Rattle.mm_model.specs.Words.{words_from};
 ghost use Rattle.proof_model.specs.ProofCode.{is_bracketed, labels_of, letters_of};
 ghost use Rattle.compressed_proof.specs.Parts.{letters_from, IsListed, IsNotClosed, IsNotBracketed};
 
@@ -20,15 +19,22 @@ pub(crate) struct Brackets {
 }
 
 fn is_open(word: &[u8]) -> bool
-    ensures { result ≡ is (codes "(") (record { start = 0; bytes = word.now }) }
+    ensures { result ≡ bytes_eq word.now (codes "(") }
 {
     word == b"(".as_slice()
+}
+
+fn is_close(word: &[u8]) -> bool
+    ensures { result ≡ bytes_eq word.now (codes ")") }
+{
+    word == b")".as_slice()
 }
 
 /// The labels before the first `)`.
 fn read_labels(alloc: Global, text: &[u8], from: usize) -> Result<Brackets, CodeFault>
     requires { from ≤ length text.now }
     ensures within { IfOk result (λ b. b.end ≤ length text.now) }
+    ensures count { IfOk result (λ b. vec_len b.labels ≤ length text.now) }
     ensures read { IfOk result (λ b. IsListed (words_from from (drop from text.now)) b.labels.items (words_from b.end (drop b.end text.now))) }
     ensures open { IfErr result (λ e. IsNotClosed (words_from from (drop from text.now)) e) }
 {
@@ -37,7 +43,7 @@ fn read_labels(alloc: Global, text: &[u8], from: usize) -> Result<Brackets, Code
     while let Some((start, end)) = next_word(text, at) {
         let word = &text[start..end];
         at = end;
-        if word == b")".as_slice() {
+        if is_close(word) {
             return Ok(Brackets { labels, end });
         }
         labels.push(List::from_vec(Vec::from_slice(alloc, word)?))?;
@@ -48,6 +54,7 @@ fn read_labels(alloc: Global, text: &[u8], from: usize) -> Result<Brackets, Code
 /// The labels in the brackets.
 pub(crate) fn read_brackets(alloc: Global, text: &[u8]) -> Result<Brackets, CodeFault>
     ensures within { IfOk result (λ b. b.end ≤ length text.now) }
+    ensures count { IfOk result (λ b. vec_len b.labels ≤ length text.now) }
     ensures bracketed { IfOk result (λ b. is_bracketed text.now ≡ true) }
     ensures labels { IfOk result (λ b. b.labels.items ≡ labels_of text.now) }
     ensures letters { IfOk result (λ b. letters_from b.end text.now ≡ letters_of text.now) }

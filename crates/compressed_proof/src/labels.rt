@@ -1,9 +1,8 @@
 //! The faults of the labels in the brackets.
 
-ghost use Rattle.std.specs.Prelude.{◌≡◌, ℕ, ◌≤◌, ◌<◌, ◌^◌, List, length, None, IfOk, IfErr, OnOk};
-ghost use Rattle.mm_model.specs.Faults.{first_code};
+ghost use Rattle.std.specs.Prelude.{◌≡◌, ℕ, ◌≤◌, ◌<◌, ◌^◌, List, length, None, false, IfOk, IfErr, OnOk};
 ghost use Rattle.mm_model.specs.Names.{contains};
-ghost use Rattle.proof_model.specs.ProofCode.{label_rules, label_fault};
+ghost use Rattle.proof_model.specs.ProofCode.{label_fault};
 ghost use Rattle.compressed_proof.specs.Parts.{IsLabelFault, IsFaultAt};
 
 use crate::fault::CodeFault;
@@ -39,7 +38,7 @@ fn check_label(
     place: u32,
     label: &[u8],
 ) -> Result<(), CodeFault>
-    ensures sound { OnOk result (first_code (label_rules mandatory.now) before.now label.now ≡ None) }
+    ensures fresh { OnOk result ((contains mandatory.now label.now ≡ false) × (contains before.now label.now ≡ false)) }
     ensures fault { IfErr result (λ e. IsFaultAt mandatory.now before.now place label.now e) }
 {
     if mandatory.contains(label) {

@@ -38,12 +38,7 @@ pub fn letters(alloc: Global, n: u64) -> Result<Bytes, Memory>
 }
 
 /// The letters of a step.
-fn push_step(
-    out: &mut Vec<u8>,
-    mandatory: u32,
-    labels: u32,
-    step: Step,
-) -> Result<(), Memory>
+fn push_step(out: &mut Vec<u8>, mandatory: u32, labels: u32, step: Step) -> Result<(), Memory>
     ensures { OnOk result (out.new.items ≡ out.old.items ++ step_letters mandatory labels step) }
 {
     let (m, n) = (u64::from(mandatory), u64::from(labels));
@@ -60,12 +55,7 @@ fn push_step(
 }
 
 /// The letters of the steps, in one run.
-fn push_steps(
-    out: &mut Vec<u8>,
-    mandatory: u32,
-    labels: u32,
-    steps: &[Step],
-) -> Result<(), Memory>
+fn push_steps(out: &mut Vec<u8>, mandatory: u32, labels: u32, steps: &[Step]) -> Result<(), Memory>
     ensures { OnOk result (out.new.items ≡ out.old.items ++ steps_letters mandatory labels steps.now) }
 {
     for step in steps {
