@@ -1,14 +1,12 @@
 -- The faults of labels, one label after the other.
-use Rattle.std.proofs.Common.{◌≡◌, ◌<◌, ◌≤◌, ℕ, suc, ◌+◌, Bool, true, false, cond, ◌||◌, List, [], ◌∷◌, ◌++◌, length, take, drop, get_or, Option, Some, None, option_map, refl, sym, ap, ◌∙◌, arith, subst, inl, inr}
-use Rattle.std.specs.Prelude.{reverse, find}
-use Rattle.std.specs.List.{list_any}
+use Rattle.std.proofs.Common.{◌≡◌, ◌<◌, ℕ, suc, ◌+◌, Bool, true, false, ◌||◌, List, [], ◌∷◌, ◌++◌, length, take, drop, get_or, Option, Some, None, refl, sym, ap, ◌∙◌, arith, subst}
+use Rattle.std.specs.Prelude.{reverse}
 use Rattle.std.specs.Str.{bytes_eq}
-use Rattle.std.proofs.lemmas.Bool.{cases_Bool}
 use Rattle.std.proofs.lemmas.Slice.Eq.{bytes_eq-Decides}
 use Rattle.std.proofs.lemmas.List.Folds.{list_any-append}
 use Rattle.std.proofs.Math.Seq.{drop-cons, take-suc}
 use Rattle.std.proofs.lemmas.List.{drop_all, get_or_default, length-reverse, length-take-le}
-use Rattle.mm_model.specs.Faults.{Fault, fault, or_else, first_code, first_fault}
+use Rattle.mm_model.specs.Faults.{Fault, fault, first_code, first_fault}
 use Rattle.mm_model.specs.Names.{contains}
 use Rattle.proof_model.specs.ProofCode.{label_rules, label_fault, index}
 use Rattle.compressed_proof.specs.declared.fault.CodeFault.{CodeFault}

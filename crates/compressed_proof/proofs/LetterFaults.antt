@@ -1,6 +1,5 @@
 -- The error of reading letters is their first fault, with what is told of it.
-use Rattle.std.proofs.Common.{◌≡◌, ◌<◌, ℕ, ◌+◌, ◌-◌, ◌^◌, List, [], length, Some, Err, refl, sym, ap, ◌∙◌, arith, subst}
-use Rattle.mm_model.specs.Faults.{Fault, fault}
+use Rattle.std.proofs.Common.{◌≡◌, ◌<◌, ℕ, ◌+◌, ◌-◌, ◌^◌, List, [], length, Err, refl, sym, ap, ◌∙◌, arith, subst}
 use Rattle.proof_model.specs.ProofCode.{letter_fault}
 use Rattle.compressed_proof.specs.declared.steps.Prior.TheVariants as prior
 use Rattle.compressed_proof.specs.declared.fault.CodeFault.{CodeFault}

@@ -1,10 +1,10 @@
 -- The labels in the brackets, word by word.
-use Rattle.std.proofs.Common.{◌≡◌, ℕ, suc, ◌+◌, Bool, true, false, not, cond, ◌||◌, List, [], ◌∷◌, ◌++◌, take, drop, refl, sym, ap, ◌∙◌, arith, subst, append_assoc, append-nil}
+use Rattle.std.proofs.Common.{◌≡◌, ℕ, suc, ◌+◌, Bool, true, false, not, cond, ◌||◌, List, [], ◌∷◌, ◌++◌, drop, refl, sym, ap, ◌∙◌, arith, subst, append_assoc, append-nil}
 use Rattle.std.specs.Prelude.{map, codes}
 use Rattle.std.specs.List.{list_any, before_first, after_first, prefix_len}
 use Rattle.std.specs.Str.{bytes_eq}
 use Rattle.mm_model.specs.Statements.{is}
-use Rattle.mm_model.specs.Words.{Word, words_from, word}
+use Rattle.mm_model.specs.Words.{Word, word}
 use Rattle.compressed_proof.specs.Parts.{IsListed}
 
 abbrev closes : Word → Bool

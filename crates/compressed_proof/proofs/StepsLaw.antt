@@ -1,8 +1,7 @@
 -- What was read without a fault is spelled by the letters, and each step names what is there.
-use Rattle.std.proofs.Common.{◌≡◌, ◌≤◌, ◌<◌, ℕ, suc, ◌+◌, ◌-◌, ◌*◌, ◌^◌, true, false, eqb, ltb, List, [], ◌∷◌, ◌++◌, length, Some, None, Result, Ok, Err, refl, sym, ap, ◌∙◌, arith, subst, inl, inr, append_assoc}
+use Rattle.std.proofs.Common.{◌≡◌, ◌≤◌, ◌<◌, ℕ, suc, ◌+◌, ◌-◌, ◌*◌, ◌^◌, true, false, eqb, ltb, List, [], ◌∷◌, ◌++◌, length, None, Result, Ok, Err, refl, sym, ap, ◌∙◌, arith, subst, inl, inr, append_assoc}
 use Rattle.std.proofs.lemmas.List.{append-nil}
 use Rattle.std.proofs.lemmas.Bool.{cases_Bool, eqb-true, ltb-true, ltb-false}
-use Rattle.mm_model.specs.Faults.{Fault, fault}
 use Rattle.proof_model.specs.ProofCode.{is_last, is_leading, EndsNumber, SpellsNumber, SpellsWhat, SpellsStep, SpellsSteps, IsInRange, AreInRange, letter_fault}
 use Rattle.proof_model.specs.declared.code.What.TheVariants.{Unknown}
 use Rattle.proof_model.specs.declared.code.Step.{Step}

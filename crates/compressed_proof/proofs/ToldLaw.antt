@@ -1,5 +1,5 @@
 -- The number that is told of a number that is too large.
-use Rattle.std.proofs.Common.{◌≡◌, ◌≤◌, ◌<◌, ℕ, suc, ◌+◌, ◌-◌, ◌*◌, Bool, true, false, cond, ◌||◌, eqb, ltb, List, [], ◌∷◌, length, take, Result, Ok, Err, refl, sym, ap, ◌∙◌, arith, subst, inl, inr}
+use Rattle.std.proofs.Common.{◌≡◌, ℕ, suc, ◌+◌, ◌-◌, ◌*◌, true, false, cond, eqb, ltb, List, [], ◌∷◌, length, take, Result, Ok, Err, refl, sym, ap, ◌∙◌, arith, subst, inl, inr}
 use mathlib.Core.List.{reverse_aux}
 use Rattle.std.specs.Prelude.{reverse, slice_index_or}
 use Rattle.std.specs.List.{list_any}
@@ -12,8 +12,8 @@ use Rattle.compressed_proof.specs.declared.steps.Prior.TheVariants as prior
 use Rattle.compressed_proof.specs.declared.fault.CodeFault.{CodeFault}
 use Rattle.compressed_proof.specs.declared.fault.CodeFault.TheVariants as faults
 use Rattle.compressed_proof.specs.Decoded.{capped}
-use Rattle.compressed_proof.specs.Reading.{value_of, with_digit, with_last, with_front, pending, is_digits, read_letters, marked, what_of}
-use Rattle.compressed_proof.proofs.FaultLaw.{IsPrior, is_step, cond_then, cond_else, value_is, digit_is, last_is, query_is, mark_is, leading_is}
+use Rattle.compressed_proof.specs.Reading.{with_digit, with_last, with_front, pending, is_digits, read_letters, marked, what_of}
+use Rattle.compressed_proof.proofs.FaultLaw.{IsPrior, is_step, cond_else, value_is, digit_is, last_is, query_is, mark_is}
 use Rattle.compressed_proof.proofs.Reverses.{item_there, items_before}
 
 -- the number at this place of the letters

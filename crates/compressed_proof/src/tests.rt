@@ -15,10 +15,7 @@ fn spells_numbers(rt: HostRuntime) -> Result<(), Fail> {
 fn reads_and_writes(rt: HostRuntime) -> Result<(), Fail> {
     let name = List::from_vec(b"wph".to_vec(rt.alloc())?);
     let mandatory = List::from_vec(vec![in rt.alloc(); name]?);
-    let code = match decode(rt.alloc(), b"( wi ax-1 )\tAB\nZC D ?", &mandatory) {
-        Ok(code) => code,
-        Err(_) => return Err(Fail::from("a fault")),
-    };
+    let code = decode(rt.alloc(), b"( wi ax-1 )\tAB\nZC D ?", &mandatory)?;
     let text = encode(rt.alloc(), &code, 1)?;
     assert_eq!(rt; text.as_slice(), b"( wi ax-1 ) ABZCD?".as_slice());
     Ok(())

@@ -1,0 +1,14 @@
+//! The stack machine that decides whether a proof proves its theorem (Metamath book, section 4.1.4).
+#![tactic(auto)]
+
+mod entries;
+mod fault;
+
+mod formula;
+mod known;
+mod pairs;
+mod run;
+mod stack;
+
+pub use fault::ProofFault;
+pub use proof_model::Theorem;
