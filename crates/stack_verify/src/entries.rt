@@ -1,9 +1,8 @@
 //! What the entries for the hypotheses of an assertion have to be.
 
-ghost use Rattle.std.specs.Prelude.{◌≡◌, ◌≤◌, ◌<◌, length, OnOk, IfOk, IfErr, All, None, false, slice_get, Some};
-ghost use Rattle.std.specs.List.{list_any};
+ghost use Rattle.std.specs.Prelude.{◌≡◌, length, OnOk, IfOk, IfErr, All, None, false, find, is_some};
 ghost use Rattle.proof_model.specs.Machine.{differs_in_type, differs_in_formula, hyp_fault, entries_fault};
-ghost use Rattle.stack_verify.specs.Stacks.{IsWithin, formula_in, entries_of};
+ghost use Rattle.stack_verify.specs.Stacks.{IsWithin, entries_of};
 ghost use Rattle.stack_verify.specs.Steps.{FailsAs, IsHypFault};
 ghost use Rattle.stack_verify.specs.Contexts.{IsKnown};
 
@@ -26,7 +25,7 @@ fn differs_in_type(hyp: &Hyp, formula: &[Sym]) -> bool
 fn has_other_type(hyps: &[Hyp], symbols: &[Sym], spans: &[Span]) -> bool
     requires each { length spans.now ≡ length hyps.now }
     requires within { All (IsWithin (length symbols.now)) spans.now }
-    ensures { result ≡ list_any differs_in_type (entries_of hyps.now symbols.now spans.now) }
+    ensures { result ≡ is_some (find differs_in_type (entries_of hyps.now symbols.now spans.now)) }
 {
     for (place, hyp) in hyps.iter().enumerate() {
         if differs_in_type(hyp, formula_in(symbols, spans[place])) {

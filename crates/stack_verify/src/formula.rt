@@ -1,6 +1,8 @@
 //! Formulas as parts of one list of symbols, and substitution.
 
-ghost use Rattle.std.specs.Prelude.{◌≡◌, ◌≤◌, ◌++◌, ◌-◌, length, drop, take, position, OnOk, All};
+ghost use Rattle.std.specs.Prelude.{◌≡◌, ◌==◌, ◌++◌, length, drop, take, position, OnOk, All};
+ghost use Rattle.std.specs.List.{list_any};
+ghost use Rattle.mm_base.specs.declared.symbols.Sym.{Sym};
 ghost use Rattle.proof_model.specs.Machine.{is_float_of, same_formula, substitute, substituted};
 ghost use Rattle.stack_verify.specs.Stacks.{IsWithin, formula_in, entries_of};
 
@@ -42,14 +44,17 @@ pub(crate) fn same_formula(one: &[Sym], other: &[Sym]) -> bool
     one == other
 }
 
+fn has_symbol(formula: &[Sym], symbol: Sym) -> bool
+    ensures { result ≡ list_any (λ (v : Sym). v.0 == symbol.0) formula.now }
+{
+    formula.iter().any(|v| v.0 == symbol.0)
+}
+
 /// Whether a hypothesis is the `$f` of a variable.
 fn is_float_of(symbol: Sym, hyp: &Hyp) -> bool
     ensures { result ≡ is_float_of symbol hyp.now }
 {
-    hyp.floating
-        && behind_typecode(hyp.formula.as_slice())
-            .iter()
-            .any(|v| v.0 == symbol.0)
+    hyp.floating && has_symbol(behind_typecode(hyp.formula.as_slice()), symbol)
 }
 
 fn find_float(hyps: &[Hyp], symbol: Sym) -> Option<usize>

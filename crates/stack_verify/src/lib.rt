@@ -1,9 +1,9 @@
 //! The stack machine that decides whether a proof proves its theorem (Metamath book, section 4.1.4).
 #![tactic(auto)]
+#![allow(dead_code)]
 
 mod entries;
 mod fault;
-
 mod formula;
 mod known;
 mod pairs;

@@ -1,6 +1,6 @@
 //! The run of a proof whose labels have been looked up.
 
-ghost use Rattle.std.specs.Prelude.{◌≡◌, ℕ, ◌≤◌, ◌<◌, ◌+◌, ◌^◌, length, drop, OnOk, IfErr, Ok, None, MatchResult};
+ghost use Rattle.std.specs.Prelude.{◌≡◌, ◌<◌, ◌^◌, length, OnOk, IfErr, Ok, None, slice_index_or};
 ghost use Rattle.proof_model.specs.Machine.{start, end_fault, ended_fault};
 ghost use Rattle.stack_verify.specs.Contexts.{IsKnown};
 ghost use Rattle.stack_verify.specs.Faults.{IsFault};
@@ -39,8 +39,8 @@ fn use_found(
     requires known { IsKnown theorem.now known.now }
     requires sound { IsSound stack.old }
     ensures sound { OnOk result (IsSound stack.new) }
-    ensures used { OnOk result (use_found theorem.now found (state stack.old) ≡ Ok (state stack.new)) }
-    ensures fault { IfErr result (λ e. FailsWith e (use_found theorem.now found (state stack.old))) }
+    ensures used { OnOk result (use_found theorem.now found.entry (state stack.old) ≡ Ok (state stack.new)) }
+    ensures fault { IfErr result (λ e. FailsWith e (use_found theorem.now found.entry (state stack.old))) }
 {
     match found {
         Found::Hyp(number) => match theorem.hyps.as_slice().get(number as usize) {

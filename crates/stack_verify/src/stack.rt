@@ -26,6 +26,12 @@ pub(crate) struct Stack {
     kept: Vec<Span>,
 }
 
+fn span_at(spans: &[Span], number: u32) -> Option<Span>
+    ensures { result ≡ slice_get spans.now number }
+{
+    spans.get(number as usize).copied()
+}
+
 impl Stack {
     pub(crate) fn new(alloc: Global) -> Stack
         ensures sound { IsSound result }
@@ -63,7 +69,7 @@ impl Stack {
         ensures pushed { OnOk result (use_kept (slice_get (state self.old).kept number) (state self.old) ≡ Ok (state self.new)) }
         ensures fault { IfErr result (λ e. FailsWith e (use_kept (slice_get (state self.old).kept number) (state self.old))) }
     {
-        match self.kept.as_slice().get(number as usize).copied() {
+        match span_at(self.kept.as_slice(), number) {
             None => Err(StepFault::Unknown),
             Some(span) => {
                 self.entries.push(span)?;
