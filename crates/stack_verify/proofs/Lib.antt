@@ -1,3 +1,4 @@
 pub mod Entering
+pub mod Knowing
 pub mod Parts
 pub mod Substitutes

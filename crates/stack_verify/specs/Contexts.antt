@@ -12,13 +12,25 @@ use Rattle.stack_verify.specs.declared.known.Known.{Known}
 pub record SameVariables (hyps : List Hyp) (numbers : List ℕ) : Type 0 where
   pub same : (s : Sym) → list_any (nat_eq s.0) numbers ≡ list_any (is_float_of s) hyps
 
--- the pair is of these two, in either order
-abbrev pub joins : Sym × Sym → ℕ × ℕ → Bool
-joins vw p = (p.0 == vw.0.0 && p.1 == vw.1.0) || (p.0 == vw.1.0 && p.1 == vw.0.0)
+-- these are the numbers before with those of the symbols
+pub record AddsSymbols (old new : List ℕ) (symbols : List Sym) : Type 0 where
+  pub same : (n : ℕ) → list_any (nat_eq n) new ≡ (list_any (nat_eq n) old || list_any (λ (v : Sym). v.0 == n) symbols)
+
+-- these are the numbers before with those of the variables of the hypothesis
+pub record AddsHyp (old new : List ℕ) (hyp : Hyp) : Type 0 where
+  pub same : (s : Sym) → list_any (nat_eq s.0) new ≡ (list_any (nat_eq s.0) old || is_float_of s hyp)
+
+-- the pair is of these two numbers, in this order
+abbrev pub is_pair : ℕ → ℕ → ℕ × ℕ → Bool
+is_pair v w p = v == p.0 && w == p.1
+
+-- a pair of these two is there, in either order
+abbrev pub joins : List (ℕ × ℕ) → Sym × Sym → Bool
+joins numbers vw = list_any (is_pair vw.0.0 vw.1.0) numbers || list_any (is_pair vw.1.0 vw.0.0) numbers
 
 -- these numbers are those of the pairs
 pub record SamePairs (pairs : List Pair) (numbers : List (ℕ × ℕ)) : Type 0 where
-  pub same : (vw : Sym × Sym) → list_any (joins vw) numbers ≡ list_any (λ (p : Pair). joins vw (p.a.0, p.b.0)) pairs
+  pub same : (v w : ℕ) → list_any (is_pair v w) numbers ≡ list_any (λ (p : Pair). is_pair v w (p.a.0, p.b.0)) pairs
 
 -- the variables and the active pairs of a theorem
 pub record IsKnown (theorem : Theorem) (known : Known) : Type 0 where

@@ -12,7 +12,7 @@ use Rattle.stack_verify.specs.Contexts.{joins}
 -- two variables break the rule
 abbrev pub fails : Known → Rule → Sym × Sym → Bool
 fails known rule.Shared vw = vw.0.0 == vw.1.0
-fails known rule.Distinct vw = not (list_any (joins vw) known.pairs.keys)
+fails known rule.Distinct vw = not (joins known.pairs.keys vw)
 
 abbrev pub variables_in : Known → List Sym → List Sym
 variables_in known formula = filter (λ (s : Sym). list_any (nat_eq s.0) known.variables) formula

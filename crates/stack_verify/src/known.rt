@@ -1,10 +1,8 @@
 //! What is known of a theorem, for look-ups in constant time: its variables, and its active pairs.
 
-ghost use Rattle.std.specs.Prelude.{◌≡◌, ℕ, ◌==◌, ◌&&◌, ◌||◌, nat_eq, drop, OnOk, IfOk};
+ghost use Rattle.std.specs.Prelude.{◌≡◌, [], ◌∷◌, nat_eq, OnOk, IfOk};
 ghost use Rattle.std.specs.List.{list_any};
-ghost use Rattle.mm_base.specs.declared.symbols.Sym.{Sym};
-ghost use Rattle.proof_model.specs.Machine.{is_variable, is_active_pair, is_float_of};
-ghost use Rattle.stack_verify.specs.Contexts.{IsKnown, SameVariables, SamePairs, joins};
+ghost use Rattle.stack_verify.specs.Contexts.{AddsHyp, AddsSymbols, IsKnown, SamePairs, SameVariables, is_pair, joins};
 
 use crate::formula::behind_typecode;
 use indexmap::IndexSet;
@@ -22,14 +20,30 @@ pub(crate) struct Known {
     pairs: IndexSet<(u32, u32)>,
 }
 
-/// Puts in the symbols that are not there.
+fn add_symbol(set: &mut NumberSet, symbol: Sym) -> Result<(), Memory>
+    ensures { OnOk result (AddsSymbols set.old set.new (symbol ∷ [])) }
+{
+    if !set.contains(symbol.0) {
+        set.insert(symbol.0)?;
+    }
+    Ok(())
+}
+
 fn add_symbols(set: &mut NumberSet, symbols: &[Sym]) -> Result<(), Memory>
-    ensures { OnOk result ((n : ℕ) → list_any (nat_eq n) set.new ≡ (list_any (nat_eq n) set.old || list_any (λ (v : Sym). v.0 == n) symbols.now)) }
+    ensures { OnOk result (AddsSymbols set.old set.new symbols.now) }
 {
     for symbol in symbols {
-        if !set.contains(symbol.0) {
-            set.insert(symbol.0)?;
-        }
+        add_symbol(set, *symbol)?;
+    }
+    Ok(())
+}
+
+/// Puts in the variable of a `$f`.
+fn add_hyp(set: &mut NumberSet, hyp: &Hyp) -> Result<(), Memory>
+    ensures { OnOk result (AddsHyp set.old set.new hyp.now) }
+{
+    if hyp.floating {
+        return add_symbols(set, behind_typecode(hyp.formula.as_slice()));
     }
     Ok(())
 }
@@ -40,9 +54,7 @@ fn variables_of(alloc: Global, hyps: &[Hyp]) -> Result<NumberSet, Memory>
 {
     let mut set = NumberSet::new(alloc);
     for hyp in hyps {
-        if hyp.floating {
-            add_symbols(&mut set, behind_typecode(hyp.formula.as_slice()))?;
-        }
+        add_hyp(&mut set, hyp)?;
     }
     Ok(set)
 }
@@ -58,7 +70,7 @@ fn pairs_of(alloc: Global, pairs: &[Pair]) -> Result<IndexSet<(u32, u32)>, Memor
 }
 
 fn has_pair(pairs: &IndexSet<(u32, u32)>, v: u32, w: u32) -> bool
-    ensures { result ≡ list_any (λ (p : ℕ × ℕ). p.0 == v && p.1 == w) pairs.now.keys }
+    ensures { result ≡ list_any (is_pair v w) pairs.now.keys }
 {
     pairs.contains(&(v, w))
 }
@@ -82,7 +94,7 @@ impl Known {
 
     /// Whether the two are an active pair, in either order.
     pub(crate) fn is_active_pair(&self, v: Sym, w: Sym) -> bool
-        ensures { result ≡ list_any (joins (v, w)) self.now.pairs.keys }
+        ensures { result ≡ joins self.now.pairs.keys (v, w) }
     {
         has_pair(&self.pairs, v.0, w.0) || has_pair(&self.pairs, w.0, v.0)
     }
