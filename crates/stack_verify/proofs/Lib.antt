@@ -1,4 +1,6 @@
 pub mod Entering
 pub mod Knowing
+pub mod Leasts
 pub mod Parts
+pub mod Rules
 pub mod Substitutes

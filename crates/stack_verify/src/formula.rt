@@ -57,14 +57,14 @@ fn is_float_of(symbol: Sym, hyp: &Hyp) -> bool
     hyp.floating && has_symbol(behind_typecode(hyp.formula.as_slice()), symbol)
 }
 
-fn find_float(hyps: &[Hyp], symbol: Sym) -> Option<usize>
+pub(crate) fn find_float(hyps: &[Hyp], symbol: Sym) -> Option<usize>
     ensures { result ≡ position (is_float_of symbol) hyps.now }
 {
     hyps.iter().position(|hyp| is_float_of(symbol, hyp))
 }
 
 /// Puts what a symbol stands for behind the list.
-pub(crate) fn push_substitute(
+fn push_substitute(
     out: &mut Vec<Sym>,
     hyps: &[Hyp],
     symbols: &[Sym],

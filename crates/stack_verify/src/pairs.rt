@@ -1,6 +1,6 @@
 //! The pairs of distinct variables of an assertion, looked at in the substitutes of their variables.
 
-ghost use Rattle.std.specs.Prelude.{◌≡◌, ◌≤◌, ◌∷◌, ◌++◌, [], not, length, filter, map, flat_map, drop, IfOk, IfErr, OnOk, All, None};
+ghost use Rattle.std.specs.Prelude.{◌≡◌, ◌++◌, length, filter, map, IfOk, IfErr, OnOk, All, None};
 ghost use Rattle.proof_model.specs.Machine.{is_less, lesser, least, substitute, shared_fault, distinct_fault};
 ghost use Rattle.stack_verify.specs.Stacks.{IsWithin, entries_of};
 ghost use Rattle.stack_verify.specs.Contexts.{IsKnown};
@@ -8,7 +8,7 @@ ghost use Rattle.stack_verify.specs.Steps.{FailsAs};
 ghost use Rattle.stack_verify.specs.Pairs.{fails, products, variables_in, least_onto, first_failing};
 
 use crate::fault::StepFault;
-use crate::formula::{Span, push_substitute};
+use crate::formula::{Span, behind_typecode, find_float, formula_in};
 use crate::known::Known;
 use mm_base::{Memory, Pair, Sym};
 use mm_model::Hyp;
@@ -74,6 +74,18 @@ fn fails(known: &Known, rule: Rule, v: Sym, w: Sym) -> bool
     }
 }
 
+/// Puts the variables of a formula behind the list, in order.
+fn push_variables(out: &mut Vec<Sym>, known: &Known, formula: &[Sym]) -> Result<(), Memory>
+    ensures { OnOk result (out.new.items ≡ out.old.items ++ variables_in known.now formula.now) }
+{
+    for symbol in formula {
+        if known.is_variable(*symbol) {
+            out.push(*symbol)?;
+        }
+    }
+    Ok(())
+}
+
 /// The variables of what a symbol stands for, in order.
 fn put_variables(
     out: &mut Vec<Sym>,
@@ -88,8 +100,12 @@ fn put_variables(
     ensures { OnOk result (out.new.items ≡ variables_in known.now (substitute (entries_of hyps.now symbols.now spans.now) symbol)) }
 {
     out.clear();
-    push_substitute(out, hyps, symbols, spans, symbol)?;
-    out.retain(|s| known.is_variable(*s));
+    match find_float(hyps, symbol) {
+        None => push_variables(out, known, &[symbol])?,
+        Some(place) => {
+            push_variables(out, known, behind_typecode(formula_in(symbols, spans[place])))?;
+        }
+    }
     Ok(())
 }
 
@@ -104,9 +120,12 @@ fn least_with(
     ensures { result ≡ least_onto (filter (fails known.now rule) (map (λ w. (v, w)) others.now)) later }
 {
     let mut best = later;
-    for w in others.iter().rev() {
-        if fails(known, rule, v, *w) {
-            best = Some(lesser((v, *w), best));
+    let mut left = others.len();
+    while left > 0 {
+        left -= 1;
+        let w = others[left];
+        if fails(known, rule, v, w) {
+            best = Some(lesser((v, w), best));
         }
     }
     best
@@ -117,8 +136,10 @@ fn least_failing(known: &Known, rule: Rule, firsts: &[Sym], seconds: &[Sym]) -> 
     ensures { result ≡ least (filter (fails known.now rule) (products firsts.now seconds.now)) }
 {
     let mut best = None;
-    for v in firsts.iter().rev() {
-        best = least_with(known, rule, *v, seconds, best);
+    let mut left = firsts.len();
+    while left > 0 {
+        left -= 1;
+        best = least_with(known, rule, firsts[left], seconds, best);
     }
     best
 }
