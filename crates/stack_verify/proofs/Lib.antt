@@ -1,3 +1,4 @@
+pub mod Applying
 pub mod Entering
 pub mod Knowing
 pub mod Leasts

@@ -1,5 +1,6 @@
 -- Pairs of variables by what is known of the theorem, and by the definitions.
-use Rattle.std.proofs.Common.{◌≡◌, ℕ, Bool, true, false, not, ◌||◌, ◌&&◌, eqb, List, [], ◌∷◌, Option, Some, None, option_map, refl, sym, ap, ◌∙◌, arith, fun_ext}
+use Rattle.std.proofs.Common.{◌≡◌, ℕ, Bool, true, false, not, ◌||◌, ◌&&◌, eqb, List, [], ◌∷◌, Option, Some, None, option_map, refl, sym, ap, ◌∙◌, arith}
+use mathlib.Core.Path.{fun_ext}
 use Rattle.std.specs.Prelude.{filter, nat_eq}
 use Rattle.std.specs.List.{list_any}
 use Rattle.std.proofs.lemmas.Bool.Decides.{nat_tests}
@@ -79,3 +80,17 @@ pub distinct_is : (thm : Theorem) (known : Known) (entries : List Entry) (pairs 
 distinct_is thm known entries pairs k =
     ap (option_map (λ (f : Pair × (Sym × Sym)). not_distinct f.1.0 f.1.1))
     (sym (same_first thm known rule.Distinct (λ (vw : Sym × Sym). not (is_active_pair thm vw)) entries pairs k (λ (vw : Sym × Sym). ap (λ (t : Bool). not t) (joined thm known.pairs.keys vw k.pairs))))
+
+pub none_shared : (thm : Theorem) (known : Known) (entries : List Entry) (pairs : List Pair) (o : Option (Pair × (Sym × Sym))) → IsKnown thm known → o ≡ first_failing known rule.Shared entries pairs → o ≡ None → shared_fault thm entries pairs ≡ None
+none_shared thm known entries pairs o k e n = shared_is thm known entries pairs k ∙ ap (option_map (λ (f : Pair × (Sym × Sym)). shared f.0.a f.0.b f.1.0)) (sym e ∙ n)
+
+pub some_shared : (thm : Theorem) (known : Known) (entries : List Entry) (pairs : List Pair) (o : Option (Pair × (Sym × Sym))) (f : Pair × (Sym × Sym)) → IsKnown thm known → o ≡ first_failing known rule.Shared entries pairs → o ≡ Some f
+    → shared_fault thm entries pairs ≡ Some (shared f.0.a f.0.b f.1.0)
+some_shared thm known entries pairs o f k e n = shared_is thm known entries pairs k ∙ ap (option_map (λ (f : Pair × (Sym × Sym)). shared f.0.a f.0.b f.1.0)) (sym e ∙ n)
+
+pub all_distinct : (thm : Theorem) (known : Known) (entries : List Entry) (pairs : List Pair) (o : Option (Pair × (Sym × Sym))) → IsKnown thm known → o ≡ first_failing known rule.Distinct entries pairs → o ≡ None → distinct_fault thm entries pairs ≡ None
+all_distinct thm known entries pairs o k e n = distinct_is thm known entries pairs k ∙ ap (option_map (λ (f : Pair × (Sym × Sym)). not_distinct f.1.0 f.1.1)) (sym e ∙ n)
+
+pub some_not_distinct : (thm : Theorem) (known : Known) (entries : List Entry) (pairs : List Pair) (o : Option (Pair × (Sym × Sym))) (f : Pair × (Sym × Sym)) → IsKnown thm known → o ≡ first_failing known rule.Distinct entries pairs → o ≡ Some f
+    → distinct_fault thm entries pairs ≡ Some (not_distinct f.1.0 f.1.1)
+some_not_distinct thm known entries pairs o f k e n = distinct_is thm known entries pairs k ∙ ap (option_map (λ (f : Pair × (Sym × Sym)). not_distinct f.1.0 f.1.1)) (sym e ∙ n)
