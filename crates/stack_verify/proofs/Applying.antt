@@ -5,6 +5,7 @@ use Rattle.std.specs.List.{zip}
 use Rattle.std.proofs.lemmas.Bool.{lt-ltb, le-ltb}
 use Rattle.mm_base.specs.declared.symbols.Sym.{Sym}
 use Rattle.mm_model.specs.declared.frames.Frame.{Frame}
+use Rattle.mm_model.specs.declared.frames.Hyp.{Hyp}
 use Rattle.proof_model.specs.declared.theorem.Theorem.{Theorem}
 use Rattle.proof_model.specs.Machine.{Entry, Formula, MachineFault, State, underflow, and_then, unless, push, entries_fault, substituted, applied, apply_frame}
 use Rattle.stack_verify.specs.declared.formula.Span.{Span}
@@ -54,3 +55,27 @@ fails thm frame xs es ks b (step.Shared x y v) e h = faulty thm frame xs es ks b
 fails thm frame xs es ks b (step.NotDistinct v w) e h = faulty thm frame xs es ks b _ e h
 fails thm frame xs es ks b step.NotEarlier e h = faulty thm frame xs es ks b _ e h
 fails thm frame xs es ks b step.Unknown e h = faulty thm frame xs es ks b _ e h
+
+-- ---- the same, as the code names the parts
+
+pub fails_at : (thm : Theorem) (frame : Frame) (xs ys : List Sym) (es fs ks spans : List Span) (b : ℕ) (fault : StepFault) → ys ≡ xs → fs ≡ es → spans ≡ drop b fs → b + length frame.hyps ≡ length es
+    → FailsAs fault (entries_fault thm frame (entries_of frame.hyps ys spans)) → FailsWith fault (apply_frame thm frame (state_of xs es ks))
+fails_at thm frame xs ys es fs ks spans b fault ex ef eb e h =
+    let top : spans ≡ drop b es = eb ∙ ap (drop b) ef in
+    fails thm frame xs es ks b fault e (
+      subst (λ (zs : List Sym). FailsAs fault (entries_fault thm frame (entries_of frame.hyps zs (drop b es)))) ex (subst (λ (l : List Span). FailsAs fault (entries_fault thm frame (entries_of frame.hyps ys l))) top h))
+
+pub fits_at : (thm : Theorem) (frame : Frame) (xs ys : List Sym) (es fs ks ls spans : List Span) (hs : List Hyp) (b : ℕ) (new : State) (f g cleared formula : List Sym)
+    → ys ≡ xs → fs ≡ es → spans ≡ drop b fs → b + length frame.hyps ≡ length es → hs ≡ frame.hyps → formula ≡ frame.formula → cleared ≡ []
+    → f ≡ g → g ≡ cleared ++ substituted (entries_of hs ys spans) formula → ls ≡ take b es → new ≡ push f (state_of xs ls ks)
+    → entries_fault thm frame (entries_of frame.hyps ys spans) ≡ None → apply_frame thm frame (state_of xs es ks) ≡ Ok new
+fits_at thm frame xs ys es fs ks ls spans hs b new f g cleared formula ex ef eb e eh ek ec fg eg el en none =
+    let top : spans ≡ drop b es = eb ∙ ap (drop b) ef in
+    let result : Formula = substituted (entries_of frame.hyps xs (drop b es)) frame.formula in
+    let fine : entries_fault thm frame (entries_of frame.hyps xs (drop b es)) ≡ None =
+      subst (λ (zs : List Sym). entries_fault thm frame (entries_of frame.hyps zs (drop b es)) ≡ None) ex (subst (λ (l : List Span). entries_fault thm frame (entries_of frame.hyps ys l) ≡ None) top none) in
+    let is : f ≡ result =
+      fg ∙ eg ∙ ap (λ (c : List Sym). c ++ substituted (entries_of hs ys spans) formula) ec ∙ ap (λ (h : List Hyp). substituted (entries_of h ys spans) formula) eh
+      ∙ ap (λ (z : List Sym). substituted (entries_of frame.hyps z spans) formula) ex ∙ ap (λ (l : List Span). substituted (entries_of frame.hyps xs l) formula) top
+      ∙ ap (substituted (entries_of frame.hyps xs (drop b es))) ek in
+    fits thm frame xs es ks b e fine ∙ sym (ap (λ (s : State). Ok s) (en ∙ ap (λ (x : Formula). push x (state_of xs ls ks)) is ∙ ap (λ (l : List Span). push result (state_of xs l ks)) el))

@@ -1,6 +1,6 @@
 //! The stack: its entries and the kept formulas are parts of one list of symbols that only grows.
 
-ghost use Rattle.std.specs.Prelude.{◌≡◌, ℕ, suc, length, OnOk, IfErr, Ok, slice_get};
+ghost use Rattle.std.specs.Prelude.{◌≡◌, ◌≤◌, drop, length, OnOk, IfErr, Ok, slice_get};
 ghost use Rattle.proof_model.specs.Machine.{start, push, apply_frame, use_kept, keep_top};
 ghost use Rattle.stack_verify.specs.Contexts.{IsKnown};
 ghost use Rattle.stack_verify.specs.Stacked.{IsSound, only, state};
@@ -30,6 +30,13 @@ fn span_at(spans: &[Span], number: u32) -> Option<Span>
     ensures { result ≡ slice_get spans.now number }
 {
     spans.get(number as usize).copied()
+}
+
+fn behind(spans: &[Span], place: usize) -> &[Span]
+    requires { place ≤ length spans.now }
+    ensures { result.now ≡ drop place spans.now }
+{
+    &spans[place..]
 }
 
 impl Stack {
@@ -124,7 +131,7 @@ impl Stack {
         }
         let below = count - hyps.len();
         let symbols = self.symbols.as_slice();
-        let spans = &self.entries.as_slice()[below..];
+        let spans = behind(self.entries.as_slice(), below);
         check_entries(buffers, theorem, known, frame, symbols, spans)?;
         buffers.formula.clear();
         push_substituted(&mut buffers.formula, hyps, symbols, spans, frame.formula.as_slice())?;
