@@ -1,10 +1,10 @@
 //! The run of a proof whose labels have been looked up.
 
-ghost use Rattle.std.specs.Prelude.{◌≡◌, ◌<◌, ◌^◌, length, OnOk, IfErr, Ok, None, slice_index_or};
-ghost use Rattle.proof_model.specs.Machine.{start, end_fault, ended_fault};
+ghost use Rattle.std.specs.Prelude.{◌≡◌, ◌≤◌, ◌<◌, ◌+◌, ◌^◌, length, vec_len, OnOk, IfErr, Ok, None, slice_index_or};
+ghost use Rattle.proof_model.specs.Machine.{end_fault, ended_fault};
 ghost use Rattle.stack_verify.specs.Contexts.{IsKnown};
 ghost use Rattle.stack_verify.specs.Faults.{IsFault};
-ghost use Rattle.stack_verify.specs.Founds.{use_found, use_found_what, use_found_step, run_found, found_fault};
+ghost use Rattle.stack_verify.specs.Founds.{use_found, use_found_step, run_found, found_fault};
 ghost use Rattle.stack_verify.specs.Stacked.{IsSound, state};
 ghost use Rattle.stack_verify.specs.Steps.{FailsWith, RunFails};
 
@@ -40,6 +40,7 @@ fn use_found(
     requires sound { IsSound stack.old }
     ensures sound { OnOk result (IsSound stack.new) }
     ensures used { OnOk result (use_found theorem.now found.entry (state stack.old) ≡ Ok (state stack.new)) }
+    ensures grown { OnOk result (vec_len stack.new.entries ≤ vec_len stack.old.entries + 1) }
     ensures fault { IfErr result (λ e. FailsWith e (use_found theorem.now found.entry (state stack.old))) }
 {
     match found {
@@ -79,6 +80,7 @@ fn use_step(
     requires sound { IsSound stack.old }
     ensures sound { OnOk result (IsSound stack.new) }
     ensures used { OnOk result (use_found_step theorem.now mandatory.now labels.now step (state stack.old) ≡ Ok (state stack.new)) }
+    ensures grown { OnOk result (vec_len stack.new.entries ≤ vec_len stack.old.entries + 1) }
     ensures fault { IfErr result (λ e. FailsWith e (use_found_step theorem.now mandatory.now labels.now step (state stack.old))) }
 {
     match step.what {
@@ -105,6 +107,7 @@ fn run_steps(
     requires sound { IsSound stack.old }
     requires few { length steps.now < 2 ^ 32 }
     ensures sound { OnOk result (IsSound stack.new) }
+    ensures grown { OnOk result (vec_len stack.new.entries ≤ vec_len stack.old.entries + length steps.now) }
     ensures run { OnOk result (run_found theorem.now mandatory.now labels.now 0 steps.now (state stack.old) ≡ Ok (state stack.new)) }
     ensures fault { IfErr result (λ e. RunFails e (run_found theorem.now mandatory.now labels.now 0 steps.now (state stack.old))) }
 {
@@ -120,7 +123,7 @@ fn run_steps(
 /// Looks at the stack at the end, behind so many steps.
 fn check_end(stack: &Stack, theorem: &Theorem, steps: u32) -> Result<(), ProofFault>
     requires sound { IsSound stack.now }
-    requires few { length (state stack.now).stack < 2 ^ 32 }
+    requires few { vec_len stack.now.entries < 2 ^ 32 }
     ensures fine { OnOk result (end_fault theorem.now (state stack.now).stack ≡ None) }
     ensures fault { IfErr result (λ e. IsFault e (ended_fault theorem.now steps (Ok (state stack.now)))) }
 {

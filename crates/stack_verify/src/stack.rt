@@ -1,6 +1,6 @@
 //! The stack: its entries and the kept formulas are parts of one list of symbols that only grows.
 
-ghost use Rattle.std.specs.Prelude.{◌≡◌, ◌≤◌, drop, length, OnOk, IfErr, Ok, slice_get};
+ghost use Rattle.std.specs.Prelude.{◌≡◌, ◌≤◌, ◌+◌, drop, length, vec_len, OnOk, IfErr, Ok, slice_get};
 ghost use Rattle.proof_model.specs.Machine.{start, push, apply_frame, use_kept, keep_top};
 ghost use Rattle.stack_verify.specs.Contexts.{IsKnown};
 ghost use Rattle.stack_verify.specs.Stacked.{IsSound, only, state};
@@ -21,7 +21,7 @@ use std::alloc::Global;
 pub(crate) struct Stack {
     symbols: Vec<Sym>,
     /// The entries, the oldest first.
-    entries: Vec<Span>,
+    pub(crate) entries: Vec<Span>,
     /// What the marked steps left, in order of marking.
     kept: Vec<Span>,
 }
@@ -43,6 +43,7 @@ impl Stack {
     pub(crate) fn new(alloc: Global) -> Stack
         ensures sound { IsSound result }
         ensures empty { state result ≡ start }
+        ensures count { vec_len result.entries ≡ 0 }
     {
         Stack {
             symbols: Vec::new(alloc),
@@ -52,7 +53,8 @@ impl Stack {
     }
 
     pub(crate) fn len(&self) -> usize
-        ensures { result ≡ length (state self.now).stack }
+        ensures stack { result ≡ length (state self.now).stack }
+        ensures count { result ≡ vec_len self.now.entries }
     {
         self.entries.len()
     }
@@ -61,6 +63,7 @@ impl Stack {
         requires { IsSound self.old }
         ensures sound { OnOk result (IsSound self.new) }
         ensures pushed { OnOk result (state self.new ≡ push formula.now (state self.old)) }
+        ensures grown { OnOk result (vec_len self.new.entries ≤ vec_len self.old.entries + 1) }
     {
         let from = self.symbols.len();
         self.symbols.extend_from_slice(formula)?;
@@ -74,6 +77,7 @@ impl Stack {
         requires { IsSound self.old }
         ensures sound { OnOk result (IsSound self.new) }
         ensures pushed { OnOk result (use_kept (slice_get (state self.old).kept number) (state self.old) ≡ Ok (state self.new)) }
+        ensures grown { OnOk result (vec_len self.new.entries ≤ vec_len self.old.entries + 1) }
         ensures fault { IfErr result (λ e. FailsWith e (use_kept (slice_get (state self.old).kept number) (state self.old))) }
     {
         match span_at(self.kept.as_slice(), number) {
@@ -90,6 +94,7 @@ impl Stack {
         requires { IsSound self.old }
         ensures sound { OnOk result (IsSound self.new) }
         ensures kept { OnOk result (state self.new ≡ keep_top marked (state self.old)) }
+        ensures same { OnOk result (vec_len self.new.entries ≡ vec_len self.old.entries) }
     {
         if marked {
             if let Some(span) = self.entries.as_slice().last().copied() {
@@ -122,6 +127,7 @@ impl Stack {
         requires sound { IsSound self.old }
         ensures sound { OnOk result (IsSound self.new) }
         ensures applied { OnOk result (apply_frame theorem.now frame.now (state self.old) ≡ Ok (state self.new)) }
+        ensures grown { OnOk result (vec_len self.new.entries ≤ vec_len self.old.entries + 1) }
         ensures fault { IfErr result (λ e. FailsWith e (apply_frame theorem.now frame.now (state self.old))) }
     {
         let hyps = frame.hyps.as_slice();
