@@ -1,7 +1,9 @@
 pub mod Applying
 pub mod Entering
+pub mod FoundLaw
 pub mod Knowing
 pub mod Leasts
+pub mod Lookup
 pub mod Parts
 pub mod Rules
 pub mod Substitutes

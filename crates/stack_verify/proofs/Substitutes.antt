@@ -20,7 +20,7 @@ pub cond_else : {X : Type 0} (b : Bool) (x y : X) → b ≡ false → cond b x y
 cond_else true x y e = absurd cc
 cond_else false x y e = refl
 
-position-cons : {X : Type 0} (p : X → Bool) (x : X) (xs : List X) → position p (x ∷ xs) ≡ cond (p x) (Some 0) (option_map (λ n. suc n) (position p xs))
+pub position-cons : {X : Type 0} (p : X → Bool) (x : X) (xs : List X) → position p (x ∷ xs) ≡ cond (p x) (Some 0) (option_map (λ n. suc n) (position p xs))
 position-cons p x xs =
     let one : 1 + position_or_len p xs ≡ suc (position_or_len p xs) = omega arith in
     elim (cases_Bool (p x)) [
@@ -67,7 +67,7 @@ stands_for_itself hyps symbols spans s e n =
     the_entry hyps symbols spans s no_hyp (record { from = 0; to = 0 }) e
     ∙ ap (λ (o : Option ℕ). option_map_or (λ (e : Entry). drop 1 e.1) (option_map (both hyps (formulas_in symbols spans) no_hyp (formula_in symbols (record { from = 0; to = 0 }))) o) (s ∷ [])) n
 
-position_within : {H : Type 0} (p : H → Bool) (hs : List H) (k : ℕ) → position p hs ≡ Some k → k < length hs
+pub position_within : {H : Type 0} (p : H → Bool) (hs : List H) (k : ℕ) → position p hs ≡ Some k → k < length hs
 position_within p hs k e =
     let n = position_or_len p hs in
     elim (cases_Bool (ltb n (length hs))) [

@@ -5,6 +5,7 @@
 mod entries;
 mod fault;
 mod formula;
+mod found;
 mod known;
 mod pairs;
 mod run;
