@@ -5,5 +5,8 @@ pub mod Knowing
 pub mod Leasts
 pub mod Lookup
 pub mod Parts
+pub mod ProofWords
+pub mod Reading
 pub mod Rules
 pub mod Substitutes
+pub mod WordsBehind

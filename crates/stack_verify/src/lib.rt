@@ -10,6 +10,8 @@ mod known;
 mod pairs;
 mod run;
 mod stack;
+mod theorem;
+mod words;
 
 pub use fault::ProofFault;
 pub use proof_model::Theorem;
