@@ -9,12 +9,13 @@ use Rattle.mm_model.specs.declared.frames.Frame.{Frame}
 use Rattle.proof_model.specs.declared.code.What.{What}
 use Rattle.proof_model.specs.declared.code.What.TheVariants as what
 use Rattle.proof_model.specs.declared.code.Step.{Step}
+use Rattle.proof_model.specs.declared.code.Code.{Code}
 use Rattle.proof_model.specs.declared.theorem.Theorem.{Theorem}
 use Rattle.proof_model.specs.ProofCode.{AreInRange, IsInRange}
-use Rattle.proof_model.specs.Machine.{Frames, MachineFault, State, and_then, apply_frame, keep_top, not_earlier, numbered, push, run_steps, use_frame, use_hyp, use_label, use_step, use_what}
+use Rattle.proof_model.specs.Machine.{Frames, MachineFault, State, and_then, apply_frame, ended_fault, keep_top, not_earlier, numbered, proof_fault, push, run_steps, start, use_frame, use_hyp, use_label, use_step, use_what}
 use Rattle.stack_verify.specs.declared.run.Found.{Found}
 use Rattle.stack_verify.specs.declared.run.Found.TheVariants as found
-use Rattle.stack_verify.specs.Founds.{run_found, use_found, use_found_step, use_found_what, use_hyp_at}
+use Rattle.stack_verify.specs.Founds.{found_fault, run_found, use_found, use_found_step, use_found_what, use_hyp_at}
 use Rattle.stack_verify.specs.Lookups.{AreFound, IsFound, place_of}
 use Rattle.stack_verify.proofs.Substitutes.{cond_then, cond_else, position-cons, position_within}
 
@@ -99,3 +100,11 @@ run_same frames thm mandatory table labels n marks (s ∷ ss) st m t r =
     ap (λ (o : Result State MachineFault). and_then (run_found thm mandatory table (suc n) ss) (numbered n o)) one
     ∙ same_and_then (run_found thm mandatory table (suc n) ss) (run_steps frames thm labels (suc n) ss) (numbered n (use_step frames thm labels s st))
     (λ (x : State). run_same frames thm mandatory table labels (suc n) (cond s.marked (suc marks) marks) ss x m t r.1)
+
+pub fault_same : (frames : Frames) (thm : Theorem) (code : Code) (ms ls : List (List ℕ)) (mandatory table us vs : List Found) (steps : List Step) → ms ≡ thm.mandatory → ls ≡ code.labels → us ≡ mandatory → vs ≡ table → steps ≡ code.steps
+    → AreFound frames thm ms mandatory → AreFound frames thm ls table → AreInRange (length thm.mandatory) (length code.labels) 0 code.steps → found_fault thm us vs steps ≡ proof_fault frames thm code
+fault_same frames thm code ms ls mandatory table us vs steps em el eu ev es m t r =
+    let m' : AreFound frames thm thm.mandatory mandatory = subst (λ (x : List (List ℕ)). AreFound frames thm x mandatory) em m in
+    let t' : AreFound frames thm code.labels table = subst (λ (x : List (List ℕ)). AreFound frames thm x table) el t in
+    ap (λ (x : List Found). found_fault thm x vs steps) eu ∙ ap (λ (x : List Found). found_fault thm mandatory x steps) ev ∙ ap (found_fault thm mandatory table) es
+    ∙ ap (ended_fault thm (length code.steps)) (run_same frames thm mandatory table code.labels 0 0 code.steps start m' t' r)

@@ -11,6 +11,7 @@ mod pairs;
 mod run;
 mod stack;
 mod theorem;
+mod verify;
 mod words;
 
 pub use fault::ProofFault;
