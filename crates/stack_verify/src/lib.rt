@@ -1,7 +1,8 @@
-//! The stack machine that decides whether a proof proves its theorem (Metamath book, section 4.1.4).
+//! The stack machine that decides whether a proof proves its theorem (Metamath book, section 4.1.4), and the theorems and
+//! proofs of a database.
 #![tactic(auto)]
-#![allow(dead_code)]
 
+mod accepting;
 mod entries;
 mod fault;
 mod formula;
@@ -10,9 +11,10 @@ mod known;
 mod pairs;
 mod run;
 mod stack;
-mod theorem;
-mod verify;
+mod theorems;
 mod words;
 
+pub use accepting::verify;
 pub use fault::ProofFault;
 pub use proof_model::Theorem;
+pub use theorems::theorem_of;

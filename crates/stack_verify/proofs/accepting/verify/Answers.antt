@@ -5,7 +5,7 @@ use Rattle.proof_model.specs.DatabaseProofs.{frames_of_database}
 use Rattle.proof_model.specs.Machine.{MachineFault}
 use Rattle.stack_verify.specs.Faults.{IsFault}
 use Rattle.stack_verify.proofs.FoundLaw.{fault_same}
-use Rattle.stack_verify.proofs.verify.verify.Goals as goal
+use Rattle.stack_verify.proofs.accepting.verify.Goals as goal
 
 pub returns-clause-accepted : goal.returns-clause-accepted
 returns-clause-accepted c = λ text read.
