@@ -25,16 +25,12 @@ refusal_status : (database : List ℕ) (answer : Answer) → IsDatabaseRefusal d
 unfolding IsDatabaseRefusal
 refusal_status database answer is =
     elim (database_fault database)
-    as (λ v. MatchOption v (answer ≡ (refusal Database (codes "database error 90 NotBuilt at byte 0"))) (λ fault. answer ≡ refusal Database (database_line fault)) → answer.status ≡ Database)
-    [ None ↦ λ is. ap (λ (a : Answer). a.status) is | Some fault ↦ λ is. ap (λ (a : Answer). a.status) is ] is
+    as (λ v. IsSomeAnd v (λ fault. answer ≡ refusal Database (database_line fault)) → answer.status ≡ Database)
+    [ None ↦ λ is. absurd is | Some fault ↦ λ is. ap (λ (a : Answer). a.status) is ] is
 
 pub refused_by : (database : List ℕ) (answer : Answer) (f : Fault) → Some f ≡ database_fault database → answer ≡ refusal Database (database_line f) → IsDatabaseRefusal database answer
 unfolding IsDatabaseRefusal
-refused_by database answer f is says = subst (λ (v : Option Fault). MatchOption v (answer ≡ (refusal Database (codes "database error 90 NotBuilt at byte 0"))) (λ fault. answer ≡ refusal Database (database_line fault))) is says
-
-pub refused_yet : (database : List ℕ) (answer : Answer) → None ≡ database_fault database → answer ≡ (refusal Database (codes "database error 90 NotBuilt at byte 0")) → IsDatabaseRefusal database answer
-unfolding IsDatabaseRefusal
-refused_yet database answer is says = subst (λ (v : Option Fault). MatchOption v (answer ≡ (refusal Database (codes "database error 90 NotBuilt at byte 0"))) (λ fault. answer ≡ refusal Database (database_line fault))) is says
+refused_by database answer f is says = subst (λ (v : Option Fault). IsSomeAnd v (λ fault. answer ≡ refusal Database (database_line fault))) is says
 
 pub accepted_by : (database : List ℕ) → None ≡ database_fault database → IsAccepted database
 unfolding IsAccepted

@@ -3,6 +3,6 @@ pub mod Command
 pub mod DatabaseFaults
 pub mod Due
 pub mod Found
-pub mod Opened
+pub mod Judged
 pub mod Shown
 pub mod Unify

@@ -1,5 +1,5 @@
 -- What the texts of a database and of a sheet give. Of a written sheet nothing is said here yet but its status and the end of its report.
-use Rattle.std.specs.Prelude.{◌≡◌, ◌⊎◌, ℕ, Bool, List, ◌++◌, codes, if◌then◌else◌, None, MatchOption}
+use Rattle.std.specs.Prelude.{◌≡◌, ◌⊎◌, ℕ, Bool, List, ◌++◌, codes, if◌then◌else◌, None, IsSomeAnd}
 use Rattle.mm_model.specs.Statements.{database_fault}
 use Rattle.written_model.specs.FaultLines.{database_line}
 use Rattle.mm_base.specs.declared.status.Status.{Status}
@@ -8,11 +8,9 @@ use Rattle.mmp.specs.declared.answer.Answer.{Answer}
 use Rattle.mmp.specs.Answer.{line, refusal}
 use Rattle.written_model.specs.CommandWords.{Command}
 
--- the refusal of a database of at most 2^28 bytes: the line on its first fault; where it has none, that it is not handled yet
+-- the refusal of a database of at most 2^28 bytes: it has a fault, and the answer is the line on the first
 unfoldable pub IsDatabaseRefusal : List ℕ → Answer → Type 0
-IsDatabaseRefusal database answer =
-    MatchOption (database_fault database) (answer ≡ refusal Database (codes "database error 90 NotBuilt at byte 0"))
-    (λ fault. answer ≡ refusal Database (database_line fault))
+IsDatabaseRefusal database answer = IsSomeAnd (database_fault database) (λ fault. answer ≡ refusal Database (database_line fault))
 
 -- the database has no fault
 unfoldable pub IsAccepted : List ℕ → Type 0

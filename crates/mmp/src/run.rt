@@ -9,9 +9,8 @@ use crate::answer::{Answer, refuse};
 use crate::command::{Command, read_words};
 use crate::deliver::deliver;
 use crate::files::{Found, read_file};
-use crate::unify::{Opened, answer_sheet, open, usual_kinds};
+use crate::unify::{answer_sheet, judge_database};
 use mm_base::{MOST_DATABASE_BYTES, MOST_SHEET_BYTES, Memory, Sink, Status, Store};
-use sheet_unify::Options;
 use std::alloc::Global;
 
 // The answer that names a file which failed to be read.
@@ -44,11 +43,10 @@ pub fn answer_command<S: Store>(
         }
         Found::Fault => return refuse_read(alloc, command.database),
     };
-    let kinds = usual_kinds(alloc)?;
-    let database = match open(alloc, database.as_slice(), &kinds)? {
-        Opened::Database(database) => database,
-        Opened::Refused(answer) => return Ok(answer),
-    };
+    match judge_database(alloc, database.as_slice())? {
+        Some(answer) => return Ok(answer),
+        None => {}
+    }
     let sheet = match read_file(alloc, store, command.sheet, MOST_SHEET_BYTES)? {
         Found::Text(text) => text,
         Found::TooBig => {
@@ -56,13 +54,7 @@ pub fn answer_command<S: Store>(
         }
         Found::Fault => return refuse_read(alloc, command.sheet),
     };
-    let style = command.style;
-    answer_sheet(
-        alloc,
-        &database,
-        sheet.as_slice(),
-        &Options { style, kinds },
-    )
+    answer_sheet(alloc, database.as_slice(), sheet.as_slice(), command.style)
 }
 
 /// The answer to the words. It writes nothing.

@@ -163,23 +163,10 @@ struct Unread {
     line: &'static str,
 }
 
-// With a fault, or with something that is not built.
-const UNREAD: [Unread; 24] = [
-    Unread {
-        database: DEMO0,
-        line: "database error 90 NotBuilt at byte 0\n",
-    },
-    Unread {
-        database: "$c wff $. $( text $)",
-        line: "database error 90 NotBuilt at byte 0\n",
-    },
+const UNREAD: [Unread; 17] = [
     Unread {
         database: "$c wff $. $v x $. ${ $d x x $. $}",
         line: "database error 25 DistinctTwice at byte 26\n",
-    },
-    Unread {
-        database: "$c |- $. t $p |- $= $.",
-        line: "database error 90 NotBuilt at byte 0\n",
     },
     Unread {
         database: "$c wff $. $c wff $.",
@@ -206,10 +193,6 @@ const UNREAD: [Unread; 24] = [
         line: "database error 23 BlockUnopened at byte 10\n",
     },
     Unread {
-        database: "$c wff $. ${ $v x $. $}",
-        line: "database error 90 NotBuilt at byte 0\n",
-    },
-    Unread {
         database: "$c wff $. $v x $. wx $f wff x x $.",
         line: "database error 27 BadHypothesis at byte 30\n",
     },
@@ -226,10 +209,6 @@ const UNREAD: [Unread; 24] = [
         line: "database error 13 NotActive at byte 21\n",
     },
     Unread {
-        database: "$c wff a $. e $a wff a $. f $a wff a a $.",
-        line: "database error 90 NotBuilt at byte 0\n",
-    },
-    Unread {
         database: "$c wff a b $. e $a wff a $. e $a wff b $.",
         line: "database error 17 LabelTaken at byte 28\n",
     },
@@ -240,14 +219,6 @@ const UNREAD: [Unread; 24] = [
     Unread {
         database: "$c wff a $. $a wff a $.",
         line: "database error 18 LabelMissing at byte 12\n",
-    },
-    Unread {
-        database: "$c wff a $. $v x $. wx $f wff x $. e $a wff x $.",
-        line: "database error 90 NotBuilt at byte 0\n",
-    },
-    Unread {
-        database: "$c wff a $. $v x $. wx $f wff x $. e $a wff a x x $.",
-        line: "database error 90 NotBuilt at byte 0\n",
     },
     Unread {
         database: "$( a",
@@ -262,6 +233,19 @@ const UNREAD: [Unread; 24] = [
         line: "database error 11 ConstInBlock at byte 11\n",
     },
 ];
+
+// Databases without a fault that have something which is not built.
+const UNBUILT: [&str; 7] = [
+    DEMO0,
+    "$c wff $. $( text $)",
+    "$c |- $. t $p |- $= $.",
+    "$c wff $. ${ $v x $. $}",
+    "$c wff a $. e $a wff a $. f $a wff a a $.",
+    "$c wff a $. $v x $. wx $f wff x $. e $a wff x $.",
+    "$c wff a $. $v x $. wx $f wff x $. e $a wff a x x $.",
+];
+
+const NO_SHEET: &str = "sheet error 91 NotBuilt at line 1\n";
 
 const USAGE: &str = "usage: mmp unify [--proof=normal|compressed] DB SHEET\n";
 
@@ -377,8 +361,7 @@ fn sheets_are_unified_or_refused(rt: HostRuntime) -> Result<(), Fail> {
         check_row(&rt, rt.alloc(), row)?;
     }
     let (sheet, _) = sheets_of(rt.alloc(), WRITTEN[0])?;
-    let no_sheet = "sheet error 91 NotBuilt at line 1\n";
-    let want = (Status::Sheet, b"".as_slice(), no_sheet);
+    let want = (Status::Sheet, b"".as_slice(), NO_SHEET);
     let compressed = ["unify", "P.mm", "r.mmp"];
     check(&rt, rt.alloc(), &compressed, honest(P, &sheet), want)?;
     for refused in REFUSED {
@@ -389,6 +372,9 @@ fn sheets_are_unified_or_refused(rt: HostRuntime) -> Result<(), Fail> {
             honest(P, refused.as_bytes()),
             want,
         )?;
+    }
+    for database in UNBUILT {
+        check(&rt, rt.alloc(), &NORMAL, honest(database, &sheet), want)?;
     }
     for unread in UNREAD {
         check_unread(&rt, rt.alloc(), unread, &sheet)?;
@@ -438,13 +424,17 @@ fn each_fault_of_the_outside_has_its_status(rt: HostRuntime) -> Result<(), Fail>
         out_room: 10,
         ..honest
     };
-    // the database is judged before the worksheet is read
+    // a database with a fault is refused before the worksheet is read, and one that is not built afterwards
     let refused = Outside {
-        database: DEMO0,
+        database: "$c $.",
         store_fails: &[2],
         ..honest
     };
-    let no_database = "database error 90 NotBuilt at byte 0\n";
+    let unbuilt = Outside {
+        database: DEMO0,
+        ..second_read
+    };
+    let no_database = "database error 26 EmptyFormula at byte 3\n";
     for (outside, want) in [
         (
             first_read,
@@ -453,6 +443,10 @@ fn each_fault_of_the_outside_has_its_status(rt: HostRuntime) -> Result<(), Fail>
         (refused, (Status::Database, b"".as_slice(), no_database)),
         (
             second_read,
+            (Status::Read, b"".as_slice(), "read fault r.mmp\n"),
+        ),
+        (
+            unbuilt,
             (Status::Read, b"".as_slice(), "read fault r.mmp\n"),
         ),
         (log, (Status::Write, finished.as_slice(), "")),

@@ -3,20 +3,20 @@ ghost use Rattle.std.specs.List.{flat_map};
 ghost use Rattle.mmp.specs.Answer.{line, refusal};
 ghost use Rattle.mmp.specs.DatabaseFaults.{told, IsNamed};
 ghost use Rattle.written_model.specs.FaultLines.{database_line};
-ghost use Rattle.mmp.specs.Unify.{IsSheetAnswer, IsTextStatus, IsWritten, end_line, end_status};
-ghost use Rattle.mmp.specs.Opened.{IsOpened};
-ghost use Rattle.mm_model.specs.Statements.{database_fault};
+ghost use Rattle.mmp.specs.Unify.{IsSheetAnswer, IsSheetRefusal, IsTextStatus, IsWritten, end_line, end_status};
+ghost use Rattle.mmp.specs.Judged.{IsJudged};
 
 use crate::answer::{Answer, refuse};
 use crate::database::{DatabaseFault, fault_line, find_fault};
 use mm_base::{Bytes, Kinds, List, Memory, Status};
 use sheet_unify::{
-    Database, OpenFault, Options, Outcome, UnifyFault, open_database, report_lines, unify_sheet,
+    Database, OpenFault, Options, Outcome, ProofStyle, UnifyFault, open_database, report_lines,
+    unify_sheet,
 };
 use std::alloc::Global;
 
-/// The typecodes that have a meaning: `|-` and `wff`.
-pub fn usual_kinds(alloc: Global) -> Result<Kinds, Memory>
+// The typecodes that have a meaning: `|-` and `wff`.
+fn usual_kinds(alloc: Global) -> Result<Kinds, Memory>
     ensures { IfOk result (λ kinds. kinds ≡ record { provable = codes "|-"; logic = codes "wff" }) }
 {
     Ok(Kinds {
@@ -87,61 +87,53 @@ fn refuse_database(alloc: Global, fault: DatabaseFault) -> Result<Answer, Memory
     refuse(alloc, Status::Database, line.as_str())
 }
 
-/// A database that was opened, or the answer that refuses it.
-#[derive(Drop)]
-pub enum Opened {
-    Database(Database),
-    Refused(Answer),
-}
-
-/// Opens the text of a database of at most 2^28 bytes, or refuses it by its first fault.
-pub fn open(alloc: Global, text: &[u8], kinds: &Kinds) -> Result<Opened, Memory>
+/// The answer that refuses the text of a database of at most 2^28 bytes, where it has a fault.
+pub fn judge_database(alloc: Global, text: &[u8]) -> Result<Option<Answer>, Memory>
     requires { length text.now ≤ 2 ^ 28 }
-    ensures { IfOk result (IsOpened text.now) }
+    ensures { IfOk result (IsJudged text.now) }
 {
     match find_fault(alloc, text)? {
         Some(fault) => {
             let answer = refuse_database(alloc, fault)?;
-            Ok(Opened::Refused(answer))
+            Ok(Some(answer))
         }
-        None => open_faultless(alloc, text, kinds),
+        None => Ok(None),
     }
 }
 
-// Opens the text of a database without a fault, where it is handled.
-fn open_faultless(alloc: Global, text: &[u8], kinds: &Kinds) -> Result<Opened, Memory>
-    requires { database_fault text.now ≡ None }
-    ensures { IfOk result (IsOpened text.now) }
-{
+// The database of a text without a fault, unless it is not handled yet.
+fn open_faultless(alloc: Global, text: &[u8], kinds: &Kinds) -> Result<Option<Database>, Memory> {
     match open_database(alloc, text, kinds) {
-        Ok(database) => Ok(Opened::Database(database)),
-        Err(OpenFault::NotBuilt) => {
-            let answer = refuse(
-                alloc,
-                Status::Database,
-                "database error 90 NotBuilt at byte 0",
-            )?;
-            Ok(Opened::Refused(answer))
-        }
+        Ok(database) => Ok(Some(database)),
+        Err(OpenFault::NotBuilt) => Ok(None),
         Err(OpenFault::Memory) => Err(Memory),
     }
 }
 
-/// Unifies the text of a sheet with a database.
+// The refusal of what is not handled yet.
+fn refuse_unbuilt(alloc: Global) -> Result<Answer, Memory>
+    ensures { IfOk result IsSheetRefusal }
+{
+    refuse(alloc, Status::Sheet, "sheet error 91 NotBuilt at line 1")
+}
+
+/// Unifies the text of a sheet over that of a database without a fault.
 pub fn answer_sheet(
     alloc: Global,
-    database: &Database,
-    text: &[u8],
-    options: &Options,
+    database: &[u8],
+    sheet: &[u8],
+    style: ProofStyle,
 ) -> Result<Answer, Memory>
     ensures answer { IfOk result IsSheetAnswer }
     ensures status { IfOk result (λ answer. IsTextStatus answer.status) }
 {
-    match unify_sheet(alloc, database, text, options) {
+    let kinds = usual_kinds(alloc)?;
+    let Some(database) = open_faultless(alloc, database, &kinds)? else {
+        return refuse_unbuilt(alloc);
+    };
+    match unify_sheet(alloc, &database, sheet, &Options { style, kinds }) {
         Ok(outcome) => answer_outcome(alloc, outcome),
-        Err(UnifyFault::NotBuilt) => {
-            refuse(alloc, Status::Sheet, "sheet error 91 NotBuilt at line 1")
-        }
+        Err(UnifyFault::NotBuilt) => refuse_unbuilt(alloc),
         Err(UnifyFault::Memory) => Err(Memory),
     }
 }
