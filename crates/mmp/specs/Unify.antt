@@ -3,12 +3,12 @@ use Rattle.std.specs.Prelude.{◌≡◌, ◌⊎◌, ℕ, Bool, List, ◌++◌, c
 use Rattle.mm_model.specs.Statements.{database_fault}
 use Rattle.written_model.specs.FaultLines.{database_line}
 use Rattle.mm_base.specs.declared.status.Status.{Status}
-use Rattle.mm_base.specs.declared.status.Status.TheVariants.{Finished, Unfinished, Database, Sheet}
+use Rattle.mm_base.specs.declared.status.Status.TheVariants.{Finished, Unfinished, Database, Sheet, Words, Read, Write, Memory}
 use Rattle.mmp.specs.declared.answer.Answer.{Answer}
 use Rattle.mmp.specs.Answer.{line, refusal}
-use Rattle.written_model.specs.CommandWords.{Command}
+use Rattle.written_model.specs.CommandWords.{UnifyCommand}
 
--- the refusal of a database of at most 2^28 bytes: it has a fault, and the answer is the line on the first
+-- the refusal of a database: it has a fault, and the answer is the line on the first
 unfoldable pub IsDatabaseRefusal : List ℕ → Answer → Type 0
 IsDatabaseRefusal database answer = IsSomeAnd (database_fault database) (λ fault. answer ≡ refusal Database (database_line fault))
 
@@ -38,9 +38,13 @@ abbrev pub IsSheetAnswer : Answer → Type 0
 IsSheetAnswer answer = IsSheetRefusal answer ⊎ IsWritten answer
 
 -- the answer to a sheet over a database that is not refused
-unfoldable pub IsUnified : Command → List ℕ → List ℕ → Answer → Type 0
+unfoldable pub IsUnified : UnifyCommand → List ℕ → List ℕ → Answer → Type 0
 IsUnified command database sheet answer = IsSheetAnswer answer
 
--- the statuses of the answers to a database and to a sheet
+-- the statuses of the answers to a database, to a sheet and to a proof
 abbrev pub IsTextStatus : Status → Type 0
-IsTextStatus status = (status ≡ Finished) ⊎ ((status ≡ Unfinished) ⊎ ((status ≡ Database) ⊎ (status ≡ Sheet)))
+IsTextStatus Words = ⊥
+IsTextStatus Read = ⊥
+IsTextStatus Write = ⊥
+IsTextStatus Memory = ⊥
+IsTextStatus status = Unit {0}

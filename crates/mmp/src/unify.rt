@@ -1,13 +1,9 @@
-ghost use Rattle.std.specs.Prelude.{◌≡◌, ◌≤◌, ◌^◌, ◌++◌, codes, length, None, IfOk};
+ghost use Rattle.std.specs.Prelude.{◌≡◌, ◌++◌, codes, IfOk};
 ghost use Rattle.std.specs.List.{flat_map};
-ghost use Rattle.mmp.specs.Answer.{line, refusal};
-ghost use Rattle.mmp.specs.DatabaseFaults.{told, IsNamed};
-ghost use Rattle.written_model.specs.FaultLines.{database_line};
+ghost use Rattle.mmp.specs.Answer.{line};
 ghost use Rattle.mmp.specs.Unify.{IsSheetAnswer, IsSheetRefusal, IsTextStatus, IsWritten, end_line, end_status};
-ghost use Rattle.mmp.specs.Judged.{IsJudged};
 
 use crate::answer::{Answer, refuse};
-use crate::database::{DatabaseFault, fault_line, find_fault};
 use mm_base::{Bytes, Kinds, List, Memory, Status};
 use sheet_unify::{
     Database, OpenFault, Options, Outcome, ProofStyle, UnifyFault, open_database, report_lines,
@@ -76,29 +72,6 @@ fn answer_outcome(alloc: Global, outcome: Outcome) -> Result<Answer, Memory>
         out: outcome.text,
         log: List::from_vec(log),
     })
-}
-
-// The answer that tells a fault of a database.
-fn refuse_database(alloc: Global, fault: DatabaseFault) -> Result<Answer, Memory>
-    requires { IsNamed fault }
-    ensures { IfOk result (λ answer. answer ≡ refusal Status.Database (database_line (told fault))) }
-{
-    let line = fault_line(alloc, fault)?;
-    refuse(alloc, Status::Database, line.as_str())
-}
-
-/// The answer that refuses the text of a database of at most 2^28 bytes, where it has a fault.
-pub fn judge_database(alloc: Global, text: &[u8]) -> Result<Option<Answer>, Memory>
-    requires { length text.now ≤ 2 ^ 28 }
-    ensures { IfOk result (IsJudged text.now) }
-{
-    match find_fault(alloc, text)? {
-        Some(fault) => {
-            let answer = refuse_database(alloc, fault)?;
-            Ok(Some(answer))
-        }
-        None => Ok(None),
-    }
 }
 
 // The database of a text without a fault, unless it is not handled yet.
