@@ -1,0 +1,11 @@
+//! The text of a worksheet: the one flat layout in which worksheets are written.
+#![tactic(auto)]
+
+mod length;
+mod text;
+
+pub use length::layout_len;
+pub use text::layout;
+
+#[cfg(test)]
+mod tests;
