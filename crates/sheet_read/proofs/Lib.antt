@@ -1,0 +1,17 @@
+pub mod Basics
+pub mod Codes
+pub mod Copies
+pub mod Headers
+pub mod KindFacts
+pub mod Law
+pub mod Mapped
+pub mod Order
+pub mod Sets
+pub mod Splits
+pub mod StatementTokens
+pub mod StepCodes
+pub mod TextLines
+pub mod TokenSteps
+pub mod Trims
+pub mod Walks
+pub mod WholeLaw

@@ -1,0 +1,14 @@
+use Rattle.std.proofs.Common.{◌∙◌, sym, ℕ, List}
+use Rattle.std.specs.Str.{bytes_eq}
+use Rattle.sheet_read.proofs.Mapped.{first-position, number-none, number-some, entry-unknown, entry-known, entry-given}
+use Rattle.sheet_read.proofs.statements.given_of.Goals as goal
+
+pub returns-in-None-clause-none : goal.returns-in-None-clause-none
+returns-in-None-clause-none c = λ more.
+    entry-unknown c.args.names.now c.args.entry.now more (sym c.is_gap.ensures ∙ c.if-is_gap.false) (number-none (bytes_eq c.args.entry.now) c.args.names.now (first-position (bytes_eq c.args.entry.now) c.args.names.now ∙ sym c.in-None.ensures))
+
+pub returns-in-Some-clause-known : goal.returns-in-Some-clause-known
+returns-in-Some-clause-known c = λ more. entry-known c.args.names.now c.args.entry.now more (sym c.is_gap.ensures ∙ c.if-is_gap.false) (number-some (bytes_eq c.args.entry.now) c.args.names.now c.in-Some.number (first-position (bytes_eq c.args.entry.now) c.args.names.now ∙ sym c.in-Some.ensures))
+
+pub returns-in-Some-clause-given : goal.returns-in-Some-clause-given
+returns-in-Some-clause-given c = entry-given c.args.names.now c.args.entry.now c.in-Some.number (sym c.is_gap.ensures ∙ c.if-is_gap.false) (first-position (bytes_eq c.args.entry.now) c.args.names.now ∙ sym c.in-Some.ensures)
