@@ -1,22 +1,27 @@
 -- What a call may answer, from what was found under the names of its files and what the texts gave.
 use Rattle.std.proofs.Common.{◌≡◌, ◌≢◌, ◌⊎◌, ◌≤◌, ◌<◌, ◌^◌, ℕ, List, length, nat_lt, Option, Some, None, Result, Ok, Err, IfSome, IsSomeAnd, IfOk, true, false, refl, sym, ◌∙◌, ap, subst, inl, inr, arith}
 use Rattle.std.proofs.lemmas.Bool.Decides.{nat_tests}
-use Rattle.mm_base.specs.Outside.{Files}
+use Rattle.mm_base.specs.Outside.{Files, Rose, NoneFell}
 use Rattle.mm_base.specs.declared.errors.Memory as memory
 use Rattle.mm_base.specs.declared.status.Status.{Status}
-use Rattle.mm_base.specs.declared.status.Status.TheVariants.{Database, Words, Read, Write, Memory}
+use Rattle.mm_base.specs.declared.status.Status.TheVariants.{Database, Sheet, Words, Read, Write, Memory}
 use Rattle.mmp.specs.declared.answer.Answer.{Answer}
 use Rattle.written_model.specs.CommandWords.{UnifyCommand, VerifyCommand, Command, unify, verify}
-use Rattle.mmp.specs.Command.{database_of}
-use Rattle.mmp.specs.Unify.{IsAccepted, IsDatabaseRefusal, IsUnified, IsSheetAnswer, IsTextStatus}
+use Rattle.mmp.specs.Command.{Reads, database_of}
+use Rattle.mmp.specs.Unify.{IsAccepted, IsDatabaseRefusal, IsReadable, IsSheetRefusal, IsSheetAnswer, IsTextStatus}
 use Rattle.mmp.specs.Due.{IsDueFor, IsDueOn, IsDueSheet, MayAnswer}
 use Rattle.mmp.specs.Verify.{answer_to, IsVerified}
 use Rattle.written_model.specs.Verified.{Verdict, no_theorem, accepted, bad_code, refused}
 use Rattle.mmp.specs.Opened.{Has, IsRefused, IsUnread, IsOpen}
+use Rattle.mmp.specs.OpenedSheet.{IsSheetRefused, IsOpenSheet}
+use Rattle.sheet_text.specs.declared.sheet.Sheet as sheets
+use Rattle.sheet_text.specs.Reads as reading
+use Rattle.sheet_text.specs.TextFaults.{text_fault, line_fault}
 use Rattle.mm_model.specs.Faults.{Fault, fault}
 use Rattle.mm_model.specs.Statements.{database_fault}
-use Rattle.written_model.specs.FaultLines.{database_line}
-use Rattle.mmp.specs.Answer.{refusal, too_long_sheet}
+use Rattle.written_model.specs.FaultLines.{database_line, refusal_line}
+use Rattle.written_model.specs.Written.{at_line}
+use Rattle.mmp.specs.Answer.{refusal, read_fault}
 
 longer : (n most : ℕ) → most < n → nat_lt most n ≡ true
 longer n most h = grind (arith, nat_tests)
@@ -92,21 +97,27 @@ may_refuse_text command None before now answer is = may_from_due command None be
 may_refuse_text command (Some files) before now answer is =
     may_from_due command (Some files) before now answer (subst IsTextStatus (sym is.status) tt) (due_refused command files answer _ refl is.due)
 
-may_refuse_file : (command : Command) (told : Option Files) (before now : List ℕ → ℕ) (answer : Answer) → IsUnread before now (database_of command) answer → MayAnswer command told before now answer
-may_refuse_file command told before now answer is =
-    let status : answer.status ≡ Read = ap (λ (a : Answer). a.status) is.says in
+-- a file that the command reads failed to be read
+may_not_read : (command : Command) (told : Option Files) (before now : List ℕ → ℕ) (name : List ℕ) (answer : Answer) → Reads command name → Rose (before name) (now name) → answer ≡ read_fault name
+    → MayAnswer command told before now answer
+may_not_read command told before now name answer named rose says =
+    let status : answer.status ≡ Read = ap (λ (a : Answer). a.status) says in
     record {
       due = λ not_read. absurd (not_read status);
-      read = λ _. record { name = database_of command; named = inl refl; rose = is.rose; says = is.says };
+      read = λ _. record { name = name; named = named; rose = rose; says = says };
       not_words = λ e. cc;
       not_write = λ e. cc;
       not_memory = λ e. cc;
     }
 
+-- a count that rose after one that did not fall
+rose_since : (before mid now : ℕ) → before ≤ mid → Rose mid now → Rose before now
+rose_since before mid now fell rose = omega arith
+
 -- the file of the database is refused
 pub may_refuse : (command : Command) (told : Option Files) (before now : List ℕ → ℕ) (answer : Answer) → IsRefused told (database_of command) answer ⊎ IsUnread before now (database_of command) answer → MayAnswer command told before now answer
 may_refuse command told before now answer (inl is) = may_refuse_text command told before now answer is
-may_refuse command told before now answer (inr is) = may_refuse_file command told before now answer is
+may_refuse command told before now answer (inr is) = may_not_read command told before now (database_of command) answer (inl refl) is.rose is.says
 
 due_on : (command : Command) (told : Option Files) (database : List ℕ) (answer : Answer) → IsOpen told (database_of command) database → IfSome told (λ files. IsDueOn command files database answer) → IfSome told (λ files. IsDueFor command files answer)
 due_on command None database answer opened due = tt
@@ -119,37 +130,75 @@ may_answer command told before now database answer opened is due = may_from_due 
 
 -- ---- sheets
 
-unified : (command : UnifyCommand) (database sheet : List ℕ) (answer : Answer) → IsSheetAnswer answer → IsUnified command database sheet answer
-unfolding IsUnified
-unified command database sheet answer is = is
+sheet_refused_by : (sheet : List ℕ) (answer : Answer) (f : Fault) → text_fault sheet ≡ Some f → answer ≡ refusal Sheet (refusal_line (at_line f)) → IsSheetRefusal sheet answer
+unfolding IsSheetRefusal
+sheet_refused_by sheet answer f is says = subst (λ (v : Option Fault). IsSomeAnd v (λ fault. answer ≡ refusal Sheet (refusal_line (at_line fault)))) (sym is) says
 
-due_sheet : (command : UnifyCommand) (told : Option Files) (database sheet : List ℕ) (answer : Answer) → length sheet ≤ 2 ^ 24 → Has told command.sheet sheet → IsSheetAnswer answer
-    → IfSome told (λ files. IsDueSheet command (files command.sheet) database answer)
-due_sheet command None database sheet answer short has is = tt
-due_sheet command (Some files) database sheet answer short has is = rw (has, not_longer (length sheet) (2 ^ 24) short) (unified command database sheet answer is)
+short_fault : (sheet : List ℕ) → length sheet ≤ 2 ^ 24 → text_fault sheet ≡ line_fault sheet
+short_fault sheet short = rw (not_longer (length sheet) (2 ^ 24) short) refl
 
-pub may_answer_sheet : (command : UnifyCommand) (told : Option Files) (before now : List ℕ → ℕ) (database sheet : List ℕ) (answer : Result Answer memory.Memory)
-    → IsOpen told command.database database → length sheet ≤ 2 ^ 24 → Has told command.sheet sheet
-    → IfOk answer IsSheetAnswer → IfOk answer (λ a. IsTextStatus a.status) → IfOk answer (MayAnswer (unify command) told before now)
-may_answer_sheet command told before now database sheet (Err e) opened short has is status = tt
-may_answer_sheet command told before now database sheet (Ok answer) opened short has is status =
-    may_answer (unify command) told before now database answer opened status (due_sheet command told database sheet answer short has is)
+long_fault : (sheet : List ℕ) → 2 ^ 24 < length sheet → text_fault sheet ≡ Some (fault 1 50)
+long_fault sheet long = rw (longer (length sheet) (2 ^ 24) long) refl
 
-due_long_sheet : (command : UnifyCommand) (database : List ℕ) (sheet : Option (List ℕ)) (answer : Answer) → IsSomeAnd sheet (λ bytes. 2 ^ 24 < length bytes) → answer ≡ too_long_sheet → IsDueSheet command sheet database answer
-due_long_sheet command database None answer long is = absurd long
-due_long_sheet command database (Some bytes) answer long is = rw (longer (length bytes) (2 ^ 24) long) is
+long_sheet : (answer : Answer) (file : Option (List ℕ)) → answer ≡ refusal Sheet (refusal_line (at_line (fault 1 50))) → IsSomeAnd file (λ text. 2 ^ 24 < length text) → IsSomeAnd file (λ text. IsSheetRefusal text answer)
+long_sheet answer None says long = absurd long
+long_sheet answer (Some text) says long = sheet_refused_by text answer (fault 1 50) (long_fault text long) says
 
-due_long : (command : UnifyCommand) (told : Option Files) (database : List ℕ) (answer : Answer) → IfSome told (λ files. IsSomeAnd (files command.sheet) (λ bytes. 2 ^ 24 < length bytes)) → answer ≡ too_long_sheet
-    → IfSome told (λ files. IsDueSheet command (files command.sheet) database answer)
-due_long command None database answer long is = tt
-due_long command (Some files) database answer long is = due_long_sheet command database (files command.sheet) answer long is
+-- a file of too many bytes
+pub sheet_refused_long : (told : Option Files) (name : List ℕ) (answer : Answer) → answer ≡ refusal Sheet (refusal_line (at_line (fault 1 50)))
+    → IfSome told (λ files. IsSomeAnd (files name) (λ text. 2 ^ 24 < length text)) → IsSheetRefused told name answer
+sheet_refused_long None name answer says long = record { status = ap (λ (a : Answer). a.status) says; due = tt }
+sheet_refused_long (Some files) name answer says long = record { status = ap (λ (a : Answer). a.status) says; due = long_sheet answer (files name) says long }
 
-pub may_refuse_long_sheet : (command : UnifyCommand) (told : Option Files) (before now : List ℕ → ℕ) (database : List ℕ) (answer : Result Answer memory.Memory)
-    → IsOpen told command.database database → IfSome told (λ files. IsSomeAnd (files command.sheet) (λ bytes. 2 ^ 24 < length bytes))
-    → IfOk answer (λ a. a ≡ too_long_sheet) → IfOk answer (MayAnswer (unify command) told before now)
-may_refuse_long_sheet command told before now database (Err e) opened long is = tt
-may_refuse_long_sheet command told before now database (Ok answer) opened long is =
-    may_answer (unify command) told before now database answer opened (subst (λ (a : Answer). IsTextStatus a.status) (sym is) tt) (due_long command told database answer long is)
+pub sheet_refused_text : (told : Option Files) (name text : List ℕ) (answer : Answer) (f : Fault) → length text ≤ 2 ^ 24 → Has told name text → line_fault text ≡ Some f
+    → answer ≡ refusal Sheet (refusal_line (at_line f)) → IsSheetRefused told name answer
+sheet_refused_text None name text answer f short has is says = record { status = ap (λ (a : Answer). a.status) says; due = tt }
+sheet_refused_text (Some files) name text answer f short has is says =
+    record { status = ap (λ (a : Answer). a.status) says; due = rw has (sheet_refused_by text answer f (short_fault text short ∙ is) says) }
+
+readable_by : (sheet : List ℕ) → text_fault sheet ≡ None → IsReadable sheet
+unfolding IsReadable
+readable_by sheet is = is
+
+pub opened_sheet : (told : Option Files) (name text : List ℕ) (sheet : sheets.Sheet) → length text ≤ 2 ^ 24 → Has told name text → reading.Reads text sheet → IsOpenSheet told name sheet
+opened_sheet told name text sheet short has reads = record { text = text; has = has; readable = readable_by text (short_fault text short ∙ reads.sound); reads = reads }
+
+may_refuse_sheet_text : (command : UnifyCommand) (told : Option Files) (before now : List ℕ → ℕ) (database : List ℕ) (answer : Answer)
+    → IsOpen told command.database database → IsSheetRefused told command.sheet answer → MayAnswer (unify command) told before now answer
+may_refuse_sheet_text command told before now database answer opened is =
+    may_answer (unify command) told before now database answer opened (subst IsTextStatus (sym is.status) tt) (due_refusal told is.due)
+  where
+    due_file : (file : Option (List ℕ)) → IsSomeAnd file (λ text. IsSheetRefusal text answer) → IsSomeAnd file (λ text. IsDueSheet command database text answer)
+    due_file None h = absurd h
+    due_file (Some text) h = inl h
+
+    due_refusal : (t : Option Files) → IfSome t (λ files. IsSomeAnd (files command.sheet) (λ text. IsSheetRefusal text answer)) → IfSome t (λ files. IsDueOn (unify command) files database answer)
+    due_refusal None h = tt
+    due_refusal (Some files) h = due_file (files command.sheet) h
+
+may_refuse_sheet_file : (command : UnifyCommand) (told : Option Files) (before now : List ℕ → ℕ) (answer : Answer) → IsUnread before now command.sheet answer → MayAnswer (unify command) told before now answer
+may_refuse_sheet_file command told before now answer is = may_not_read (unify command) told before now command.sheet answer (inr refl) is.rose is.says
+
+-- the file of the sheet is refused, behind a database without a fault
+pub may_refuse_sheet : (command : UnifyCommand) (told : Option Files) (before mid now : List ℕ → ℕ) (database : List ℕ) (answer : Answer)
+    → IsOpen told command.database database → NoneFell before mid → IsSheetRefused told command.sheet answer ⊎ IsUnread mid now command.sheet answer → MayAnswer (unify command) told before now answer
+may_refuse_sheet command told before mid now database answer opened fell (inl is) = may_refuse_sheet_text command told before now database answer opened is
+may_refuse_sheet command told before mid now database answer opened fell (inr is) =
+    may_refuse_sheet_file command told before now answer (record { rose = rose_since (before command.sheet) (mid command.sheet) (now command.sheet) (fell command.sheet) is.rose; says = is.says })
+
+due_sheet : (command : UnifyCommand) (told : Option Files) (database : List ℕ) (sheet : sheets.Sheet) (answer : Answer) → IsOpenSheet told command.sheet sheet → IsSheetAnswer sheet answer
+    → IfSome told (λ files. IsDueOn (unify command) files database answer)
+due_sheet command None database sheet answer opened is = tt
+due_sheet command (Some files) database sheet answer opened is =
+    let has : files command.sheet ≡ Some opened.text = opened.has in
+    rw has (inr (opened.readable, record { sheet = sheet; reads = opened.reads; says = is }))
+
+pub may_answer_sheet : (command : UnifyCommand) (told : Option Files) (before now : List ℕ → ℕ) (database : List ℕ) (sheet : sheets.Sheet) (answer : Result Answer memory.Memory)
+    → IsOpen told command.database database → IsOpenSheet told command.sheet sheet
+    → IfOk answer (IsSheetAnswer sheet) → IfOk answer (λ a. IsTextStatus a.status) → IfOk answer (MayAnswer (unify command) told before now)
+may_answer_sheet command told before now database sheet (Err e) opened read is status = tt
+may_answer_sheet command told before now database sheet (Ok answer) opened read is status =
+    may_answer (unify command) told before now database answer opened status (due_sheet command told database sheet answer read is)
 
 -- ---- theorems
 

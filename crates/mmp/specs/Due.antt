@@ -1,25 +1,23 @@
 -- The answer that is due for given words and files, and what may stand in its place.
-use Rattle.std.specs.Prelude.{◌≡◌, ◌≢◌, ◌⊎◌, ◌≤◌, ◌^◌, ℕ, List, length, take, nat_lt, Option, Some, None, MatchOption, MatchBool, IfSome, IsSomeAnd}
+use Rattle.std.specs.Prelude.{◌≡◌, ◌≢◌, ◌⊎◌, ◌≤◌, ℕ, List, length, take, Option, Some, None, MatchOption, IfSome, IsSomeAnd}
 use Rattle.std.specs.Io.KnownBytes.{Appends}
 use Rattle.mm_base.specs.Outside.{Files, Rose}
 use Rattle.mm_base.specs.declared.status.Status.{Status}
 use Rattle.mm_base.specs.declared.status.Status.TheVariants.{Words, Read, Write, Memory}
 use Rattle.mmp.specs.declared.answer.Answer.{Answer}
-use Rattle.mmp.specs.Answer.{usage, read_fault, too_long_sheet}
+use Rattle.mmp.specs.Answer.{usage, read_fault}
 use Rattle.written_model.specs.CommandWords.{UnifyCommand, Command, unify, verify, command_of}
 use Rattle.mmp.specs.Command.{Reads, database_of}
-use Rattle.mmp.specs.Unify.{IsAccepted, IsDatabaseRefusal, IsUnified}
+use Rattle.mmp.specs.Unify.{IsAccepted, IsDatabaseRefusal, IsReadable, IsSheetRefusal, IsUnified}
 use Rattle.mmp.specs.Verify.{IsVerified}
 
--- the answer to the file of the sheet over a database without a fault: too many bytes first
-abbrev pub IsDueSheet : UnifyCommand → Option (List ℕ) → List ℕ → Answer → Type 0
-IsDueSheet command None database answer = ⊥
-IsDueSheet command (Some sheet) database answer =
-    MatchBool (nat_lt (2 ^ 24) (length sheet)) (answer ≡ too_long_sheet) (IsUnified command database sheet answer)
+-- the answer to the text of the sheet over a database without a fault: a refusal, or what unifying it gives
+abbrev pub IsDueSheet : UnifyCommand → List ℕ → List ℕ → Answer → Type 0
+IsDueSheet command database sheet answer = IsSheetRefusal sheet answer ⊎ (IsReadable sheet × IsUnified command database sheet answer)
 
 -- what is due over a database without a fault; where a file that is looked at is missing, nothing is
 abbrev pub IsDueOn : Command → Files → List ℕ → Answer → Type 0
-IsDueOn (unify command) files database answer = IsDueSheet command (files command.sheet) database answer
+IsDueOn (unify command) files database answer = IsSomeAnd (files command.sheet) (λ sheet. IsDueSheet command database sheet answer)
 IsDueOn (verify command) files database answer = IsVerified command.theorem database answer
 
 -- the answer to the text of the database: a refusal, or what is due where it has no fault

@@ -5,6 +5,7 @@ pub mod Faults
 pub mod Found
 pub mod Judged
 pub mod Opened
+pub mod OpenedSheet
 pub mod Shown
 pub mod Unify
 pub mod Verify

@@ -2,9 +2,9 @@ ghost use Rattle.std.specs.Prelude.{◌≡◌, [], ◌∷◌, length, map, strin
 ghost use Rattle.std.specs.Option.{option_map};
 ghost use Rattle.written_model.specs.CommandWords.{command_of, is_name, style_of, unify_of};
 ghost use Rattle.mmp.specs.Command.{are_names, unify_with, verify_with};
-ghost use Rattle.mmp.specs.Shown.{shown, told_style};
+ghost use Rattle.mmp.specs.Shown.{shown};
 
-use sheet_unify::ProofStyle;
+use written_model::ProofStyle;
 
 /// What the words ask for.
 #[derive(Clone, Copy)]
@@ -28,7 +28,7 @@ fn is_name_word(word: &str) -> bool
 
 // The style that an option asks for.
 fn read_style(option: &str) -> Option<ProofStyle>
-    ensures { option_map told_style result ≡ style_of option.now }
+    ensures { result ≡ style_of option.now }
 {
     if option == "--proof=normal" {
         Some(ProofStyle::Normal)
@@ -100,7 +100,7 @@ fn read_with_option<'a>(option: &str, database: &'a str, sheet: &'a str) -> Opti
 
 // The command `unify`, where its words are names.
 fn read_unify<'a>(style: ProofStyle, database: &'a str, sheet: &'a str) -> Option<Command<'a>>
-    ensures { option_map shown result ≡ unify_with (are_names database.entry.now sheet.entry.now) database.entry.now sheet.entry.now (told_style style) }
+    ensures { option_map shown result ≡ unify_with (are_names database.entry.now sheet.entry.now) database.entry.now sheet.entry.now style }
 {
     if !is_name_word(database) || !is_name_word(sheet) {
         return None;

@@ -2,13 +2,13 @@
 
 ghost use Rattle.std.specs.Prelude.{◌≡◌, ◌≤◌, ◌^◌, length, IfOk};
 ghost use Rattle.mm_base.specs.Outside.{NoneFell};
-ghost use Rattle.mmp.specs.Answer.{read_fault, refusal};
+ghost use Rattle.mmp.specs.Answer.{refusal};
 ghost use Rattle.mmp.specs.Faults.{told, IsNamed};
 ghost use Rattle.mmp.specs.Judged.{IsJudged};
 ghost use Rattle.mmp.specs.Opened.{IsOpened};
 ghost use Rattle.written_model.specs.FaultLines.{database_faults, database_line};
 
-use crate::answer::{Answer, refuse};
+use crate::answer::{Answer, refuse, refuse_read};
 use crate::database::find_fault;
 use crate::fault::{NamedFault, database_line as line_of};
 use crate::files::{Found, read_file};
@@ -26,16 +26,6 @@ const TOO_BIG: NamedFault = NamedFault {
 pub enum Opened {
     Database(Bytes),
     Refused(Answer),
-}
-
-/// The answer that names a file which failed to be read.
-pub fn refuse_read(alloc: Global, name: &str) -> Result<Answer, Memory>
-    ensures { IfOk result (λ answer. answer ≡ read_fault name.now) }
-{
-    let Ok(text) = format!(in alloc; "read fault {name}") else {
-        return Err(Memory);
-    };
-    refuse(alloc, Status::Read, text.as_str())
 }
 
 // The answer that tells a fault of a database.

@@ -8,13 +8,13 @@ ghost use Rattle.mmp.specs.Shown.{shown, unify_command, verify_command};
 use crate::answer::{Answer, refuse};
 use crate::command::{Command, read_words};
 use crate::deliver::deliver;
-use crate::files::{Found, read_file};
-use crate::opening::{Opened, open, refuse_read};
+use crate::opening::{Opened, open};
+use crate::sheet::{OpenedSheet, open_sheet};
 use crate::unify::answer_sheet;
 use crate::verify::answer_theorem;
-use mm_base::{MOST_SHEET_BYTES, Memory, Sink, Status, Store};
-use sheet_unify::ProofStyle;
+use mm_base::{Memory, Sink, Status, Store};
 use std::alloc::Global;
+use written_model::ProofStyle;
 
 // Unifies the sheet of a file over the database of another, with a proof in that style.
 fn answer_unify<S: Store>(
@@ -31,14 +31,10 @@ fn answer_unify<S: Store>(
         Opened::Database(text) => text,
         Opened::Refused(answer) => return Ok(answer),
     };
-    let sheet = match read_file(alloc, store, sheet, MOST_SHEET_BYTES)? {
-        Found::Text(text) => text,
-        Found::TooBig => {
-            return refuse(alloc, Status::Sheet, "sheet error 50 TooBig at line 1");
-        }
-        Found::Fault => return refuse_read(alloc, sheet),
-    };
-    answer_sheet(alloc, database.as_slice(), sheet.as_slice(), style)
+    match open_sheet(alloc, store, sheet)? {
+        OpenedSheet::Sheet(sheet) => answer_sheet(alloc, database.as_slice(), &sheet, style),
+        OpenedSheet::Refused(answer) => Ok(answer),
+    }
 }
 
 // Checks the proof of a theorem of the database of a file.

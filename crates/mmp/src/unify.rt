@@ -1,15 +1,18 @@
 ghost use Rattle.std.specs.Prelude.{◌≡◌, ◌++◌, codes, IfOk};
 ghost use Rattle.std.specs.List.{flat_map};
 ghost use Rattle.mmp.specs.Answer.{line};
-ghost use Rattle.mmp.specs.Unify.{IsSheetAnswer, IsSheetRefusal, IsTextStatus, IsWritten, end_line, end_status};
+ghost use Rattle.sheet_text.specs.declared.sheet.Sheet.{Sheet};
+ghost use Rattle.sheet_unify.specs.LaidOut.{IsLaidOut};
+ghost use Rattle.mmp.specs.Unify.{IsSheetAnswer, IsTextStatus, IsUnbuilt, IsWritten, end_line, end_status};
 
 use crate::answer::{Answer, refuse};
 use mm_base::{Bytes, Kinds, List, Memory, Status};
+use sheet_text::Sheet;
 use sheet_unify::{
-    Database, OpenFault, Options, Outcome, ProofStyle, UnifyFault, open_database, report_lines,
-    unify_sheet,
+    Database, OpenFault, Outcome, UnifyFault, open_database, report_lines, unify_sheet,
 };
 use std::alloc::Global;
+use written_model::{DvMode, Options, ProofStyle};
 
 // The typecodes that have a meaning: `|-` and `wff`.
 fn usual_kinds(alloc: Global) -> Result<Kinds, Memory>
@@ -59,9 +62,7 @@ fn status_of(finished: bool) -> Status
 
 // The answer that writes an outcome.
 fn answer_outcome(alloc: Global, outcome: Outcome) -> Result<Answer, Memory>
-    ensures written { IfOk result IsWritten }
-    ensures text { IfOk result (λ answer. answer.out ≡ outcome.text) }
-    ensures end { IfOk result (λ answer. answer.status ≡ end_status outcome.finished) }
+    ensures written { IfOk result (λ answer. (sheet : Sheet) → IsLaidOut sheet outcome.text → IsWritten sheet answer) }
     ensures status { IfOk result (λ answer. IsTextStatus answer.status) }
 {
     let lines = report_lines(alloc, &outcome.report)?;
@@ -85,26 +86,31 @@ fn open_faultless(alloc: Global, text: &[u8], kinds: &Kinds) -> Result<Option<Da
 
 // The refusal of what is not handled yet.
 fn refuse_unbuilt(alloc: Global) -> Result<Answer, Memory>
-    ensures { IfOk result IsSheetRefusal }
+    ensures { IfOk result IsUnbuilt }
 {
     refuse(alloc, Status::Sheet, "sheet error 91 NotBuilt at line 1")
 }
 
-/// Unifies the text of a sheet over that of a database without a fault.
+/// Unifies a sheet over the text of a database without a fault.
 pub fn answer_sheet(
     alloc: Global,
     database: &[u8],
-    sheet: &[u8],
+    sheet: &Sheet,
     style: ProofStyle,
 ) -> Result<Answer, Memory>
-    ensures answer { IfOk result IsSheetAnswer }
+    ensures answer { IfOk result (IsSheetAnswer sheet.now) }
     ensures status { IfOk result (λ answer. IsTextStatus answer.status) }
 {
     let kinds = usual_kinds(alloc)?;
     let Some(database) = open_faultless(alloc, database, &kinds)? else {
         return refuse_unbuilt(alloc);
     };
-    match unify_sheet(alloc, &database, sheet, &Options { style, kinds }) {
+    let options = Options {
+        style,
+        kinds,
+        dv: DvMode::Add,
+    };
+    match unify_sheet(alloc, &database, sheet, &options) {
         Ok(outcome) => answer_outcome(alloc, outcome),
         Err(UnifyFault::NotBuilt) => refuse_unbuilt(alloc),
         Err(UnifyFault::Memory) => Err(Memory),

@@ -1,3 +1,6 @@
+ghost use Rattle.std.specs.Prelude.{IfOk};
+ghost use Rattle.sheet_unify.specs.LaidOut.{IsLaidOut};
+
 use crate::database::Database;
 use crate::faults::UnifyFault;
 use crate::judging::{Judgement, judge_all};
@@ -20,7 +23,8 @@ pub struct Outcome {
     pub finished: bool,
 }
 
-/// Unifies a worksheet for a theorem that the database does not have, and whose formulas are all given.
+/// Unifies a worksheet for a theorem that the database does not have, and whose formulas are all given. The worksheet is
+/// written with its comments and steps as they are, and with its proof where it is finished.
 ///
 /// # Errors
 /// `NotBuilt` where the worksheet has a fault or something that is not built yet, such as work variables, blank formulas,
@@ -31,7 +35,9 @@ pub fn unify_sheet(
     db: &Database,
     sheet: &Sheet,
     options: &Options,
-) -> Result<Outcome, UnifyFault> {
+) -> Result<Outcome, UnifyFault>
+    ensures { IfOk result (λ outcome. IsLaidOut sheet.now outcome.text) }
+{
     if !db.has_kinds(&options.kinds) {
         return Err(UnifyFault::NotBuilt);
     }
@@ -55,7 +61,9 @@ pub fn unify_sheet(
 }
 
 /// The worksheet as it is written.
-fn written_text(alloc: Global, sheet: &Sheet, proof: Option<&[u8]>) -> Result<Bytes, UnifyFault> {
+fn written_text(alloc: Global, sheet: &Sheet, proof: Option<&[u8]>) -> Result<Bytes, UnifyFault>
+    ensures { IfOk result (IsLaidOut sheet.now) }
+{
     if layout_len(sheet, proof) > MOST_SHEET_BYTES {
         return Err(UnifyFault::NotBuilt);
     }
