@@ -16,7 +16,10 @@ pub enum Command<'a> {
         sheet: &'a str,
     },
     /// To check the proof of a theorem of a database.
-    Verify { database: &'a str, theorem: &'a str },
+    Verify {
+        database: &'a str,
+        theorem: &'a str,
+    },
 }
 
 // A word that may name a file or a label.

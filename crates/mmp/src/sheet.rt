@@ -84,11 +84,7 @@ fn refuse_sheet(alloc: Global, fault: NamedFault) -> Result<Answer, Memory>
 }
 
 /// Reads a worksheet.
-pub fn open_sheet<S: Store>(
-    alloc: Global,
-    store: &mut S,
-    name: &str,
-) -> Result<OpenedSheet, Memory>
+pub fn open_sheet<S: Store>(alloc: Global, store: &mut S, name: &str) -> Result<OpenedSheet, Memory>
     ensures opened { IfOk result (IsOpenedSheet (S.told store.old) (S.read_faults store.old) (S.read_faults store.new) name.now) }
     ensures same_files { S.told store.new ≡ S.told store.old }
     ensures read_faults { NoneFell (S.read_faults store.old) (S.read_faults store.new) }
