@@ -10,8 +10,7 @@ use Rattle.written_model.specs.CommandWords.{UnifyCommand, VerifyCommand, Comman
 use Rattle.mmp.specs.Command.{Reads, database_of}
 use Rattle.mmp.specs.Unify.{IsAccepted, IsDatabaseRefusal, IsReadable, IsSheetRefusal, IsSheetAnswer, IsTextStatus}
 use Rattle.mmp.specs.Due.{IsDueFor, IsDueOn, IsDueSheet, MayAnswer}
-use Rattle.mmp.specs.Verify.{answer_to, IsVerified}
-use Rattle.written_model.specs.Verified.{Verdict, no_theorem, accepted, bad_code, refused}
+use Rattle.mmp.specs.Verify.{IsUnbuiltProof}
 use Rattle.mmp.specs.Opened.{Has, IsRefused, IsUnread, IsOpen}
 use Rattle.mmp.specs.OpenedSheet.{IsSheetRefused, IsOpenSheet}
 use Rattle.sheet_text.specs.declared.sheet.Sheet as sheets
@@ -202,19 +201,13 @@ may_answer_sheet command told before now database sheet (Ok answer) opened read 
 
 -- ---- theorems
 
-verdict_status : (theorem : List ℕ) (verdict : Verdict) → IsTextStatus (answer_to theorem verdict).status
-verdict_status theorem no_theorem = tt
-verdict_status theorem accepted = tt
-verdict_status theorem (bad_code f) = tt
-verdict_status theorem (refused f) = tt
-
-due_theorem : (command : VerifyCommand) (told : Option Files) (database : List ℕ) (answer : Answer) → IsVerified command.theorem database answer → IfSome told (λ files. IsDueOn (verify command) files database answer)
+due_theorem : (command : VerifyCommand) (told : Option Files) (database : List ℕ) (answer : Answer) → IsUnbuiltProof answer → IfSome told (λ files. IsDueOn (verify command) files database answer)
 due_theorem command None database answer is = tt
-due_theorem command (Some files) database answer is = is
+due_theorem command (Some files) database answer is = inl is
 
 pub may_answer_theorem : (command : VerifyCommand) (told : Option Files) (before now : List ℕ → ℕ) (database : List ℕ) (answer : Result Answer memory.Memory)
-    → IsOpen told command.database database → IfOk answer (IsVerified command.theorem database) → IfOk answer (MayAnswer (verify command) told before now)
+    → IsOpen told command.database database → IfOk answer IsUnbuiltProof → IfOk answer (MayAnswer (verify command) told before now)
 may_answer_theorem command told before now database (Err e) opened is = tt
 may_answer_theorem command told before now database (Ok answer) opened is =
-    may_answer (verify command) told before now database answer opened (subst (λ (a : Answer). IsTextStatus a.status) (sym is.says) (verdict_status command.theorem is.verdict))
+    may_answer (verify command) told before now database answer opened (subst (λ (a : Answer). IsTextStatus a.status) (sym is) tt)
     (due_theorem command told database answer is)

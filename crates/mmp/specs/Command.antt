@@ -1,6 +1,5 @@
 -- What a command reads, and the words of a command by their number: what the program looks at.
-use Rattle.std.specs.Prelude.{◌≡◌, ◌⊎◌, ℕ, List, Bool, ◌&&◌, Option, None, Some, codes, if◌then◌else◌}
-use Rattle.std.specs.Str.{bytes_eq}
+use Rattle.std.specs.Prelude.{◌≡◌, ◌⊎◌, ℕ, List, Bool, ◌&&◌, Option, None, Some, if◌then◌else◌}
 use Rattle.written_model.specs.declared.options.ProofStyle.{ProofStyle}
 use Rattle.written_model.specs.CommandWords.{Command, unify, verify, is_name, options_with}
 

@@ -1,5 +1,5 @@
 -- What came of opening the file of a database.
-use Rattle.std.specs.Prelude.{◌≡◌, ◌⊎◌, ◌≤◌, ◌^◌, ℕ, List, length, Option, Some, IfSome, IsSomeAnd}
+use Rattle.std.specs.Prelude.{◌≡◌, ◌⊎◌, ℕ, List, Option, Some, IfSome, IsSomeAnd}
 use Rattle.mm_base.specs.Outside.{Files, Rose}
 use Rattle.mm_base.specs.declared.status.Status.TheVariants.{Database}
 use Rattle.mmp.specs.declared.answer.Answer.{Answer}

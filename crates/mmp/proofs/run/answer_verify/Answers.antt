@@ -7,4 +7,4 @@ returns-in-Refused-clause-answer g c = may_refuse _ _ _ _ c.in-Refused.answer (r
 pub returns-in-Database-clause-answer : goal.returns-in-Database-clause-answer
 returns-in-Database-clause-answer g c =
     let opened = rw c.in-Database.is at c.in_ok-text.ensures.opened in
-    may_answer_theorem _ _ _ _ c.in-Database.text c.answer_theorem.result opened (rw c.as_slice.ensures at c.answer_theorem.ensures)
+    may_answer_theorem _ _ _ _ c.in-Database.text c.answer_theorem.result opened c.answer_theorem.ensures
