@@ -75,6 +75,7 @@ ORDER = [
         ("Written", "what a worksheet becomes, its last faults, and the answer to it", "FORMAT, The written worksheet; Faults of a worksheet"),
         ("FaultLines", "the lines of faults", "FORMAT, Report and log lines"),
         ("CommandWords", "the words of the command line; until other options are built they reach pairs that are added, and the typecodes `|-` and `wff`, while the definitions take any options", "FORMAT, Command words"),
+        ("Verified", "what `verify` says of a label", "FORMAT, The proof code, The stack machine"),
         ("Headline", "what a call gives: the main theorem", "FORMAT, Statuses"),
         ("Opened", "the databases that laws speak of", ""),
         ("Again", "what a written worksheet becomes when it is unified again", ""),

@@ -6,7 +6,7 @@ use Rattle.mm_base.specs.declared.status.Status.TheVariants.{Finished, Unfinishe
 use Rattle.mmp.specs.declared.answer.Answer.{Answer}
 use Rattle.mmp.specs.Answer.{usage}
 use Rattle.written_model.specs.CommandWords.{Command, command_of}
-use Rattle.mmp.specs.Due.{IsDue, IsDueTexts, MayAnswer, MayAnswerWords, IsSettled, Gives, IsGiven, NoReadFault, SaysReadFault}
+use Rattle.mmp.specs.Due.{IsDue, IsDueFor, MayAnswer, MayAnswerWords, IsSettled, Gives, IsGiven, NoReadFault, SaysReadFault}
 
 -- every status is settled, or one of the three failures
 kinds : (status : Status) → IsSettled status ⊎ ((status ≡ Read) ⊎ ((status ≡ Write) ⊎ (status ≡ Memory)))
@@ -32,7 +32,7 @@ true_not_false e = cc
 is_due : (words : List (List ℕ)) (files : Files) (before now : List ℕ → ℕ) (answer : Answer) → MayAnswerWords words (Some files) before now answer → answer.status ≢ Read → IsDue words files answer
 is_due words files before now answer may not_read =
     elim (command_of words)
-    as (λ v. MatchOption v (answer ≡ usage) (λ command. MayAnswer command (Some files) before now answer) → MatchOption v (answer ≡ usage) (λ command. IsDueTexts command (files command.database) (files command.sheet) answer))
+    as (λ v. MatchOption v (answer ≡ usage) (λ command. MayAnswer command (Some files) before now answer) → MatchOption v (answer ≡ usage) (λ command. IsDueFor command files answer))
     [ None ↦ λ h. h | Some command ↦ λ h. h.due not_read ] may.by_words
 
 pub due_given : (words : List (List ℕ)) (told : Option Files) (before now : List ℕ → ℕ) (answer : Answer) (status : Status) (oo on lo ln : Option (List ℕ)) → MayAnswerWords words told before now answer → Gives answer status oo on lo ln → IsSettled status → IfSome told (λ files. IsGiven words files status oo on lo ln)
@@ -138,3 +138,13 @@ no_output_from words told before now answer may (inr e) =
     elim (command_of words)
     as (λ v. MatchOption v (answer ≡ usage) (λ command. MayAnswer command told before now answer) → answer.out ≡ [])
     [ None ↦ λ h. ap (λ (a : Answer). a.out) h | Some command ↦ λ h. ap (λ (a : Answer). a.out) (h.read e).says ] may.by_words
+
+-- no answer is one of a failed write
+pub may_not_write : (words : List (List ℕ)) (told : Option Files) (before now : List ℕ → ℕ) (answer : Answer) → MayAnswerWords words told before now answer → answer.status ≢ Write
+may_not_write words told before now answer may e =
+    elim (command_of words)
+    as (λ v. MatchOption v (answer ≡ usage) (λ command. MayAnswer command told before now answer) → ⊥)
+    [ None ↦ λ h. words_not_write (sym (ap (λ a. a.status) h) ∙ e) | Some command ↦ λ h. h.not_write e ] may.by_words
+
+pub always_both : (found : Option Command) (told : Option Files) (P : Command → Files → Type 0) → ((command : Command) (files : Files) → P command files) → IfSome found (λ command. IfSome told (λ files. P command files))
+always_both found told P each = for_both found told P (λ command files _ _. each command files)

@@ -2,7 +2,7 @@
 use Rattle.std.specs.Prelude.{ℕ, List, [], ◌∷◌, ◌++◌, codes}
 use Rattle.mm_base.specs.declared.status.Status.{Status}
 use Rattle.written_model.specs.CommandWords.{usage_line}
-use Rattle.mm_base.specs.declared.status.Status.TheVariants.{Words, Read, Database, Sheet}
+use Rattle.mm_base.specs.declared.status.Status.TheVariants.{Words, Read}
 use Rattle.mmp.specs.declared.answer.Answer.{Answer}
 
 -- a text, ended by a line feed
@@ -18,10 +18,3 @@ usage = refusal Words usage_line
 
 abbrev pub read_fault : List ℕ → Answer
 read_fault name = refusal Read (codes "read fault " ++ name)
-
--- a file of too many bytes
-abbrev pub too_long_database : Answer
-too_long_database = refusal Database (codes "database error 30 TooBig at byte 268435456")
-
-abbrev pub too_long_sheet : Answer
-too_long_sheet = refusal Sheet (codes "sheet error 50 TooBig at line 1")

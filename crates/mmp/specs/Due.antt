@@ -1,32 +1,36 @@
 -- The answer that is due for given words and files, and what may stand in its place.
-use Rattle.std.specs.Prelude.{◌≡◌, ◌≢◌, ◌⊎◌, ◌≤◌, ◌^◌, ℕ, List, length, take, nat_lt, Option, Some, None, MatchOption, MatchBool, IfSome}
+use Rattle.std.specs.Prelude.{◌≡◌, ◌≢◌, ◌⊎◌, ◌≤◌, ℕ, List, length, take, Option, MatchOption, IfSome, IsSomeAnd}
 use Rattle.std.specs.Io.KnownBytes.{Appends}
 use Rattle.mm_base.specs.Outside.{Files, Rose}
 use Rattle.mm_base.specs.declared.status.Status.{Status}
 use Rattle.mm_base.specs.declared.status.Status.TheVariants.{Words, Read, Write, Memory}
 use Rattle.mmp.specs.declared.answer.Answer.{Answer}
-use Rattle.mmp.specs.Answer.{usage, read_fault, too_long_database, too_long_sheet}
-use Rattle.written_model.specs.CommandWords.{Command, command_of}
-use Rattle.mmp.specs.Command.{Reads}
-use Rattle.mmp.specs.Unify.{IsAccepted, IsDatabaseRefusal, IsUnified}
+use Rattle.mmp.specs.Answer.{usage, read_fault}
+use Rattle.written_model.specs.CommandWords.{UnifyCommand, Command, unify, verify, command_of}
+use Rattle.mmp.specs.Command.{Reads, database_of}
+use Rattle.mmp.specs.Unify.{IsAccepted, IsDatabaseRefusal, IsReadable, IsSheetRefusal, IsUnified}
+use Rattle.mmp.specs.Verify.{IsUnbuiltProof, IsVerified}
 
--- the answer to the file of the sheet, where the database is not refused: too many bytes first
-abbrev pub IsDueSheet : Command → List ℕ → Option (List ℕ) → Answer → Type 0
-IsDueSheet command database None answer = ⊥
-IsDueSheet command database (Some sheet) answer =
-    MatchBool (nat_lt (2 ^ 24) (length sheet)) (answer ≡ too_long_sheet) (IsUnified command database sheet answer)
+-- the answer to the text of the sheet over a database without a fault: a refusal, or what unifying it gives
+abbrev pub IsDueSheet : UnifyCommand → List ℕ → List ℕ → Answer → Type 0
+IsDueSheet command database sheet answer = IsSheetRefusal sheet answer ⊎ (IsReadable sheet × IsUnified command database sheet answer)
 
--- the answer to the two files: too many bytes of the database first, then a refusal of it. There is none where a file that is looked at is missing.
-abbrev pub IsDueTexts : Command → Option (List ℕ) → Option (List ℕ) → Answer → Type 0
-IsDueTexts command None sheet answer = ⊥
-IsDueTexts command (Some database) sheet answer =
-    MatchBool (nat_lt (2 ^ 28) (length database)) (answer ≡ too_long_database)
-    (IsDatabaseRefusal database answer ⊎ (IsAccepted database × IsDueSheet command database sheet answer))
+-- what is due over a database without a fault; where a file that is looked at is missing, nothing is
+abbrev pub IsDueOn : Command → Files → List ℕ → Answer → Type 0
+IsDueOn (unify command) files database answer = IsSomeAnd (files command.sheet) (λ sheet. IsDueSheet command database sheet answer)
+IsDueOn (verify command) files database answer = IsUnbuiltProof answer ⊎ IsVerified command.theorem database answer
+
+-- the answer to the text of the database: a refusal, or what is due where it has no fault
+abbrev pub IsDueWith : Command → Files → List ℕ → Answer → Type 0
+IsDueWith command files database answer = IsDatabaseRefusal database answer ⊎ (IsAccepted database × IsDueOn command files database answer)
+
+-- the answer to a command over these files
+abbrev pub IsDueFor : Command → Files → Answer → Type 0
+IsDueFor command files answer = IsSomeAnd (files (database_of command)) (λ database. IsDueWith command files database answer)
 
 -- the answer to these words over these files
 abbrev pub IsDue : List (List ℕ) → Files → Answer → Type 0
-IsDue words files answer =
-    MatchOption (command_of words) (answer ≡ usage) (λ command. IsDueTexts command (files command.database) (files command.sheet) answer)
+IsDue words files answer = MatchOption (command_of words) (answer ≡ usage) (λ command. IsDueFor command files answer)
 
 -- the answer names a file that failed to be read
 pub record IsReadFault (command : Command) (before now : List ℕ → ℕ) (answer : Answer) : Type 0 where
@@ -37,7 +41,7 @@ pub record IsReadFault (command : Command) (before now : List ℕ → ℕ) (answ
 
 -- an answer that a call may give to this command, whatever the store tells
 pub record MayAnswer (command : Command) (told : Option Files) (before now : List ℕ → ℕ) (answer : Answer) : Type 0 where
-  pub due : answer.status ≢ Read → IfSome told (λ files. IsDueTexts command (files command.database) (files command.sheet) answer)
+  pub due : answer.status ≢ Read → IfSome told (λ files. IsDueFor command files answer)
   pub read : answer.status ≡ Read → IsReadFault command before now answer
   pub not_words : answer.status ≢ Words
   pub not_write : answer.status ≢ Write

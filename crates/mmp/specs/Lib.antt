@@ -1,8 +1,11 @@
 pub mod Answer
 pub mod Command
-pub mod DatabaseFaults
 pub mod Due
+pub mod Faults
 pub mod Found
+pub mod Judged
 pub mod Opened
+pub mod OpenedSheet
 pub mod Shown
 pub mod Unify
+pub mod Verify

@@ -1,10 +1,32 @@
--- What came of opening the text of a database.
-use Rattle.std.specs.Prelude.{ℕ, List}
-use Rattle.mmp.specs.declared.unify.Opened.{Opened}
-use Rattle.mmp.specs.declared.unify.Opened.TheVariants as opened
+-- What came of opening the file of a database.
+use Rattle.std.specs.Prelude.{◌≡◌, ◌⊎◌, ℕ, List, Option, Some, IfSome, IsSomeAnd}
+use Rattle.mm_base.specs.Outside.{Files, Rose}
+use Rattle.mm_base.specs.declared.status.Status.TheVariants.{Database}
+use Rattle.mmp.specs.declared.answer.Answer.{Answer}
+use Rattle.mmp.specs.declared.opening.Opened.{Opened}
+use Rattle.mmp.specs.declared.opening.Opened.TheVariants as opened
+use Rattle.mmp.specs.Answer.{read_fault}
 use Rattle.mmp.specs.Unify.{IsAccepted, IsDatabaseRefusal}
 
--- it is open only where the text is not refused, and the answer that refuses it is one of that text
-abbrev pub IsOpened : List ℕ → Opened → Type 0
-IsOpened text (opened.Database database) = IsAccepted text
-IsOpened text (opened.Refused answer) = IsDatabaseRefusal text answer
+-- what a store that tells its files has under a name
+abbrev pub Has : Option Files → List ℕ → List ℕ → Type 0
+Has told name text = IfSome told (λ files. files name ≡ Some text)
+
+-- the answer refuses the text under a name
+pub record IsRefused (told : Option Files) (name : List ℕ) (answer : Answer) : Type 0 where
+  pub status : answer.status ≡ Database
+  pub due : IfSome told (λ files. IsSomeAnd (files name) (λ text. IsDatabaseRefusal text answer))
+
+-- the answer names a file that failed to be read
+pub record IsUnread (before now : List ℕ → ℕ) (name : List ℕ) (answer : Answer) : Type 0 where
+  pub rose : Rose (before name) (now name)
+  pub says : answer ≡ read_fault name
+
+-- the text under a name is that of a database without a fault
+pub record IsOpen (told : Option Files) (name text : List ℕ) : Type 0 where
+  pub has : Has told name text
+  pub accepted : IsAccepted text
+
+abbrev pub IsOpened : Option Files → (List ℕ → ℕ) → (List ℕ → ℕ) → List ℕ → Opened → Type 0
+IsOpened told before now name (opened.Database text) = IsOpen told name text
+IsOpened told before now name (opened.Refused answer) = IsRefused told name answer ⊎ IsUnread before now name answer

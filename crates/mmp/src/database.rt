@@ -1,173 +1,164 @@
-//! The first fault of a database's text, and the line that tells it.
+//! The first fault of a database's text.
 
-ghost use Rattle.std.specs.Prelude.{◌≡◌, ◌≤◌, ◌^◌, Option, Some, length, string_bytes, IfOk, IfSome, option_map};
+ghost use Rattle.std.specs.Prelude.{◌≡◌, ◌≤◌, ◌^◌, Option, Some, length, IfOk, IfSome, option_map};
 ghost use Rattle.mm_model.specs.Faults.{Fault};
 ghost use Rattle.mm_model.specs.Statements.{database_fault};
 ghost use Rattle.mm_tokens.specs.Tokens.{IsFault as IsTokenFault};
 ghost use Rattle.mm_frames.specs.Faults.{IsFault as IsReadFault};
-ghost use Rattle.written_model.specs.FaultLines.{database_line};
-ghost use Rattle.mmp.specs.DatabaseFaults.{told, IsNamed};
+ghost use Rattle.written_model.specs.FaultLines.{database_faults};
+ghost use Rattle.mmp.specs.Faults.{told, IsNamed};
 
-use itoa::Buffer;
+use crate::fault::NamedFault;
 use mm_base::Memory;
 use mm_frames::{ReadFault, read};
 use mm_tokens::{TokenFault, tokens};
-use std::alloc::{AllocError, Global};
-
-/// A fault of a database.
-#[derive(Clone, Copy)]
-pub struct DatabaseFault {
-    pub code: u8,
-    pub name: &'static str,
-    /// Where it stands, from 0.
-    pub byte: u32,
-}
+use std::alloc::Global;
 
 // A fault of the tokens, unless memory ran out.
-fn token_fault(fault: TokenFault) -> Result<DatabaseFault, Memory>
+fn token_fault(fault: TokenFault) -> Result<NamedFault, Memory>
     ensures fault { IfOk result (λ f. (first : Option Fault) → IsTokenFault fault first → first ≡ Some (told f)) }
-    ensures named { IfOk result IsNamed }
+    ensures named { IfOk result (IsNamed database_faults) }
 {
     match fault {
-        TokenFault::BadByte(byte) => Ok(DatabaseFault {
+        TokenFault::BadByte(place) => Ok(NamedFault {
             code: 1,
             name: "BadByte",
-            byte,
+            place,
         }),
-        TokenFault::OpenComment(byte) => Ok(DatabaseFault {
+        TokenFault::OpenComment(place) => Ok(NamedFault {
             code: 2,
             name: "OpenComment",
-            byte,
+            place,
         }),
-        TokenFault::CommentInComment(byte) => Ok(DatabaseFault {
+        TokenFault::CommentInComment(place) => Ok(NamedFault {
             code: 3,
             name: "CommentInComment",
-            byte,
+            place,
         }),
-        TokenFault::BadKeyword(byte) => Ok(DatabaseFault {
+        TokenFault::BadKeyword(place) => Ok(NamedFault {
             code: 4,
             name: "BadKeyword",
-            byte,
+            place,
         }),
         TokenFault::Memory => Err(Memory),
     }
 }
 
 // A fault of the statements, unless memory ran out.
-fn read_fault(fault: ReadFault) -> Result<DatabaseFault, Memory>
+fn read_fault(fault: ReadFault) -> Result<NamedFault, Memory>
     ensures fault { IfOk result (λ f. (first : Option Fault) → IsReadFault fault first → first ≡ Some (told f)) }
-    ensures named { IfOk result IsNamed }
+    ensures named { IfOk result (IsNamed database_faults) }
 {
     match fault {
-        ReadFault::Include(byte) => Ok(DatabaseFault {
+        ReadFault::Include(place) => Ok(NamedFault {
             code: 10,
             name: "Include",
-            byte,
+            place,
         }),
-        ReadFault::ConstInBlock(byte) => Ok(DatabaseFault {
+        ReadFault::ConstInBlock(place) => Ok(NamedFault {
             code: 11,
             name: "ConstInBlock",
-            byte,
+            place,
         }),
-        ReadFault::Redeclared(byte) => Ok(DatabaseFault {
+        ReadFault::Redeclared(place) => Ok(NamedFault {
             code: 12,
             name: "Redeclared",
-            byte,
+            place,
         }),
-        ReadFault::NotActive(byte) => Ok(DatabaseFault {
+        ReadFault::NotActive(place) => Ok(NamedFault {
             code: 13,
             name: "NotActive",
-            byte,
+            place,
         }),
-        ReadFault::NoType(byte) => Ok(DatabaseFault {
+        ReadFault::NoType(place) => Ok(NamedFault {
             code: 14,
             name: "NoType",
-            byte,
+            place,
         }),
-        ReadFault::TwoTypes(byte) => Ok(DatabaseFault {
+        ReadFault::TwoTypes(place) => Ok(NamedFault {
             code: 15,
             name: "TwoTypes",
-            byte,
+            place,
         }),
-        ReadFault::FirstNotConst(byte) => Ok(DatabaseFault {
+        ReadFault::FirstNotConst(place) => Ok(NamedFault {
             code: 16,
             name: "FirstNotConst",
-            byte,
+            place,
         }),
-        ReadFault::LabelTaken(byte) => Ok(DatabaseFault {
+        ReadFault::LabelTaken(place) => Ok(NamedFault {
             code: 17,
             name: "LabelTaken",
-            byte,
+            place,
         }),
-        ReadFault::LabelMissing(byte) => Ok(DatabaseFault {
+        ReadFault::LabelMissing(place) => Ok(NamedFault {
             code: 18,
             name: "LabelMissing",
-            byte,
+            place,
         }),
-        ReadFault::LabelExtra(byte) => Ok(DatabaseFault {
+        ReadFault::LabelExtra(place) => Ok(NamedFault {
             code: 19,
             name: "LabelExtra",
-            byte,
+            place,
         }),
-        ReadFault::BadLabel(byte) => Ok(DatabaseFault {
+        ReadFault::BadLabel(place) => Ok(NamedFault {
             code: 20,
             name: "BadLabel",
-            byte,
+            place,
         }),
-        ReadFault::Unended(byte) => Ok(DatabaseFault {
+        ReadFault::Unended(place) => Ok(NamedFault {
             code: 21,
             name: "Unended",
-            byte,
+            place,
         }),
-        ReadFault::BlockOpen(byte) => Ok(DatabaseFault {
+        ReadFault::BlockOpen(place) => Ok(NamedFault {
             code: 22,
             name: "BlockOpen",
-            byte,
+            place,
         }),
-        ReadFault::BlockUnopened(byte) => Ok(DatabaseFault {
+        ReadFault::BlockUnopened(place) => Ok(NamedFault {
             code: 23,
             name: "BlockUnopened",
-            byte,
+            place,
         }),
-        ReadFault::DistinctShort(byte) => Ok(DatabaseFault {
+        ReadFault::DistinctShort(place) => Ok(NamedFault {
             code: 24,
             name: "DistinctShort",
-            byte,
+            place,
         }),
-        ReadFault::DistinctTwice(byte) => Ok(DatabaseFault {
+        ReadFault::DistinctTwice(place) => Ok(NamedFault {
             code: 25,
             name: "DistinctTwice",
-            byte,
+            place,
         }),
-        ReadFault::EmptyFormula(byte) => Ok(DatabaseFault {
+        ReadFault::EmptyFormula(place) => Ok(NamedFault {
             code: 26,
             name: "EmptyFormula",
-            byte,
+            place,
         }),
-        ReadFault::BadHypothesis(byte) => Ok(DatabaseFault {
+        ReadFault::BadHypothesis(place) => Ok(NamedFault {
             code: 27,
             name: "BadHypothesis",
-            byte,
+            place,
         }),
-        ReadFault::NoProof(byte) => Ok(DatabaseFault {
+        ReadFault::NoProof(place) => Ok(NamedFault {
             code: 28,
             name: "NoProof",
-            byte,
+            place,
         }),
-        ReadFault::StrayToken(byte) => Ok(DatabaseFault {
+        ReadFault::StrayToken(place) => Ok(NamedFault {
             code: 29,
             name: "StrayToken",
-            byte,
+            place,
         }),
         ReadFault::Memory => Err(Memory),
     }
 }
 
 /// The first fault of a database of at most 2^28 bytes, or none.
-pub fn find_fault(alloc: Global, text: &[u8]) -> Result<Option<DatabaseFault>, Memory>
+pub fn find_fault(alloc: Global, text: &[u8]) -> Result<Option<NamedFault>, Memory>
     requires { length text.now ≤ 2 ^ 28 }
     ensures fault { IfOk result (λ found. option_map told found ≡ database_fault text.now) }
-    ensures named { IfOk result (λ found. IfSome found IsNamed) }
+    ensures named { IfOk result (λ found. IfSome found (IsNamed database_faults)) }
 {
     let tokens = match tokens(alloc, text) {
         Ok(tokens) => tokens,
@@ -183,15 +174,4 @@ pub fn find_fault(alloc: Global, text: &[u8]) -> Result<Option<DatabaseFault>, M
             Ok(Some(fault))
         }
     }
-}
-
-/// The line that tells a fault.
-pub fn fault_line(alloc: Global, fault: DatabaseFault) -> Result<String, AllocError>
-    requires { IsNamed fault }
-    ensures { IfOk result (λ line. string_bytes line ≡ database_line (told fault)) }
-{
-    let (mut code, mut byte) = (Buffer::new(), Buffer::new());
-    let (code, byte) = (code.format(fault.code), byte.format(fault.byte));
-    let name = fault.name;
-    format!(in alloc; "database error {code} {name} at byte {byte}")
 }

@@ -1,27 +1,56 @@
 ghost use Rattle.std.specs.Prelude.{◌≡◌, ◌⊎◌, map, string_bytes, IfOk, IfSome, IsNone, IsSomeAnd};
-ghost use Rattle.mmp.specs.Answer.{read_fault, usage};
+ghost use Rattle.mmp.specs.Answer.{usage};
 ghost use Rattle.mmp.specs.Due.{MayAnswer, MayAnswerWords, IsSettled, Gives, IsGiven, NoReadFault, SaysReadFault, IsCutShort};
 ghost use Rattle.written_model.specs.CommandWords.{command_of};
 ghost use Rattle.mm_base.specs.Outside.{Rose};
-ghost use Rattle.mmp.specs.Shown.{shown};
+ghost use Rattle.mmp.specs.Shown.{shown, unify_command, verify_command};
 
 use crate::answer::{Answer, refuse};
 use crate::command::{Command, read_words};
 use crate::deliver::deliver;
-use crate::files::{Found, read_file};
-use crate::unify::{Opened, answer_sheet, open, usual_kinds};
-use mm_base::{MOST_DATABASE_BYTES, MOST_SHEET_BYTES, Memory, Sink, Status, Store};
-use sheet_unify::Options;
+use crate::opening::{Opened, open};
+use crate::sheet::{OpenedSheet, open_sheet};
+use crate::unify::answer_sheet;
+use crate::verify::answer_theorem;
+use mm_base::{Memory, Sink, Status, Store};
 use std::alloc::Global;
+use written_model::ProofStyle;
 
-// The answer that names a file which failed to be read.
-fn refuse_read(alloc: Global, name: &str) -> Result<Answer, Memory>
-    ensures { IfOk result (λ answer. answer ≡ read_fault name.now) }
+// Unifies the sheet of a file over the database of another, with a proof in that style.
+fn answer_unify<S: Store>(
+    alloc: Global,
+    store: &mut S,
+    style: ProofStyle,
+    database: &str,
+    sheet: &str,
+) -> Result<Answer, Memory>
+    ensures answer { IfOk result (MayAnswer (unify_command style database.now sheet.now) (S.told store.old) (S.read_faults store.old) (S.read_faults store.new)) }
+    ensures same_files { S.told store.new ≡ S.told store.old }
 {
-    let Ok(text) = format!(in alloc; "read fault {name}") else {
-        return Err(Memory);
+    let database = match open(alloc, store, database)? {
+        Opened::Database(text) => text,
+        Opened::Refused(answer) => return Ok(answer),
     };
-    refuse(alloc, Status::Read, text.as_str())
+    match open_sheet(alloc, store, sheet)? {
+        OpenedSheet::Sheet(sheet) => answer_sheet(alloc, database.as_slice(), &sheet, style),
+        OpenedSheet::Refused(answer) => Ok(answer),
+    }
+}
+
+// Checks the proof of a theorem of the database of a file.
+fn answer_verify<S: Store>(
+    alloc: Global,
+    store: &mut S,
+    database: &str,
+    theorem: &str,
+) -> Result<Answer, Memory>
+    ensures answer { IfOk result (MayAnswer (verify_command database.now theorem.now) (S.told store.old) (S.read_faults store.old) (S.read_faults store.new)) }
+    ensures same_files { S.told store.new ≡ S.told store.old }
+{
+    match open(alloc, store, database)? {
+        Opened::Database(text) => answer_theorem(alloc, text.as_slice(), theorem),
+        Opened::Refused(answer) => Ok(answer),
+    }
 }
 
 /// Reads the files that a command names, and answers it.
@@ -33,36 +62,14 @@ pub fn answer_command<S: Store>(
     ensures answer { IfOk result (MayAnswer (shown command.entry) (S.told store.old) (S.read_faults store.old) (S.read_faults store.new)) }
     ensures same_files { S.told store.new ≡ S.told store.old }
 {
-    let database = match read_file(alloc, store, command.database, MOST_DATABASE_BYTES)? {
-        Found::Text(text) => text,
-        Found::TooBig => {
-            return refuse(
-                alloc,
-                Status::Database,
-                "database error 30 TooBig at byte 268435456",
-            );
-        }
-        Found::Fault => return refuse_read(alloc, command.database),
-    };
-    let kinds = usual_kinds(alloc)?;
-    let database = match open(alloc, database.as_slice(), &kinds)? {
-        Opened::Database(database) => database,
-        Opened::Refused(answer) => return Ok(answer),
-    };
-    let sheet = match read_file(alloc, store, command.sheet, MOST_SHEET_BYTES)? {
-        Found::Text(text) => text,
-        Found::TooBig => {
-            return refuse(alloc, Status::Sheet, "sheet error 50 TooBig at line 1");
-        }
-        Found::Fault => return refuse_read(alloc, command.sheet),
-    };
-    let style = command.style;
-    answer_sheet(
-        alloc,
-        &database,
-        sheet.as_slice(),
-        &Options { style, kinds },
-    )
+    match command {
+        Command::Unify {
+            style,
+            database,
+            sheet,
+        } => answer_unify(alloc, store, style, database, sheet),
+        Command::Verify { database, theorem } => answer_verify(alloc, store, database, theorem),
+    }
 }
 
 /// The answer to the words. It writes nothing.
@@ -80,7 +87,7 @@ pub fn answer_words<S: Store>(
         None => refuse(
             alloc,
             Status::Words,
-            "usage: mmp unify [--proof=normal|compressed] DB SHEET",
+            "usage: mmp unify [--proof=normal|compressed] DB SHEET | mmp verify DB LABEL",
         ),
     }
 }

@@ -1,5 +1,5 @@
 use crate::run::run;
-use mm_base::{List, MemSink, MemStore, Memory, Status};
+use mm_base::{List, MOST_SHEET_BYTES, MemSink, MemStore, Memory, Status};
 use std::alloc::{AllocError, Global};
 use std::process::Abort;
 use std::test::Fail;
@@ -65,7 +65,7 @@ struct Row {
     report: &'static str,
 }
 
-const WRITTEN: [Row; 8] = [
+const WRITTEN: [Row; 10] = [
     Row {
         database: P,
         steps: "h1::r.1 |- ph\nh2::r.2 |- ( ph -> ps )\nqed:1,2:ax-mp |- ps\n",
@@ -120,32 +120,113 @@ wi wph wph wph wi ax-1 wph wph wph wi wph ax-2 ax-mp ax-mp $.\n",
         proof: "$= wy wx pair wy r.1 turn $.\n",
         report: "1 hyp\n2 not usable odd\nqed fits turn\nfinished\n",
     },
+    Row {
+        database: P,
+        steps: "* text, kept\n  as it is\nh1::r.1 |- ph\nh2::r.2 |- ( ph -> ps )\n* more\nqed:1,2:ax-mp |- ps\n",
+        proof: "$= wph wps r.1 r.2 ax-mp $.\n",
+        report: "1 hyp\n2 hyp\nqed fits ax-mp\nfinished\n",
+    },
+    Row {
+        database: P,
+        steps: "* only one\nqed::nosuch |- ph\n",
+        proof: "",
+        report: "qed unknown nosuch\nnot finished\n",
+    },
 ];
 
-// Worksheets over P that have a fault, or something that is not built.
-const REFUSED: [&str; 30] = [
-    "",
-    "$( <MM> <PROOF_ASST> THEOREM=r\nqed::ax-1 |- ( ph -> ( ps -> ph ) )\n",
+// An input that is refused, and the line that says why.
+#[derive(Clone, Copy)]
+struct Refused {
+    text: &'static str,
+    line: &'static str,
+}
+
+// Worksheets with a fault of their text.
+const SHEETS: [Refused; 18] = [
+    Refused {
+        text: "",
+        line: "sheet error 40 NoHeader at line 1\n",
+    },
+    Refused {
+        text: " $( <MM> <PROOF_ASST> THEOREM=r\nqed::nosuch |- ph\n$)\n",
+        line: "sheet error 40 NoHeader at line 1\n",
+    },
+    Refused {
+        text: "$( <MM> <PROOF_ASST> THEOREM=\nqed::nosuch |- ph\n$)\n",
+        line: "sheet error 41 BadHeader at line 1\n",
+    },
+    Refused {
+        text: "$( <MM> <PROOF_ASST> THEOREM=r LOC_AFTER=?\n",
+        line: "sheet error 42 NoFooter at line 2\n",
+    },
+    Refused {
+        text: "$( <MM> <PROOF_ASST> THEOREM=r LOC_AFTER=?\nh1::r.1 |- ph\n",
+        line: "sheet error 42 NoFooter at line 3\n",
+    },
+    Refused {
+        text: "$( <MM> <PROOF_ASST> THEOREM=r LOC_AFTER=?\nh1::r.1 |- ph\nh2::r.2 |- ( ph -> ps )\n",
+        line: "sheet error 42 NoFooter at line 4\n",
+    },
+    Refused {
+        text: "$( <MM> <PROOF_ASST> THEOREM=r LOC_AFTER=?\nh1::r.1 |- ph\nh2::r.2 |- ( ph -> ps )\nqed:1,2:ax-mp |- ps\n",
+        line: "sheet error 42 NoFooter at line 5\n",
+    },
+    Refused {
+        text: "$( <MM> <PROOF_ASST> THEOREM=r\nh1::r.1 |- ph\nh2::r.2 |- ( ph -> ps )\n\nqed:1,2:ax-mp |- ps\n",
+        line: "sheet error 42 NoFooter at line 6\n",
+    },
+    Refused {
+        text: "$( <MM> <PROOF_ASST> THEOREM=r\nh1::r.1 |- ph\nh2::r.2 |- ( ph -> ps )\nqed:1,2:ax-mp |- ps\n$= wph\n$)\n",
+        line: "sheet error 48 ProofUnended at line 5\n",
+    },
+    Refused {
+        text: "$( <MM> <PROOF_ASST> THEOREM=r\nqed::nosuch |- ph\n$) $)\n",
+        line: "sheet error 43 TextAfterFooter at line 3\n",
+    },
+    Refused {
+        text: "$( <MM> <PROOF_ASST> THEOREM=r\nqed::nosuch |- ph\n$)\n$)\n",
+        line: "sheet error 43 TextAfterFooter at line 4\n",
+    },
+    Refused {
+        text: "$( <MM> <PROOF_ASST> THEOREM=r\nqed::nosuch:x |- ph\n$)\n",
+        line: "sheet error 44 BadStep at line 2\n",
+    },
+    Refused {
+        text: "$( <MM> <PROOF_ASST> THEOREM=r\n1::nosuch |- ph\n1::nosuch |- ph\nqed::nosuch |- ph\n$)\n",
+        line: "sheet error 45 NameTwice at line 3\n",
+    },
+    Refused {
+        text: "$( <MM> <PROOF_ASST> THEOREM=r\nqed:1:nosuch |- ph\n$)\n",
+        line: "sheet error 46 HypUnknown at line 2\n",
+    },
+    Refused {
+        text: "$( <MM> <PROOF_ASST> THEOREM=r\n1::nosuch |- ph\n$)\n",
+        line: "sheet error 47 QedPlace at line 3\n",
+    },
+    Refused {
+        text: "$( <MM> <PROOF_ASST> THEOREM=r\nqed::nosuch |- ph\n1::nosuch |- ph\n$)\n",
+        line: "sheet error 47 QedPlace at line 3\n",
+    },
+    Refused {
+        text: "$( <MM> <PROOF_ASST> THEOREM=r\nhqed::r.1 |- ph\n$)\n",
+        line: "sheet error 47 QedPlace at line 2\n",
+    },
+    Refused {
+        text: "$( <MM> <PROOF_ASST> THEOREM=r\nqed::nosuch |- ph\n$d ph\n$)\n",
+        line: "sheet error 49 BadDistinct at line 3\n",
+    },
+];
+
+// Worksheets over P that have something which is not built.
+const UNBUILT_SHEETS: [&str; 15] = [
     "$( <MM> <PROOF_ASST> THEOREM=ax-1\nqed::nosuch |- ph\n$)\n",
     "$( <MM> <PROOF_ASST> THEOREM=r/s\nqed::nosuch |- ph\n$)\n",
-    "$( <MM> <PROOF_ASST> THEOREM=\nqed::nosuch |- ph\n$)\n",
     "$( <MM> <PROOF_ASST> THEOREM=r LOC_AFTER=ax-1\nqed::nosuch |- ph\n$)\n",
-    " $( <MM> <PROOF_ASST> THEOREM=r\nqed::nosuch |- ph\n$)\n",
-    "$( <MM> <PROOF_ASST> THEOREM=r\n* text\nqed::nosuch |- ph\n$)\n",
-    "$( <MM> <PROOF_ASST> THEOREM=r\nqed::nosuch |- ph\n$) $)\n",
-    "$( <MM> <PROOF_ASST> THEOREM=r\nqed::nosuch |- ph\n$)\n$)\n",
-    "$( <MM> <PROOF_ASST> THEOREM=r\nqed::nosuch |- ph\n$= wph\n$)\n",
     "$( <MM> <PROOF_ASST> THEOREM=r\nqed::nosuch |- ph\n$d ph ps\n$)\n",
-    "$( <MM> <PROOF_ASST> THEOREM=r\nqed::nosuch |-\n  ph\n$)\n",
-    "$( <MM> <PROOF_ASST> THEOREM=r\n1::nosuch |- ph\n$)\n",
-    "$( <MM> <PROOF_ASST> THEOREM=r\nqed::nosuch |- ph\n1::nosuch |- ph\n$)\n",
-    "$( <MM> <PROOF_ASST> THEOREM=r\n1::nosuch |- ph\n1::nosuch |- ph\nqed::nosuch |- ph\n$)\n",
-    "$( <MM> <PROOF_ASST> THEOREM=r\nhqed::r.1 |- ph\n$)\n",
     "$( <MM> <PROOF_ASST> THEOREM=r\nh1::r |- ph\nqed::nosuch |- ph\n$)\n",
     "$( <MM> <PROOF_ASST> THEOREM=r\nh1::wph |- ph\nqed::nosuch |- ph\n$)\n",
     "$( <MM> <PROOF_ASST> THEOREM=r\nh1::r.1 |- ph\nh2::r.1 |- ph\nqed::nosuch |- ph\n$)\n",
     "$( <MM> <PROOF_ASST> THEOREM=r\n1::nosuch |- ph\nh2:1:r.1 |- ph\nqed::nosuch |- ph\n$)\n",
-    "$( <MM> <PROOF_ASST> THEOREM=r\nqed:1:nosuch |- ph\n$)\n",
     "$( <MM> <PROOF_ASST> THEOREM=r\nqed:?:nosuch |- ph\n$)\n",
     "$( <MM> <PROOF_ASST> THEOREM=r\nqed:: |- ph\n$)\n",
     "$( <MM> <PROOF_ASST> THEOREM=r\nqed::ax-mp |- ph\n$)\n",
@@ -153,119 +234,113 @@ const REFUSED: [&str; 30] = [
     "$( <MM> <PROOF_ASST> THEOREM=r\nqed::nosuch wff ph\n$)\n",
     "$( <MM> <PROOF_ASST> THEOREM=r\nqed::nosuch |- &W1\n$)\n",
     "$( <MM> <PROOF_ASST> THEOREM=r\nqed::nosuch |- ( ph -> ps\n$)\n",
-    "$( <MM> <PROOF_ASST> THEOREM=r\nqed::nosuch:x |- ph\n$)\n",
 ];
 
-// A database that is refused, and the line that says why.
-#[derive(Clone, Copy)]
-struct Unread {
-    database: &'static str,
-    line: &'static str,
-}
-
-// With a fault, or with something that is not built.
-const UNREAD: [Unread; 24] = [
-    Unread {
-        database: DEMO0,
-        line: "database error 90 NotBuilt at byte 0\n",
-    },
-    Unread {
-        database: "$c wff $. $( text $)",
-        line: "database error 90 NotBuilt at byte 0\n",
-    },
-    Unread {
-        database: "$c wff $. $v x $. ${ $d x x $. $}",
-        line: "database error 25 DistinctTwice at byte 26\n",
-    },
-    Unread {
-        database: "$c |- $. t $p |- $= $.",
-        line: "database error 90 NotBuilt at byte 0\n",
-    },
-    Unread {
-        database: "$c wff $. $c wff $.",
+// Databases with a fault.
+const DATABASES: [Refused; 18] = [
+    Refused {
+        text: "$c wff $. $v wff $.",
         line: "database error 12 Redeclared at byte 13\n",
     },
-    Unread {
-        database: "$c $.",
+    Refused {
+        text: "$c wff $. $v x $. ${ $d x x $. $}",
+        line: "database error 25 DistinctTwice at byte 26\n",
+    },
+    Refused {
+        text: "$c wff $. $c wff $.",
+        line: "database error 12 Redeclared at byte 13\n",
+    },
+    Refused {
+        text: "$c $.",
         line: "database error 26 EmptyFormula at byte 3\n",
     },
-    Unread {
-        database: "$c a$b $.",
+    Refused {
+        text: "$c a$b $.",
         line: "database error 4 BadKeyword at byte 3\n",
     },
-    Unread {
-        database: "$c wff",
+    Refused {
+        text: "$c wff",
         line: "database error 21 Unended at byte 6\n",
     },
-    Unread {
-        database: "$c wff $. ${",
+    Refused {
+        text: "$c wff $. ${",
         line: "database error 22 BlockOpen at byte 12\n",
     },
-    Unread {
-        database: "$c wff $. $}",
+    Refused {
+        text: "$c wff $. $}",
         line: "database error 23 BlockUnopened at byte 10\n",
     },
-    Unread {
-        database: "$c wff $. ${ $v x $. $}",
-        line: "database error 90 NotBuilt at byte 0\n",
-    },
-    Unread {
-        database: "$c wff $. $v x $. wx $f wff x x $.",
+    Refused {
+        text: "$c wff $. $v x $. wx $f wff x x $.",
         line: "database error 27 BadHypothesis at byte 30\n",
     },
-    Unread {
-        database: "$c wff $. $v x $. wx $f wff x $. wy $f wff x $.",
+    Refused {
+        text: "$c wff $. $v x $. wx $f wff x $. wy $f wff x $.",
         line: "database error 15 TwoTypes at byte 43\n",
     },
-    Unread {
-        database: "$c wff a $. $v x $. e $a wff a x $.",
+    Refused {
+        text: "$c wff a $. $v x $. e $a wff a x $.",
         line: "database error 14 NoType at byte 31\n",
     },
-    Unread {
-        database: "$c wff a $. e $a wff b $.",
+    Refused {
+        text: "$c wff a $. e $a wff b $.",
         line: "database error 13 NotActive at byte 21\n",
     },
-    Unread {
-        database: "$c wff a $. e $a wff a $. f $a wff a a $.",
-        line: "database error 90 NotBuilt at byte 0\n",
-    },
-    Unread {
-        database: "$c wff a b $. e $a wff a $. e $a wff b $.",
+    Refused {
+        text: "$c wff a b $. e $a wff a $. e $a wff b $.",
         line: "database error 17 LabelTaken at byte 28\n",
     },
-    Unread {
-        database: "$c wff a $. e/f $a wff a $.",
+    Refused {
+        text: "$c wff a $. e/f $a wff a $.",
         line: "database error 20 BadLabel at byte 12\n",
     },
-    Unread {
-        database: "$c wff a $. $a wff a $.",
+    Refused {
+        text: "$c wff a $. $a wff a $.",
         line: "database error 18 LabelMissing at byte 12\n",
     },
-    Unread {
-        database: "$c wff a $. $v x $. wx $f wff x $. e $a wff x $.",
-        line: "database error 90 NotBuilt at byte 0\n",
-    },
-    Unread {
-        database: "$c wff a $. $v x $. wx $f wff x $. e $a wff a x x $.",
-        line: "database error 90 NotBuilt at byte 0\n",
-    },
-    Unread {
-        database: "$( a",
+    Refused {
+        text: "$( a",
         line: "database error 2 OpenComment at byte 4\n",
     },
-    Unread {
-        database: "$[ x $]",
+    Refused {
+        text: "$[ x $]",
         line: "database error 10 Include at byte 0\n",
     },
-    Unread {
-        database: "$c a $. ${ $c b $. $}",
+    Refused {
+        text: "$c a $. ${ $c b $. $}",
         line: "database error 11 ConstInBlock at byte 11\n",
     },
 ];
 
-const USAGE: &str = "usage: mmp unify [--proof=normal|compressed] DB SHEET\n";
+// Databases without a fault that have something which is not built.
+const UNBUILT_DATABASES: [&str; 7] = [
+    DEMO0,
+    "$c wff $. $( text $)",
+    "$c |- $. t $p |- $= $.",
+    "$c wff $. ${ $v x $. $}",
+    "$c wff a $. e $a wff a $. f $a wff a a $.",
+    "$c wff a $. $v x $. wx $f wff x $. e $a wff x $.",
+    "$c wff a $. $v x $. wx $f wff x $. e $a wff a x x $.",
+];
+
+const NO_SHEET: &str = "sheet error 91 NotBuilt at line 1\n";
+
+const USAGE: &str = "usage: mmp unify [--proof=normal|compressed] DB SHEET | mmp verify DB LABEL\n";
 
 const NORMAL: [&str; 4] = ["unify", "--proof=normal", "P.mm", "r.mmp"];
+
+const WRONG_WORDS: [&[&str]; 10] = [
+    &["unify", "P.mm"],
+    &["unify", "--proof=normal", "--proof=normal", "P.mm", "r.mmp"],
+    &["unify", "P.mm", "r.mmp", "--proof=normal"],
+    &["unify", "--proof=short", "P.mm", "r.mmp"],
+    &["unify", "--proof=normal", "", "r.mmp"],
+    &["verify", "P.mm"],
+    &["verify", "P.mm", ""],
+    &["verify", "P.mm", "--th"],
+    &["verify", "--proof=normal", "P.mm", "th"],
+    &[],
+];
 
 fn words_of(alloc: Global, words: &[&str]) -> Result<Vec<String>, AllocError> {
     let mut all = Vec::new(alloc);
@@ -302,7 +377,7 @@ fn sink(alloc: Global, room: u64, fails: &[u64]) -> Result<MemSink, Memory> {
 // The texts under the two names, and which calls of the outside fail.
 #[derive(Clone, Copy)]
 struct Outside<'a> {
-    database: &'a str,
+    database: &'a [u8],
     sheet: &'a [u8],
     store_fails: &'a [u64],
     out_room: u64,
@@ -312,7 +387,7 @@ struct Outside<'a> {
 
 fn honest<'a>(database: &'a str, sheet: &'a [u8]) -> Outside<'a> {
     Outside {
-        database,
+        database: database.as_bytes(),
         sheet,
         store_fails: &[],
         out_room: 1000,
@@ -326,7 +401,7 @@ fn store(alloc: Global, outside: Outside<'_>) -> Result<MemStore, Memory> {
     let mut files = Vec::new(alloc);
     files.push((
         bytes_of(alloc, b"P.mm")?,
-        bytes_of(alloc, outside.database.as_bytes())?,
+        bytes_of(alloc, outside.database)?,
     ))?;
     files.push((bytes_of(alloc, b"r.mmp")?, bytes_of(alloc, outside.sheet)?))?;
     let fails = List::from_vec(Vec::from_slice(alloc, outside.store_fails)?);
@@ -366,62 +441,76 @@ fn check_row(rt: &impl Abort, alloc: Global, row: Row) -> Result<(), Fail> {
     Ok(())
 }
 
-fn check_unread(rt: &impl Abort, alloc: Global, unread: Unread, sheet: &[u8]) -> Result<(), Fail> {
-    let want = (Status::Database, b"".as_slice(), unread.line);
-    check(rt, alloc, &NORMAL, honest(unread.database, sheet), want)
+fn check_refused(
+    rt: &impl Abort,
+    alloc: Global,
+    outside: Outside<'_>,
+    status: Status,
+    line: &str,
+) -> Result<(), Fail> {
+    check(rt, alloc, &NORMAL, outside, (status, b"", line))
 }
 
-#[test]
-fn sheets_are_unified_or_refused(rt: HostRuntime) -> Result<(), Fail> {
-    for row in WRITTEN {
-        check_row(&rt, rt.alloc(), row)?;
+// Refused databases and worksheets.
+fn check_refusals(rt: &impl Abort, alloc: Global, sheet: &[u8]) -> Result<(), Fail> {
+    for refused in SHEETS {
+        let outside = honest(P, refused.text.as_bytes());
+        check_refused(rt, alloc, outside, Status::Sheet, refused.line)?;
     }
-    let (sheet, _) = sheets_of(rt.alloc(), WRITTEN[0])?;
-    let no_sheet = "sheet error 91 NotBuilt at line 1\n";
-    let want = (Status::Sheet, b"".as_slice(), no_sheet);
-    let compressed = ["unify", "P.mm", "r.mmp"];
-    check(&rt, rt.alloc(), &compressed, honest(P, &sheet), want)?;
-    for refused in REFUSED {
-        check(
-            &rt,
-            rt.alloc(),
-            &NORMAL,
-            honest(P, refused.as_bytes()),
-            want,
+    for text in UNBUILT_SHEETS {
+        check_refused(
+            rt,
+            alloc,
+            honest(P, text.as_bytes()),
+            Status::Sheet,
+            NO_SHEET,
         )?;
     }
-    for unread in UNREAD {
-        check_unread(&rt, rt.alloc(), unread, &sheet)?;
+    for text in UNBUILT_DATABASES {
+        check_refused(rt, alloc, honest(text, sheet), Status::Sheet, NO_SHEET)?;
     }
-    Ok(())
+    for refused in DATABASES {
+        let outside = honest(refused.text, sheet);
+        check_refused(rt, alloc, outside, Status::Database, refused.line)?;
+    }
+    // compressed proofs are not built
+    let words = ["unify", "P.mm", "r.mmp"];
+    let want = (Status::Sheet, b"".as_slice(), NO_SHEET);
+    check(rt, alloc, &words, honest(P, sheet), want)?;
+    // the text is judged before a database that is not built
+    let long = vec![in alloc; b' '; MOST_SHEET_BYTES as usize + 1]?;
+    let line = "sheet error 50 TooBig at line 1\n";
+    check_refused(rt, alloc, honest(DEMO0, &long), Status::Sheet, line)
 }
 
-#[test]
-fn other_words_are_answered_by_the_usage_line(rt: HostRuntime) -> Result<(), Fail> {
-    let wrong: [&[&str]; 6] = [
-        &["unify", "P.mm"],
-        &["unify", "--proof=normal", "--proof=normal", "P.mm", "r.mmp"],
-        &["unify", "P.mm", "r.mmp", "--proof=normal"],
-        &["unify", "--proof=short", "P.mm", "r.mmp"],
-        &["unify", "--proof=normal", "", "r.mmp"],
-        &[],
-    ];
-    let want = (Status::Words, b"".as_slice(), USAGE);
-    for words in wrong {
+// Words that fit no command, and `verify`.
+fn check_words(rt: &impl Abort, alloc: Global) -> Result<(), Fail> {
+    let unbuilt = (
+        Status::Proof,
+        b"".as_slice(),
+        "proof error 91 NotBuilt at 0\n",
+    );
+    check(
+        rt,
+        alloc,
+        &["verify", "P.mm", "th1"],
+        honest(DEMO0, b""),
+        unbuilt,
+    )?;
+    for words in WRONG_WORDS {
         let outside = Outside {
             store_fails: &[1],
             out_fails: &[1],
             ..honest(P, b"")
         };
-        check(&rt, rt.alloc(), words, outside, want)?;
+        check(rt, alloc, words, outside, (Status::Words, b"", USAGE))?;
     }
     Ok(())
 }
 
-#[test]
-fn each_fault_of_the_outside_has_its_status(rt: HostRuntime) -> Result<(), Fail> {
-    let (sheet, finished) = sheets_of(rt.alloc(), WRITTEN[0])?;
-    let honest = honest(P, &sheet);
+// Each fault of the outside has its status.
+fn check_faults(rt: &impl Abort, alloc: Global, sheet: &[u8], finished: &[u8]) -> Result<(), Fail> {
+    let honest = honest(P, sheet);
     let first_read = Outside {
         store_fails: &[1],
         ..honest
@@ -429,6 +518,11 @@ fn each_fault_of_the_outside_has_its_status(rt: HostRuntime) -> Result<(), Fail>
     let second_read = Outside {
         store_fails: &[2],
         ..honest
+    };
+    // a database with a fault is refused before the worksheet is read
+    let refused = Outside {
+        database: b"$c $.",
+        ..second_read
     };
     let log = Outside {
         log_fails: &[1],
@@ -438,13 +532,7 @@ fn each_fault_of_the_outside_has_its_status(rt: HostRuntime) -> Result<(), Fail>
         out_room: 10,
         ..honest
     };
-    // the database is judged before the worksheet is read
-    let refused = Outside {
-        database: DEMO0,
-        store_fails: &[2],
-        ..honest
-    };
-    let no_database = "database error 90 NotBuilt at byte 0\n";
+    let no_database = "database error 26 EmptyFormula at byte 3\n";
     for (outside, want) in [
         (
             first_read,
@@ -455,12 +543,23 @@ fn each_fault_of_the_outside_has_its_status(rt: HostRuntime) -> Result<(), Fail>
             second_read,
             (Status::Read, b"".as_slice(), "read fault r.mmp\n"),
         ),
-        (log, (Status::Write, finished.as_slice(), "")),
+        (log, (Status::Write, finished, "")),
         (room, (Status::Write, b"$( <MM> <P".as_slice(), "")),
     ] {
-        check(&rt, rt.alloc(), &NORMAL, outside, want)?;
+        check(rt, alloc, &NORMAL, outside, want)?;
     }
-    let missing = ["unify", "--proof=normal", "Q.mm", "r.mmp"];
     let want = (Status::Read, b"".as_slice(), "read fault Q.mm\n");
-    check(&rt, rt.alloc(), &missing, honest, want)
+    check(rt, alloc, &["unify", "Q.mm", "r.mmp"], honest, want)?;
+    check(rt, alloc, &["verify", "Q.mm", "th"], honest, want)
+}
+
+#[test]
+fn calls_are_answered(rt: HostRuntime) -> Result<(), Fail> {
+    for row in WRITTEN {
+        check_row(&rt, rt.alloc(), row)?;
+    }
+    let (sheet, finished) = sheets_of(rt.alloc(), WRITTEN[0])?;
+    check_refusals(&rt, rt.alloc(), &sheet)?;
+    check_words(&rt, rt.alloc())?;
+    check_faults(&rt, rt.alloc(), &sheet, &finished)
 }

@@ -1,22 +1,21 @@
-ghost use Rattle.std.specs.Prelude.{◌≡◌, ◌≤◌, ◌^◌, ◌++◌, codes, length, None, IfOk};
+ghost use Rattle.std.specs.Prelude.{◌≡◌, ◌++◌, codes, IfOk};
 ghost use Rattle.std.specs.List.{flat_map};
-ghost use Rattle.mmp.specs.Answer.{line, refusal};
-ghost use Rattle.mmp.specs.DatabaseFaults.{told, IsNamed};
-ghost use Rattle.written_model.specs.FaultLines.{database_line};
-ghost use Rattle.mmp.specs.Unify.{IsSheetAnswer, IsTextStatus, IsWritten, end_line, end_status};
-ghost use Rattle.mmp.specs.Opened.{IsOpened};
-ghost use Rattle.mm_model.specs.Statements.{database_fault};
+ghost use Rattle.mmp.specs.Answer.{line};
+ghost use Rattle.sheet_text.specs.declared.sheet.Sheet.{Sheet};
+ghost use Rattle.sheet_unify.specs.LaidOut.{IsLaidOut};
+ghost use Rattle.mmp.specs.Unify.{IsSheetAnswer, IsTextStatus, IsUnbuilt, IsWritten, end_line, end_status};
 
 use crate::answer::{Answer, refuse};
-use crate::database::{DatabaseFault, fault_line, find_fault};
 use mm_base::{Bytes, Kinds, List, Memory, Status};
+use sheet_text::Sheet;
 use sheet_unify::{
-    Database, OpenFault, Options, Outcome, UnifyFault, open_database, report_lines, unify_sheet,
+    Database, OpenFault, Outcome, UnifyFault, open_database, report_lines, unify_sheet,
 };
 use std::alloc::Global;
+use written_model::{DvMode, Options, ProofStyle};
 
-/// The typecodes that have a meaning: `|-` and `wff`.
-pub fn usual_kinds(alloc: Global) -> Result<Kinds, Memory>
+// The typecodes that have a meaning: `|-` and `wff`.
+fn usual_kinds(alloc: Global) -> Result<Kinds, Memory>
     ensures { IfOk result (λ kinds. kinds ≡ record { provable = codes "|-"; logic = codes "wff" }) }
 {
     Ok(Kinds {
@@ -63,9 +62,7 @@ fn status_of(finished: bool) -> Status
 
 // The answer that writes an outcome.
 fn answer_outcome(alloc: Global, outcome: Outcome) -> Result<Answer, Memory>
-    ensures written { IfOk result IsWritten }
-    ensures text { IfOk result (λ answer. answer.out ≡ outcome.text) }
-    ensures end { IfOk result (λ answer. answer.status ≡ end_status outcome.finished) }
+    ensures written { IfOk result (λ answer. (sheet : Sheet) → IsLaidOut sheet outcome.text → IsWritten sheet answer) }
     ensures status { IfOk result (λ answer. IsTextStatus answer.status) }
 {
     let lines = report_lines(alloc, &outcome.report)?;
@@ -78,70 +75,44 @@ fn answer_outcome(alloc: Global, outcome: Outcome) -> Result<Answer, Memory>
     })
 }
 
-// The answer that tells a fault of a database.
-fn refuse_database(alloc: Global, fault: DatabaseFault) -> Result<Answer, Memory>
-    requires { IsNamed fault }
-    ensures { IfOk result (λ answer. answer ≡ refusal Status.Database (database_line (told fault))) }
-{
-    let line = fault_line(alloc, fault)?;
-    refuse(alloc, Status::Database, line.as_str())
-}
-
-/// A database that was opened, or the answer that refuses it.
-#[derive(Drop)]
-pub enum Opened {
-    Database(Database),
-    Refused(Answer),
-}
-
-/// Opens the text of a database of at most 2^28 bytes, or refuses it by its first fault.
-pub fn open(alloc: Global, text: &[u8], kinds: &Kinds) -> Result<Opened, Memory>
-    requires { length text.now ≤ 2 ^ 28 }
-    ensures { IfOk result (IsOpened text.now) }
-{
-    match find_fault(alloc, text)? {
-        Some(fault) => {
-            let answer = refuse_database(alloc, fault)?;
-            Ok(Opened::Refused(answer))
-        }
-        None => open_faultless(alloc, text, kinds),
-    }
-}
-
-// Opens the text of a database without a fault, where it is handled.
-fn open_faultless(alloc: Global, text: &[u8], kinds: &Kinds) -> Result<Opened, Memory>
-    requires { database_fault text.now ≡ None }
-    ensures { IfOk result (IsOpened text.now) }
-{
+// The database of a text without a fault, unless it is not handled yet.
+fn open_faultless(alloc: Global, text: &[u8], kinds: &Kinds) -> Result<Option<Database>, Memory> {
     match open_database(alloc, text, kinds) {
-        Ok(database) => Ok(Opened::Database(database)),
-        Err(OpenFault::NotBuilt) => {
-            let answer = refuse(
-                alloc,
-                Status::Database,
-                "database error 90 NotBuilt at byte 0",
-            )?;
-            Ok(Opened::Refused(answer))
-        }
+        Ok(database) => Ok(Some(database)),
+        Err(OpenFault::NotBuilt) => Ok(None),
         Err(OpenFault::Memory) => Err(Memory),
     }
 }
 
-/// Unifies the text of a sheet with a database.
+// The refusal of what is not handled yet.
+fn refuse_unbuilt(alloc: Global) -> Result<Answer, Memory>
+    ensures { IfOk result IsUnbuilt }
+{
+    refuse(alloc, Status::Sheet, "sheet error 91 NotBuilt at line 1")
+}
+
+/// Unifies a sheet over the text of a database without a fault.
 pub fn answer_sheet(
     alloc: Global,
-    database: &Database,
-    text: &[u8],
-    options: &Options,
+    database: &[u8],
+    sheet: &Sheet,
+    style: ProofStyle,
 ) -> Result<Answer, Memory>
-    ensures answer { IfOk result IsSheetAnswer }
+    ensures answer { IfOk result (IsSheetAnswer sheet.now) }
     ensures status { IfOk result (λ answer. IsTextStatus answer.status) }
 {
-    match unify_sheet(alloc, database, text, options) {
+    let kinds = usual_kinds(alloc)?;
+    let Some(database) = open_faultless(alloc, database, &kinds)? else {
+        return refuse_unbuilt(alloc);
+    };
+    let options = Options {
+        style,
+        kinds,
+        dv: DvMode::Add,
+    };
+    match unify_sheet(alloc, &database, sheet, &options) {
         Ok(outcome) => answer_outcome(alloc, outcome),
-        Err(UnifyFault::NotBuilt) => {
-            refuse(alloc, Status::Sheet, "sheet error 91 NotBuilt at line 1")
-        }
+        Err(UnifyFault::NotBuilt) => refuse_unbuilt(alloc),
         Err(UnifyFault::Memory) => Err(Memory),
     }
 }

@@ -1,9 +1,9 @@
 use crate::database::{Assertion, Database, Statement};
 use crate::faults::UnifyFault;
-use crate::report::ReportVerdict;
 use crate::sheet::Step;
 use crate::substitution::Substitution;
 use mm_base::{MOST_WORK_SIZE, Tree};
+use written_model::ReportVerdict;
 
 /// What was found of a step.
 #[derive(Drop)]
@@ -33,7 +33,7 @@ fn work_size(db: &Database, step: &Step) -> u64 {
         Some(Statement::Assertion(assertion)) => assertion.size,
         _ => 0,
     };
-    (size as u64).saturating_add(step.words.len() as u64)
+    (size as u64).saturating_add(step.tokens as u64)
 }
 
 fn judge<'s>(

@@ -1,4 +1,4 @@
-//! Unifies a worksheet with a database: reads both, finds for each step whether its reference fits, and writes the
+//! Unifies a worksheet with a database: opens the database, finds for each step whether its reference fits, and writes the
 //! worksheet back, with its proof where it is finished.
 //!
 //! So far this is built for small databases and for worksheets whose formulas are all given. Everything else is
@@ -20,5 +20,5 @@ mod words;
 pub use database::Database;
 pub use faults::{OpenFault, UnifyFault};
 pub use reader::open_database;
-pub use report::{ReportLine, ReportVerdict, report_lines};
-pub use unify::{Options, Outcome, ProofStyle, unify_sheet};
+pub use report::report_lines;
+pub use unify::{Outcome, unify_sheet};

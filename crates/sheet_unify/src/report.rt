@@ -1,33 +1,6 @@
-use mm_base::{Bytes, List, Memory, Name};
+use mm_base::{Bytes, List, Memory};
 use std::alloc::Global;
-
-/// What was found of a step.
-#[derive(Clone, Copy, Debug, PartialEq, Eq)]
-pub enum ReportVerdict {
-    /// Its reference fits: some substitution makes the assertion its formula, and the assertion's `$e` those of the steps
-    /// that it lists.
-    Fits,
-    /// Its reference does not fit.
-    NoFit,
-    /// Its reference is no assertion of the database.
-    UnknownRef,
-    /// Its reference is a syntax axiom, or has a formula without a tree.
-    NotUsable,
-    /// It lists more steps than its reference has `$e`.
-    TooManyHyps,
-    /// It is a hypothesis of the theorem.
-    Hyp,
-}
-
-/// One line of the report, for one step.
-#[derive(Debug, Drop)]
-pub struct ReportLine {
-    /// The step's name, without the mark of a hypothesis.
-    pub name: Name,
-    pub verdict: ReportVerdict,
-    /// The step's reference. None for a hypothesis.
-    pub reference: Option<Name>,
-}
+use written_model::{ReportLine, ReportVerdict};
 
 /// The lines of a report, one for each step in order, without line feeds. That the worksheet is finished or not is
 /// no part of them.
@@ -53,10 +26,12 @@ fn line_text(alloc: Global, line: &ReportLine) -> Result<Bytes, Memory> {
 fn verdict_text(verdict: ReportVerdict) -> &'static str {
     match verdict {
         ReportVerdict::Fits => "fits",
+        ReportVerdict::Found => "found",
         ReportVerdict::NoFit => "no fit",
         ReportVerdict::UnknownRef => "unknown",
         ReportVerdict::NotUsable => "not usable",
         ReportVerdict::TooManyHyps => "too many hypotheses",
+        ReportVerdict::NoRef => "no reference",
         ReportVerdict::Hyp => "hyp",
     }
 }

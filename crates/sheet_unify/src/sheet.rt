@@ -1,20 +1,14 @@
 use crate::database::Database;
 use crate::faults::UnifyFault;
 use crate::parsing::formula_tree;
-use crate::words::{is_label, is_printable, is_white_space, words_of};
-use bstr::ByteSlice;
 use indexmap::IndexSet;
-use mm_base::{MOST_SHEET_BYTES, Tree};
+use mm_base::{Name, Tree};
+use sheet_text::{Given, Sheet, SheetItem, SheetStep};
 use std::alloc::Global;
 
-/// The name of the step that has the theorem's formula.
-const QED: &[u8] = b"qed";
-
-/// A step of a worksheet.
+/// A step of a worksheet over a database.
 #[derive(Drop)]
 pub struct Step<'a> {
-    /// All words of its line.
-    pub words: Vec<&'a [u8]>,
     /// Its name, without the mark of a hypothesis.
     pub name: &'a [u8],
     /// Whether it is a hypothesis of the theorem. Its reference is then the hypothesis' label.
@@ -23,122 +17,47 @@ pub struct Step<'a> {
     pub places: Vec<usize>,
     /// A label.
     pub reference: &'a [u8],
+    /// The tokens of its formula.
+    pub tokens: usize,
     /// The tree of its formula.
     pub tree: Tree,
 }
 
-/// A worksheet that was read.
-#[derive(Drop)]
-pub struct Sheet<'a> {
-    /// The word of the header that has the theorem's name.
-    pub title: &'a [u8],
-    /// Its steps in order, the last of them `qed`.
-    pub steps: Vec<Step<'a>>,
-}
-
-/// Reads a worksheet for a theorem that the database does not have: the header, steps on one line each, and the footer.
-/// A proof is passed over.
-pub fn read_sheet<'a>(
+/// The steps of a worksheet for a theorem that the database does not have, in order. The last of them is `qed`.
+pub fn read_steps<'a>(
     alloc: Global,
     db: &Database,
-    text: &'a [u8],
-) -> Result<Sheet<'a>, UnifyFault> {
-    if text.len() as u64 > MOST_SHEET_BYTES || !is_printable(text) {
+    sheet: &'a Sheet,
+) -> Result<Vec<Step<'a>>, UnifyFault> {
+    if sheet.loc.is_some() || !sheet.pairs.as_slice().is_empty() {
         return Err(UnifyFault::NotBuilt);
     }
     let mut reader = Reader {
         alloc,
         db,
-        part: Part::Header,
-        title: &[],
-        names: IndexSet::new(alloc),
         labels: IndexSet::new(alloc),
         steps: Vec::new(alloc),
     };
-    for line in text.lines() {
-        reader.line(line)?;
+    reader.keep_label(sheet.theorem.as_slice())?;
+    for item in sheet.items.as_slice() {
+        match item {
+            SheetItem::Comment(_) => {}
+            SheetItem::Step(step) => reader.step(step)?,
+        }
     }
-    reader.finish()
-}
-
-/// The part of a worksheet that the next line belongs to.
-#[derive(Clone, Copy, Debug, PartialEq, Eq)]
-enum Part {
-    Header,
-    Steps,
-    Proof,
-    End,
+    Ok(reader.steps)
 }
 
 #[derive(Drop)]
 struct Reader<'a, 'd> {
     alloc: Global,
     db: &'d Database,
-    part: Part,
-    title: &'a [u8],
-    // the names of the steps
-    names: IndexSet<&'a [u8]>,
     // the labels of the theorem and its hypotheses
     labels: IndexSet<&'a [u8]>,
     steps: Vec<Step<'a>>,
 }
 
 impl<'a> Reader<'a, '_> {
-    fn line(&mut self, line: &'a [u8]) -> Result<(), UnifyFault> {
-        let words = words_of(self.alloc, line)?;
-        let (Some(first), Some(last)) = (words.first(), words.last()) else {
-            return Ok(());
-        };
-        let is_last_of_proof = matches!(*last, b"$.");
-        match (self.part, *first) {
-            (Part::Proof, _) => {
-                if is_last_of_proof {
-                    self.part = Part::Steps;
-                }
-                Ok(())
-            }
-            _ if line.first().is_some_and(|byte| is_white_space(*byte)) => {
-                Err(UnifyFault::NotBuilt)
-            }
-            (Part::Header, _) => self.header(words.as_slice()),
-            (Part::Steps, b"$)") => self.footer(words.as_slice()),
-            (Part::Steps, b"$=") => {
-                if !is_last_of_proof {
-                    self.part = Part::Proof;
-                }
-                Ok(())
-            }
-            (Part::Steps, _) => self.step(words),
-            (Part::End, _) => Err(UnifyFault::NotBuilt),
-        }
-    }
-
-    fn header(&mut self, words: &[&'a [u8]]) -> Result<(), UnifyFault> {
-        let title = match words {
-            [b"$(", b"<MM>", b"<PROOF_ASST>", title] => *title,
-            [
-                b"$(",
-                b"<MM>",
-                b"<PROOF_ASST>",
-                title,
-                b"LOC_AFTER=" | b"LOC_AFTER=?",
-            ] => *title,
-            _ => return Err(UnifyFault::NotBuilt),
-        };
-        let theorem = title.strip_prefix(b"THEOREM=").ok_or(UnifyFault::NotBuilt)?;
-        self.title = title;
-        self.part = Part::Steps;
-        self.keep_label(theorem)
-    }
-
-    fn footer(&mut self, words: &[&[u8]]) -> Result<(), UnifyFault> {
-        if words.len() > 1 {
-            return Err(UnifyFault::NotBuilt);
-        }
-        self.part = Part::End;
-        Ok(())
-    }
-
     /// Keeps a label that neither the database nor the worksheet has.
     fn keep_label(&mut self, label: &'a [u8]) -> Result<(), UnifyFault> {
         if !self.db.is_free_label(label) || !self.labels.insert(label)? {
@@ -147,79 +66,60 @@ impl<'a> Reader<'a, '_> {
         Ok(())
     }
 
-    fn step(&mut self, words: Vec<&'a [u8]>) -> Result<(), UnifyFault> {
-        let (marked, places, reference) = words
-            .first()
-            .and_then(|word| head(*word))
-            .ok_or(UnifyFault::NotBuilt)?;
-        let unmarked = marked.strip_prefix(b"h");
-        let name = unmarked.unwrap_or(marked);
-        if !is_label(name) || !is_label(reference) || self.names.contains(&QED) {
+    fn step(&mut self, step: &'a SheetStep) -> Result<(), UnifyFault> {
+        let Some(reference) = &step.reference else {
             return Err(UnifyFault::NotBuilt);
-        }
-        if unmarked.is_some() {
-            self.hypothesis(name, places, reference)?;
+        };
+        if step.hyp {
+            self.hypothesis(step, reference.as_slice())?;
         }
         let step = Step {
-            name,
-            is_hypothesis: unmarked.is_some(),
-            places: self.places(places)?,
-            reference,
-            tree: self.tree(words.as_slice())?,
-            words,
+            name: step.name.as_slice(),
+            is_hypothesis: step.hyp,
+            places: places(self.alloc, step.places.as_slice())?,
+            reference: reference.as_slice(),
+            tokens: step.formula.as_slice().len(),
+            tree: self.tree(step.formula.as_slice())?,
         };
         self.steps.push(step)?;
-        if !self.names.insert(name)? {
-            return Err(UnifyFault::NotBuilt);
-        }
         Ok(())
     }
 
-    fn hypothesis(
-        &mut self,
-        name: &[u8],
-        places: &[u8],
-        label: &'a [u8],
-    ) -> Result<(), UnifyFault> {
-        if name == QED || !places.is_empty() {
+    fn hypothesis(&mut self, step: &SheetStep, label: &'a [u8]) -> Result<(), UnifyFault> {
+        if !step.places.as_slice().is_empty() {
             return Err(UnifyFault::NotBuilt);
         }
         self.keep_label(label)
     }
 
-    /// The numbers of the steps that a step lists.
-    fn places(&self, names: &[u8]) -> Result<Vec<usize>, UnifyFault> {
-        let mut places = Vec::new(self.alloc);
-        if names.is_empty() {
-            return Ok(places);
-        }
-        for name in names.split(|byte| *byte == b',') {
-            places.push(self.names.get_index_of(&name).ok_or(UnifyFault::NotBuilt)?)?;
-        }
-        Ok(places)
-    }
-
-    /// The tree of the formula behind a step's first word.
-    fn tree(&self, words: &[&[u8]]) -> Result<Tree, UnifyFault> {
-        let formula = words.get(1..).ok_or(UnifyFault::NotBuilt)?;
-        let leaves = self.db.leaves(formula)?.ok_or(UnifyFault::NotBuilt)?;
+    /// The tree of a formula.
+    fn tree(&self, formula: &[Name]) -> Result<Tree, UnifyFault> {
+        let words = words(self.alloc, formula)?;
+        let leaves = self
+            .db
+            .leaves(words.as_slice())?
+            .ok_or(UnifyFault::NotBuilt)?;
         formula_tree(self.db, leaves.as_slice())?.ok_or(UnifyFault::NotBuilt)
-    }
-
-    fn finish(self) -> Result<Sheet<'a>, UnifyFault> {
-        if self.part != Part::End || !self.names.contains(&QED) {
-            return Err(UnifyFault::NotBuilt);
-        }
-        Ok(Sheet {
-            title: self.title,
-            steps: self.steps,
-        })
     }
 }
 
-/// The name, the places and the reference of a step's first word.
-fn head(word: &[u8]) -> Option<(&[u8], &[u8], &[u8])> {
-    let (name, rest) = word.split_once_str(b":")?;
-    let (places, reference) = rest.split_once_str(b":")?;
-    Some((name, places, reference))
+/// The numbers of the steps that a step lists.
+fn places(alloc: Global, given: &[Given]) -> Result<Vec<usize>, UnifyFault> {
+    let mut places = Vec::new(alloc);
+    for place in given {
+        match place {
+            Given::Step(number) => places.push(*number as usize)?,
+            Given::Gap => return Err(UnifyFault::NotBuilt),
+        }
+    }
+    Ok(places)
+}
+
+/// The words of a formula.
+fn words(alloc: Global, formula: &[Name]) -> Result<Vec<&[u8]>, UnifyFault> {
+    let mut words = Vec::with_capacity(alloc, formula.len())?;
+    for word in formula {
+        words.push(word.as_slice())?;
+    }
+    Ok(words)
 }

@@ -1,28 +1,16 @@
+ghost use Rattle.std.specs.Prelude.{IfOk};
+ghost use Rattle.sheet_unify.specs.LaidOut.{IsLaidOut};
+
 use crate::database::Database;
 use crate::faults::UnifyFault;
 use crate::judging::{Judgement, judge_all};
 use crate::normal_proof::normal_proof;
-use crate::report::{ReportLine, ReportVerdict};
-use crate::sheet::{Sheet, Step, read_sheet};
-use mm_base::{Bytes, Kinds, List, MOST_SHEET_BYTES, Memory, Name};
+use crate::sheet::{Step, read_steps};
+use mm_base::{Bytes, List, MOST_SHEET_BYTES, Memory, Name};
+use sheet_print::{layout, layout_len};
+use sheet_text::Sheet;
 use std::alloc::Global;
-
-/// The form of the proof in a finished worksheet.
-#[derive(Clone, Copy, Debug, PartialEq, Eq)]
-pub enum ProofStyle {
-    /// All labels in a row (Metamath book, section 4.3).
-    Normal,
-    /// Labels in brackets and letters (Metamath book, appendix B).
-    Compressed,
-}
-
-/// How a worksheet is unified.
-#[derive(Debug, Drop)]
-pub struct Options {
-    pub style: ProofStyle,
-    /// The kinds that the database was opened with.
-    pub kinds: Kinds,
-}
+use written_model::{Options, ProofStyle, ReportLine, ReportVerdict};
 
 /// What came of a worksheet.
 #[derive(Debug, Drop)]
@@ -35,48 +23,51 @@ pub struct Outcome {
     pub finished: bool,
 }
 
-/// Unifies a worksheet for a theorem that the database does not have, and whose formulas are all given.
+/// Unifies a worksheet for a theorem that the database does not have, and whose formulas are all given. The worksheet is
+/// written with its comments and steps as they are, and with its proof where it is finished.
 ///
 /// # Errors
-/// `NotBuilt` where the worksheet has a fault or something that is not built yet, such as work variables, comments, blank
-/// formulas, steps without a reference or with fewer places than it has `$e`, and compressed proofs; or where it or its
-/// proof is larger than the limits. `Memory` where memory ran out.
+/// `NotBuilt` where the worksheet has a fault or something that is not built yet, such as work variables, blank formulas,
+/// steps without a reference or with fewer places than it has `$e`, and compressed proofs; or where it or its proof is
+/// larger than the limits. `Memory` where memory ran out.
 pub fn unify_sheet(
     alloc: Global,
     db: &Database,
-    text: &[u8],
+    sheet: &Sheet,
     options: &Options,
-) -> Result<Outcome, UnifyFault> {
+) -> Result<Outcome, UnifyFault>
+    ensures { IfOk result (λ outcome. IsLaidOut sheet.now outcome.text) }
+{
     if !db.has_kinds(&options.kinds) {
         return Err(UnifyFault::NotBuilt);
     }
-    let Sheet { title, steps } = read_sheet(alloc, db, text)?;
-    unify_steps(alloc, db, title, steps.as_slice(), options.style)
-}
-
-fn unify_steps(
-    alloc: Global,
-    db: &Database,
-    title: &[u8],
-    steps: &[Step],
-    style: ProofStyle,
-) -> Result<Outcome, UnifyFault> {
-    let judgements = judge_all(db, steps)?;
-    let finished = is_finished(alloc, steps, judgements.as_slice())?;
-    if finished && style == ProofStyle::Compressed {
-        return Err(UnifyFault::NotBuilt);
-    }
-    let mut text = steps_text(alloc, title, steps)?;
-    if finished {
-        let labels = normal_proof(alloc, db, steps, judgements.as_slice())?;
-        write_line(&mut text, &[b"$=", labels.as_slice(), b"$."])?;
-    }
-    write_line(&mut text, &[b"$)"])?;
+    let steps = read_steps(alloc, db, sheet)?;
+    let judgements = judge_all(db, steps.as_slice())?;
+    let finished = is_finished(alloc, steps.as_slice(), judgements.as_slice())?;
+    let text = if finished {
+        if options.style == ProofStyle::Compressed {
+            return Err(UnifyFault::NotBuilt);
+        }
+        let labels = normal_proof(alloc, db, steps.as_slice(), judgements.as_slice())?;
+        written_text(alloc, sheet, Some(labels.as_slice()))?
+    } else {
+        written_text(alloc, sheet, None)?
+    };
     Ok(Outcome {
-        text: List::from_vec(text),
-        report: report_of(alloc, steps, judgements.as_slice())?,
+        text,
+        report: report_of(alloc, steps.as_slice(), judgements.as_slice())?,
         finished,
     })
+}
+
+/// The worksheet as it is written.
+fn written_text(alloc: Global, sheet: &Sheet, proof: Option<&[u8]>) -> Result<Bytes, UnifyFault>
+    ensures { IfOk result (IsLaidOut sheet.now) }
+{
+    if layout_len(sheet, proof) > MOST_SHEET_BYTES {
+        return Err(UnifyFault::NotBuilt);
+    }
+    Ok(layout(alloc, sheet, proof)?)
 }
 
 /// Whether the last step, and each step that is listed on the way to it, is a hypothesis or fits.
@@ -124,6 +115,8 @@ fn report_of(
             name: name_of(alloc, step.name)?,
             verdict: judgement.verdict,
             reference,
+            clash: None,
+            lack: None,
         })?;
     }
     Ok(List::from_vec(lines))
@@ -131,31 +124,4 @@ fn report_of(
 
 fn name_of(alloc: Global, bytes: &[u8]) -> Result<Name, Memory> {
     Ok(List::from_vec(Vec::from_slice(alloc, bytes)?))
-}
-
-/// The header and the steps, as they are written.
-fn steps_text(alloc: Global, title: &[u8], steps: &[Step]) -> Result<Vec<u8>, UnifyFault> {
-    let mut text = Vec::new(alloc);
-    let header: [&[u8]; 5] = [b"$(", b"<MM>", b"<PROOF_ASST>", title, b"LOC_AFTER=?"];
-    write_line(&mut text, &header)?;
-    for step in steps {
-        write_line(&mut text, step.words.as_slice())?;
-    }
-    Ok(text)
-}
-
-/// Writes words on a line of their own, parted by one space.
-fn write_line(text: &mut Vec<u8>, words: &[&[u8]]) -> Result<(), UnifyFault> {
-    for (number, word) in words.iter().enumerate() {
-        if number > 0 {
-            text.push(b' ')?;
-        }
-        text.extend_from_slice(word)?;
-        // the line feed still has to fit
-        if text.len() as u64 >= MOST_SHEET_BYTES {
-            return Err(UnifyFault::NotBuilt);
-        }
-    }
-    text.push(b'\n')?;
-    Ok(())
 }

@@ -11,7 +11,7 @@ use Rattle.proof_model.specs.Codes.{normal_code}
 use Rattle.sheet_text.specs.Layout.{ended}
 use Rattle.solve_model.specs.Example.{P, split}
 use Rattle.solve_model.specs.ExampleSheets.{sheet_after, sheet_text}
-use Rattle.written_model.specs.CommandWords.{Command, usage_line}
+use Rattle.written_model.specs.CommandWords.{UnifyCommand, usage_line}
 use Rattle.written_model.specs.FaultLines.{database_line}
 use Rattle.written_model.specs.Headline.{Ending, Headline, bad_database, unified, IsAnswered, ProvesItself}
 use Rattle.written_model.specs.WrittenExample.{normal}
@@ -26,7 +26,7 @@ usage = record { out = refl; log = refl; status = refl }
 
 -- ---- words that fit one, over no files, have no answer
 
-nothing : (command : Command) (end : Ending) → Headline no_files command end → ⊥
+nothing : (command : UnifyCommand) (end : Ending) → Headline no_files command end → ⊥
 nothing command end (bad_database named e r) = cc
 nothing command end (unified named e given is u) = cc
 

@@ -22,6 +22,16 @@ sheet_faults = (40, codes "NoHeader") ∷ (41, codes "BadHeader") ∷ (42, codes
     ∷ (66, codes "UnknownSymbol") ∷ (67, codes "NoTree") ∷ (68, codes "TwoTrees") ∷ (69, codes "Blank") ∷ (70, codes "NotVariable") ∷ (71, codes "FormulaLong")
     ∷ (72, codes "HypLabelTwice") ∷ (73, codes "TheoremName") ∷ []
 
+-- the faults of a proof's code by their codes
+abbrev pub code_faults : List (ℕ × Name)
+code_faults = (1, codes "BadLetter") ∷ (2, codes "NumberTooLarge") ∷ (3, codes "MarkAtStart") ∷ (4, codes "MarkTwice") ∷ (5, codes "UnendedNumber") ∷ (6, codes "NoBracket")
+    ∷ (7, codes "MandatoryListed") ∷ (8, codes "LabelTwice") ∷ []
+
+-- the faults of a proof on the stack machine by their codes
+abbrev pub proof_faults : List (ℕ × Name)
+proof_faults = (1, codes "Underflow") ∷ (2, codes "TypeDiffers") ∷ (3, codes "HypDiffers") ∷ (4, codes "Shared") ∷ (5, codes "NotDistinct") ∷ (6, codes "NotEarlier")
+    ∷ (7, codes "LeftOver") ∷ (8, codes "ResultDiffers") ∷ (9, codes "Unknown") ∷ []
+
 abbrev pub fault_name : List (ℕ × Name) → ℕ → Name
 fault_name table code = option_map_or (λ (e : ℕ × Name). e.1) (find (λ (e : ℕ × Name). e.0 == code) table) []
 
@@ -40,3 +50,19 @@ refusal_line (too_large n) = sheet_error (codes "76" ∷ codes "TooLarge" ∷ co
 refusal_line (too_much_written n) = sheet_error (codes "77" ∷ codes "TooMuchWritten" ∷ codes "size" ∷ decimal n ∷ [])
 refusal_line (written_two_trees name) = sheet_error (codes "78" ∷ codes "WrittenTwoTrees" ∷ codes "step" ∷ name ∷ [])
 refusal_line (proof_too_long n) = sheet_error (codes "79" ∷ codes "ProofTooLong" ∷ codes "labels" ∷ decimal n ∷ [])
+
+-- `code error CODE NAME at INDEX`
+abbrev pub code_line : Fault → List ℕ
+code_line f = spaced (codes "code" ∷ codes "error" ∷ decimal f.code ∷ fault_name code_faults f.code ∷ codes "at" ∷ decimal f.place ∷ [])
+
+-- `proof error CODE NAME at INDEX`
+abbrev pub proof_line : Fault → List ℕ
+proof_line f = spaced (codes "proof" ∷ codes "error" ∷ decimal f.code ∷ fault_name proof_faults f.code ∷ codes "at" ∷ decimal f.place ∷ [])
+
+-- `no theorem LABEL`
+abbrev pub no_theorem_line : Name → List ℕ
+no_theorem_line theorem = spaced (codes "no" ∷ codes "theorem" ∷ theorem ∷ [])
+
+-- `LABEL accepted`
+abbrev pub accepted_line : Name → List ℕ
+accepted_line theorem = spaced (theorem ∷ codes "accepted" ∷ [])

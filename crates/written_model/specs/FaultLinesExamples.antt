@@ -3,7 +3,7 @@ use Rattle.std.specs.Prelude.{◌≡◌, [], ◌∷◌, map, codes, refl}
 use Rattle.std.specs.Fmt.{digits}
 use Rattle.mm_model.specs.Faults.{fault}
 use Rattle.written_model.specs.Written.{at_line, too_much, formula_too_long, written_two_trees, too_much_written, proof_too_long, too_large}
-use Rattle.written_model.specs.FaultLines.{database_line, refusal_line}
+use Rattle.written_model.specs.FaultLines.{database_line, refusal_line, code_line, proof_line, no_theorem_line, accepted_line}
 
 pub of_database : database_line (fault 13 12) ≡ codes "database error 12 Redeclared at byte 13"
 unfolding digits
@@ -45,3 +45,17 @@ of_two_trees = refl
 pub of_labels : refusal_line (proof_too_long 1064935) ≡ codes "sheet error 79 ProofTooLong labels 1064935"
 unfolding digits
 of_labels = refl
+
+pub of_code : code_line (fault 0 3) ≡ codes "code error 3 MarkAtStart at 0"
+unfolding digits
+of_code = refl
+
+pub of_proof : map proof_line (fault 3 8 ∷ fault 0 9 ∷ fault 0 7 ∷ []) ≡ codes "proof error 8 ResultDiffers at 3" ∷ codes "proof error 9 Unknown at 0" ∷ codes "proof error 7 LeftOver at 0" ∷ []
+unfolding digits
+of_proof = refl
+
+pub of_theorem : no_theorem_line (codes "ax-1") ≡ codes "no theorem ax-1"
+of_theorem = refl
+
+pub of_accepted : accepted_line (codes "good") ≡ codes "good accepted"
+of_accepted = refl

@@ -21,8 +21,10 @@ use Rattle.written_model.specs.declared.options.Options.{Options}
 use Rattle.written_model.specs.declared.options.ProofStyle.{ProofStyle}
 use Rattle.written_model.specs.declared.options.ProofStyle.TheVariants as style
 use Rattle.written_model.specs.Written.{Writing, Answer, Answers, wrote, refused, frames_of, written_text, written_log}
-use Rattle.written_model.specs.FaultLines.{database_line, refusal_line}
-use Rattle.written_model.specs.CommandWords.{Command, command_of, usage_line}
+use Rattle.written_model.specs.FaultLines.{database_line, refusal_line, code_line, proof_line, no_theorem_line, accepted_line}
+use Rattle.written_model.specs.CommandWords.{UnifyCommand, VerifyCommand, Command, unify, verify, command_of, usage_line}
+use Rattle.written_model.specs.Verified.{Verdict, no_theorem, accepted, bad_code, IsVerdict}
+use Rattle.written_model.specs.Verified as verified
 
 -- ---- what a written text says of itself
 
@@ -92,17 +94,32 @@ pub record Unifies (db : Database) (options : Options) (sheet : List ℕ) (end :
   pub no_proof : end.status ≡ status.Unfinished → proof_tokens end.out ≡ None
   pub again : (w : Writing) → answer ≡ wrote w → IsFixed db options end.out w.finished
 
--- a database with a fault is refused; over another the worksheet is unified. Where a file that is looked at is missing, nothing is an answer
-pub data Headline (files : Files) (command : Command) (end : Ending) : Type 0 where
+-- what a verdict on a proof is told by: one line in the output where the proof is accepted, and else one in the log
+abbrev pub Tells : Name → Verdict → Ending → Type 0
+Tells theorem no_theorem end = Refuses end status.Proof (no_theorem_line theorem)
+Tells theorem (bad_code f) end = Refuses end status.Proof (code_line f)
+Tells theorem (verified.refused f) end = Refuses end status.Proof (proof_line f)
+Tells theorem accepted end = end ≡ record { out = ended (accepted_line theorem); log = []; status = status.Finished }
+
+-- `unify`: a database with a fault is refused; over another the worksheet is unified. Where a file that is looked at is missing, nothing is an answer
+pub data Headline (files : Files) (command : UnifyCommand) (end : Ending) : Type 0 where
   bad_database : {database : List ℕ} {f : Fault} → files command.database ≡ Some database → database_fault database ≡ Some f → Refuses end status.Database (database_line f)
       → Headline files command end
   unified : {database sheet : List ℕ} {db : Database} → files command.database ≡ Some database → database_fault database ≡ None → files command.sheet ≡ Some sheet
       → IsDatabaseOf command.options.kinds database db → Unifies db command.options sheet end → Headline files command end
 
+-- `verify`: a database with a fault is refused; of another the theorem's proof is told. Where the file is missing, nothing is an answer
+pub data IsVerified (files : Files) (command : VerifyCommand) (end : Ending) : Type 0 where
+  refused_database : {database : List ℕ} {f : Fault} → files command.database ≡ Some database → database_fault database ≡ Some f → Refuses end status.Database (database_line f)
+      → IsVerified files command end
+  told : {database : List ℕ} (verdict : Verdict) → files command.database ≡ Some database → database_fault database ≡ None
+      → IsVerdict database command.theorem verdict → Tells command.theorem verdict end → IsVerified files command end
+
 -- the words fit no command, or they are a command
 abbrev pub IsAnsweredFor : Files → Option Command → Ending → Type 0
 IsAnsweredFor files None end = Refuses end status.Words usage_line
-IsAnsweredFor files (Some command) end = Headline files command end
+IsAnsweredFor files (Some (unify command)) end = Headline files command end
+IsAnsweredFor files (Some (verify command)) end = IsVerified files command end
 
 -- the headline: what a call gives is the answer to these words over these files
 abbrev pub IsAnswered : Files → List Name → Ending → Type 0

@@ -15,6 +15,8 @@ pub mod ProofsPush
 pub mod ReadBack
 pub mod Report
 pub mod WholeExample
+pub mod Verified
+pub mod VerifiedExamples
 pub mod Written
 pub mod WrittenAgain
 pub mod WrittenExample

@@ -1,0 +1,17 @@
+use Rattle.mmp.proofs.Texts.{may_refuse, may_refuse_sheet, may_answer_sheet}
+use Rattle.mmp.proofs.run.answer_unify.Goals as goal
+
+pub returns-in-Refused-clause-answer : goal.returns-in-Refused-clause-answer
+returns-in-Refused-clause-answer g c = may_refuse _ _ _ _ c.in-Refused.answer (rw c.in-Refused.is at c.in_ok-text.ensures.opened)
+
+pub returns-in-Sheet-clause-answer : goal.returns-in-Sheet-clause-answer
+returns-in-Sheet-clause-answer g c =
+    let opened = rw c.in-Database.is at c.in_ok-text.ensures.opened in
+    let sheet = rw (c.in-Sheet.is, c.in_ok-text.ensures.same_files) at c.in_ok-sheet.ensures.opened in
+    may_answer_sheet _ _ _ _ c.in-Database.text c.in-Sheet.sheet c.answer_sheet.result opened sheet c.answer_sheet.ensures.answer c.answer_sheet.ensures.status
+
+pub returns-clause-answer : goal.returns-clause-answer
+returns-clause-answer g c =
+    let opened = rw c.in-Database.is at c.in_ok-text.ensures.opened in
+    let refused = rw (c.in-Refused-2.is, c.in_ok-text.ensures.same_files) at c.in_ok-sheet.ensures.opened in
+    may_refuse_sheet _ _ _ _ _ c.in-Database.text c.in-Refused-2.answer opened c.in_ok-text.ensures.read_faults refused
