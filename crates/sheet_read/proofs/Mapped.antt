@@ -91,6 +91,12 @@ entry-known names entry more g h = rw (g, h) refl
 pub entry-given : (names : List (List ℕ)) (entry : List ℕ) (n : ℕ) → is_gap entry ≡ false → first_number (bytes_eq entry) names ≡ Some n → given.Step n ≡ given_of names (entry_of entry)
 entry-given names entry n g h = rw (g, h) refl
 
+pub gap-known : (names : List (List ℕ)) (entry : List ℕ) (more : List (List ℕ)) → is_gap entry ≡ true → is_unknown names (map entry_of (entry ∷ more)) ≡ is_unknown names (map entry_of more)
+gap-known names entry more g = rw g refl
+
+pub gap-given : (names : List (List ℕ)) (entry : List ℕ) → is_gap entry ≡ true → given.Gap ≡ given_of names (entry_of entry)
+gap-given names entry g = rw g refl
+
 -- ---- a last `$.`
 
 pub end-cut : (ts : List (Bor (List ℕ))) (n : ℕ) (d : Bor (List ℕ)) → length ts ≡ suc n → is_end (get_or ts n d).now ≡ true → targets (take n ts) ≡ without_end (targets ts)
