@@ -1,12 +1,14 @@
 -- What is folded over the variables of a tree, by its parts.
-use Rattle.std.proofs.Common.{◌≡◌, ℕ, ◌+◌, ◌<◌, ◌≤◌, List, [], ◌∷◌, ◌++◌, map, take, fold, length, get_or, Some, append_assoc, refl, sym, ap, ◌∙◌}
+use Rattle.std.proofs.Common.{◌≡◌, ℕ, ◌+◌, ◌<◌, ◌≤◌, List, [], ◌∷◌, map, take, fold, length, get_or, Some, refl, sym, ap, ◌∙◌}
 use Rattle.std.specs.Option.{option_map_or}
-use Rattle.std.proofs.lemmas.List.{append-nil, take_all}
+use Rattle.std.proofs.lemmas.List.{take_all}
 use Rattle.std.proofs.lemmas.List.Concat.{flat_map-cons}
 use Rattle.std.proofs.lemmas.List.Sums.{fold-append, fold_more}
 use Rattle.mm_base.specs.declared.symbols.Sym.{Sym}
 use Rattle.mm_base.specs.declared.tree.Tree.{Tree}
 use Rattle.solve_model.specs.Trees.{variables, flatten}
+use Rattle.mm_model.specs.Names.{sym as symbol}
+use Rattle.distinct_vars.specs.NeededKeys.{distinct, put_number}
 use Rattle.distinct_vars.specs.Values.{value_at, variables_at}
 
 module _ {X : Type 0} (f : X → Sym → X) where
@@ -32,14 +34,7 @@ module _ {X : Type 0} (f : X → Sym → X) where
 
 -- ---- variables listed
 
-abbrev push : List Sym → Sym → List Sym
-push xs s = xs ++ s ∷ []
-
-pushed : (xs ys : List Sym) → fold push xs ys ≡ xs ++ ys
-pushed xs [] = sym (append-nil xs)
-pushed xs (y ∷ ys) = pushed (xs ++ y ∷ []) ys ∙ append_assoc xs (y ∷ []) ys
-
-pub listed_at : (vars : List Sym) (trees : List Tree) (s : Sym) (t : Tree) (start items : List Sym) → Some t ≡ value_at vars trees s → start ≡ [] → items ≡ fold (λ xs s. xs ++ s ∷ []) start (variables t)
-    → items ≡ variables_at vars trees s
-listed_at vars trees s t start items e none is =
-    is ∙ pushed start (variables t) ∙ ap (λ xs. xs ++ variables t) none ∙ ap (λ o. option_map_or variables o []) e
+pub listed_at : (vars : List Sym) (trees : List Tree) (s : Sym) (t : Tree) (start numbers : List ℕ) → Some t ≡ value_at vars trees s → start ≡ [] → numbers ≡ fold put_number start (variables t)
+    → map symbol numbers ≡ distinct (variables_at vars trees s)
+listed_at vars trees s t start numbers e none is =
+    ap (map symbol) (is ∙ ap (λ ns. fold put_number ns (variables t)) none) ∙ ap (λ o. distinct (option_map_or variables o [])) e

@@ -1,6 +1,7 @@
 -- Needed pairs as a set of keys: two numbers, the lesser first.
-use Rattle.std.specs.Prelude.{ℕ, List, map, fold, if◌then◌else◌}
-use Rattle.std.specs.BTreeSet.{BTreeSet}
+use Rattle.std.specs.Prelude.{ℕ, List, [], map, fold, if◌then◌else◌}
+use Rattle.std.specs.BTreeSet.{BTreeSet, insert_key}
+use Rattle.std.specs.Ordering.{nat_cmp}
 use Rattle.mm_base.specs.declared.symbols.Sym.{Sym}
 use Rattle.mm_base.specs.declared.symbols.Pair.{Pair}
 use Rattle.mm_base.specs.declared.tree.Tree.{Tree}
@@ -28,6 +29,14 @@ put_row ys ps v = fold (λ acc w. put_needed acc (v, w)) ps ys
 abbrev pub put_all : List Sym → List Sym → List Pair → List Pair
 put_all xs ys ps = fold (put_row ys) ps xs
 
+-- the number of one more variable in a set of numbers
+abbrev pub put_number : List ℕ → Sym → List ℕ
+put_number ns s = insert_key nat_cmp ns s.0
+
+-- the variables by their numbers, each once
+abbrev pub distinct : List Sym → List Sym
+distinct xs = map sym (fold put_number [] xs)
+
 -- what a pair of the frame needs
 abbrev pub put_of : List Sym → List Tree → List Pair → Pair → List Pair
-put_of vars trees ps p = put_all (variables_at vars trees p.a) (variables_at vars trees p.b) ps
+put_of vars trees ps p = put_all (distinct (variables_at vars trees p.a)) (distinct (variables_at vars trees p.b)) ps

@@ -1,51 +1,64 @@
-ghost use Rattle.std.specs.Prelude.{◌≡◌, [], ◌∷◌, ◌++◌, fold, IfOk, OnOk};
+ghost use Rattle.std.specs.Prelude.{◌≡◌, [], fold, map, IfOk, OnOk};
+ghost use Rattle.mm_model.specs.Names.{sym};
 ghost use Rattle.solve_model.specs.PairSets.{ordered};
 ghost use Rattle.solve_model.specs.Trees.{variables};
 ghost use Rattle.written_model.specs.Pairs.{needed as needed_by_use};
 ghost use Rattle.written_model.specs.WrittenSteps.{Use};
-ghost use Rattle.distinct_vars.specs.NeededKeys.{pair_of, pairs_of, put_all, put_needed, put_of, put_row};
+ghost use Rattle.distinct_vars.specs.NeededKeys.{distinct, pair_of, pairs_of, put_all, put_needed, put_number, put_of, put_row};
 ghost use Rattle.distinct_vars.specs.Uses.{IsUseOf};
 ghost use Rattle.distinct_vars.specs.Values.{variables_at};
 
 use crate::values::value;
 use mm_base::{List, Memory, Pair, Sym, Tree};
+use solve_laws::pair_sets_are_sorted;
 use std::alloc::Global;
 use std::collections::BTreeSet;
 
 /// The numbers of two variables, the lesser first.
 type Keys = BTreeSet<(u32, u32)>;
 
-fn add_variables(tree: &Tree, found: &mut Vec<Sym>) -> Result<(), Memory>
-    ensures { OnOk result (found.new.items ≡ fold (λ xs s. xs ++ s ∷ []) found.old.items (variables tree.now)) }
+/// Puts in the numbers of a tree's variables.
+fn add_variables(tree: &Tree, numbers: &mut BTreeSet<u32>) -> Result<(), Memory>
+    ensures { OnOk result (numbers.new.keys ≡ fold put_number numbers.old.keys (variables tree.now)) }
 {
     match tree {
-        Tree::Var(symbol, _) => Ok(found.push(*symbol)?),
+        Tree::Var(symbol, _) => {
+            numbers.insert(symbol.0)?;
+            Ok(())
+        }
         Tree::Work(_, _) => Ok(()),
         Tree::Fresh(_, _) => Ok(()),
         Tree::Node(_, _, children) => {
             for child in children.as_slice() {
-                add_variables(child, found)?;
+                add_variables(child, numbers)?;
             }
             Ok(())
         }
     }
 }
 
-/// The variables of the value of a variable.
+fn symbols(alloc: Global, numbers: &BTreeSet<u32>) -> Result<Vec<Sym>, Memory>
+    ensures { IfOk result (λ symbols. symbols.items ≡ map sym numbers.now.keys) }
+{
+    let symbols = numbers.iter().map(|number| Sym(*number)).collect(alloc)?;
+    Ok(symbols)
+}
+
+/// The variables of the value of a variable, each once.
 fn variables_of(
     alloc: Global,
     vars: &[Sym],
     trees: &[Tree],
     symbol: Sym,
 ) -> Result<Vec<Sym>, Memory>
-    ensures { IfOk result (λ found. found.items ≡ variables_at vars.now trees.now symbol) }
+    ensures { IfOk result (λ found. found.items ≡ distinct (variables_at vars.now trees.now symbol)) }
 {
     match value(vars, trees, symbol) {
         None => Ok(Vec::new(alloc)),
         Some(tree) => {
-            let mut found = Vec::new(alloc);
-            add_variables(tree, &mut found)?;
-            Ok(found)
+            let mut numbers = BTreeSet::new(alloc);
+            add_variables(tree, &mut numbers)?;
+            symbols(alloc, &numbers)
         }
     }
 }
@@ -137,6 +150,7 @@ pub fn needed(
 ) -> Result<List<Pair>, Memory>
     ensures { IfOk result (λ list. (u : Use) → IsUseOf u pairs.now vars.now trees.now → list ≡ needed_by_use u) }
 {
+    pair_sets_are_sorted();
     let keys = needed_keys(alloc, pairs.as_slice(), vars.as_slice(), trees.as_slice())?;
     listed(alloc, &keys)
 }

@@ -10,4 +10,4 @@ returns c =
     e ∙ c.in_ok-keys.ensures
     ∙ put_same_all c.as_slice-2.result.now c.args.vars.now c.as_slice-3.result.now c.args.trees.now c.as_slice.result.now c.args.pairs.now c.as_slice-2.ensures c.as_slice-3.ensures
     c.as_slice.ensures
-    ∙ needed_is u c.args.pairs.now c.args.vars.now c.args.trees.now is) c.listed.ensures
+    ∙ needed_is c.pair_sets_are_sorted.ensures.in_order u c.args.pairs.now c.args.vars.now c.args.trees.now is) c.listed.ensures
