@@ -117,6 +117,13 @@ impl Frames {
         self.symbols.name(symbol.0)
     }
 
+    /// The number of symbols; they are numbered from 0, in the order in which they were first declared.
+    pub fn symbols(&self) -> u32
+        ensures { result ≡ length self.now.symbols }
+    {
+        self.symbols.count()
+    }
+
     /// The number of labels; they are numbered from 0.
     pub fn labels(&self) -> u32
         ensures { result ≡ length self.now.labels }
