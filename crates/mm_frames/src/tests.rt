@@ -196,7 +196,7 @@ fn frames_and_places(rt: HostRuntime) -> Result<(), Fail> {
     );
     let class = frames.symbol(b"class").ok_or("no symbol")?;
     let label = frames.label(b"min").ok_or("no label")?;
-    if class.0 < frames.symbols() && label.0 < frames.labels() && 15 <= frames.end() {
+    if label.0 < frames.labels() && 15 <= frames.end() {
         assert!(rt; !frames.constant_at(class, 14) && frames.constant_at(class, 15));
         assert_eq!(rt; frames.place_after(label), 12);
         assert_eq!(rt; frames.float_codes(5)?.as_slice().len(), 3);
