@@ -165,3 +165,6 @@ fn close_all(arena: &mut Arena, start: u32) -> bool
     true
 }
 
+
+#[cfg(test)]
+mod tests;
