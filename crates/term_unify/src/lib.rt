@@ -1,14 +1,14 @@
-//! Unification of two nodes of a store of terms.
+//! Unification of two nodes of a store of terms, and the most general tree of a node.
 #![tactic(auto)]
 
 mod reading;
 
 pub use reading::read_off;
 
-ghost use Rattle.std.specs.Prelude.{◌≡◌, ◌<◌, ◌≤◌, length, drop, true, List, IsOk, OnOk, OnErr, ◌↔◌};
+ghost use Rattle.std.specs.Prelude.{◌≡◌, ◌<◌, ◌≤◌, ◌++◌, length, drop, true, List, IsOk, OnOk, OnErr, ◌↔◌};
 ghost use Rattle.mm_base.specs.declared.tree.Tree.{Tree};
 ghost use Rattle.std.specs.Bool.{OnTrue, OnFalse};
-ghost use Rattle.term_model.specs.Links.{end_of, link_at};
+ghost use Rattle.term_model.specs.Links.{Link, end_of, link_at};
 ghost use Rattle.term_model.specs.Store.{tree_at, ends_of, Agrees, IsClosed, IsClosedUpTo, IsSolved, IsStore, Solution, HasSolution};
 ghost use Rattle.term_model.specs.Terms.{term_at, children_of};
 ghost use Rattle.std.specs.List.{AllByRecursion};
@@ -20,7 +20,10 @@ use term_arena::{Arena, Id, Shape};
 #[derive(Clone, Copy, Debug, PartialEq, Eq)]
 pub struct NoFit;
 
-/// Makes two nodes equal in every solution, where a solution allows it. It takes no memory.
+/// Makes two nodes equal: Ok where some solution gives them one tree, and the solutions are then exactly those that do.
+/// Bindings are added at the end, at most one for each node, and no node is added or copied. It takes no memory, and time
+/// in proportion to the pairs of nodes that it joins, the bindings that lead from them to their ends, and what hangs on
+/// the nodes that it bound. `NoFit`: no solution gives them one tree, and nothing has changed.
 pub fn unify(arena: &mut Arena, a: Id, b: Id) -> Result<(), NoFit>
     requires ready { arena.old.ready ≡ true }
     requires a { a.0 < length arena.old.nodes }
@@ -31,6 +34,7 @@ pub fn unify(arena: &mut Arena, a: Id, b: Id) -> Result<(), NoFit>
     ensures solved { IsSolved arena.new.nodes arena.new.links }
     ensures fits { IsOk result ↔ ((trees : List Tree) × Solution arena.old.nodes arena.old.links trees × HaveSameTree a.0 b.0 trees) }
     ensures solutions { OnOk result ((trees : List Tree) → Solution arena.new.nodes arena.new.links trees ↔ (Solution arena.old.nodes arena.old.links trees × HaveSameTree a.0 b.0 trees)) }
+    ensures bindings { OnOk result ((more : List Link) × (arena.new.links ≡ arena.old.links ++ more)) }
     ensures unchanged { OnErr result (arena.new ≡ arena.old) }
 {
     let mark = arena.mark();
@@ -165,3 +169,6 @@ fn close_all(arena: &mut Arena, start: u32) -> bool
     true
 }
 
+
+#[cfg(test)]
+mod tests;

@@ -36,3 +36,8 @@ returns-clause-fits c =
     let both = (solved c.args.arena.now c.merge.new.arena c.close_all.new.arena c.close_all.new.arena c.args.a.0 c.args.b.0 c.merge.ensures.extends c.if-not-merge.ensures.joined c.if-not-merge.ensures.forced
       c.close_all.ensures.extends c.if-not-close_all.ensures.kept refl one.0).0 one.1 in
     (λ _. (one.0, both.0, both.1), λ _. refl)
+
+pub returns-clause-bindings : goal.returns-clause-bindings
+returns-clause-bindings c =
+    let p = extends_trans c.args.arena.now c.merge.new.arena c.close_all.new.arena c.merge.ensures.extends c.close_all.ensures.extends in
+    (p.more, rw c.acyclic_since.ensures.same p.links)
