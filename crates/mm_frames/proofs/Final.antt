@@ -12,12 +12,13 @@ use Rattle.mm_model.specs.Tokens.{tokens}
 use Rattle.mm_model.specs.Statements.{Statement, is, is_one_of, body, unended, ended, statements, labels, labels_in, symbols_in, has_one_of}
 use Rattle.mm_model.specs.Frames.{symbols, positions, positions_from, symbol_in, formula_of, without_repeats}
 use Rattle.mm_frames.specs.declared.reader.Reader.{Reader}
-use Rattle.mm_frames.specs.declared.reader.Entry.{Entry}
-use Rattle.mm_frames.specs.declared.reader.EntryKind.{EntryKind}
+use Rattle.frame_lists.specs.declared.entry.Entry.{Entry}
+use Rattle.frame_lists.specs.declared.entry.EntryKind.{EntryKind}
 use Rattle.mm_frames.specs.declared.reader.Stage.{Stage}
 use Rattle.mm_frames.specs.declared.reader.Stage.TheVariants as stage
 use Rattle.mm_frames.specs.Reading.{last_code, last_code_at}
-use Rattle.mm_frames.specs.Contents.{Contents, contents_of, entry_in}
+use Rattle.frame_lists.specs.Entries.{entry_in}
+use Rattle.mm_frames.specs.Contents.{Contents, contents_of}
 use Rattle.mm_frames.specs.Kept.{contents_in}
 use Rattle.mm_frames.proofs.Numbers.{name_of, Injective, Within}
 use Rattle.mm_frames.proofs.State.{adds, label_names, flat-last}

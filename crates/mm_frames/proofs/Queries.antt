@@ -4,8 +4,9 @@ use Rattle.mm_base.specs.declared.symbols.Label.{Label}
 use Rattle.mm_model.specs.Names.{Name}
 use Rattle.mm_model.specs.Statements.{Statement, statements}
 use Rattle.mm_model.specs.Frames.{symbols, positions, proof_range}
-use Rattle.mm_frames.specs.declared.reader.Entry.{Entry}
-use Rattle.mm_frames.specs.Contents.{Contents, contents_of, entry_in, proof_of, proof_at}
+use Rattle.frame_lists.specs.declared.entry.Entry.{Entry}
+use Rattle.frame_lists.specs.Entries.{entry_in, proof_of}
+use Rattle.mm_frames.specs.Contents.{Contents, contents_of, proof_at}
 
 get-entry : (names : List Name) (ss : List Statement) (i : ℕ) → slice_get (map (entry_in names) ss) i ≡ option_map (entry_in names) (slice_get ss i)
 get-entry names [] zero = refl

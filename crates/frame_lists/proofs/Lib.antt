@@ -1,0 +1,16 @@
+pub mod HypothesisLaws
+pub mod MandatoryLaws
+pub mod Added
+pub mod ByNumber
+pub mod Keywords
+pub mod Members
+pub mod Numbered
+pub mod PairOrder
+pub mod Passing
+pub mod Placed
+pub mod StateLaws
+pub mod PairLaws
+pub mod Upto
+pub mod UptoLaws
+pub mod FrameLaws
+pub mod ActiveLaws

@@ -1,0 +1,5 @@
+pub mod Entries
+pub mod Listings
+pub mod Lists
+pub mod Orders
+pub mod Steps
