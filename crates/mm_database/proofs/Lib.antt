@@ -1,8 +1,10 @@
+mod Constants
 mod Floats
 mod HeadLaws
 mod Lists
 mod Repeats
 mod Syntax
 mod Typed
+mod Usable
 mod Wholes
 mod Zips

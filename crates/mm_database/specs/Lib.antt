@@ -1,4 +1,5 @@
 pub mod Assertions
+pub mod Books
 pub mod Formulas
 pub mod HeadKeys
 pub mod Heads

@@ -1,4 +1,4 @@
-//! An opened database: its statements, its productions, and the trees of its assertions.
+//! An opened database: its statements, its productions, and the trees of its usable assertions.
 #![tactic(auto)]
 
 mod assertions;
