@@ -100,7 +100,7 @@ module _ (names : List Name) where
       let sum : 1 + position_or_len (bytes_eq n) xs ≡ suc (length xs) = omega (arith, later) in
       rw parts.0 sum
 
-  place-name : (n : Name) (xs : List Name) → contains xs n ≡ true → get_or xs (position_or_len (bytes_eq n) xs) [] ≡ n
+  pub place-name : (n : Name) (xs : List Name) → contains xs n ≡ true → get_or xs (position_or_len (bytes_eq n) xs) [] ≡ n
   place-name n [] h = absurd cc
   place-name n (x ∷ xs) h = elim (cases_Bool (bytes_eq n x)) [
     | inl e ↦ rw e (sym (same-names n x e))
@@ -251,7 +251,11 @@ kept_names seen (x ∷ ns) n h new = elim (cases_Bool (contains seen x)) [
   ]
 ]
 
-declares : (s : Statement) → has_keyword (codes "$v") s ≡ true → has_one_of (codes "$c" ∷ codes "$v" ∷ []) s ≡ true
+-- a `$c` or a `$v`
+abbrev pub declaring : Statement → Bool
+declaring s = has_one_of (codes "$c" ∷ codes "$v" ∷ []) s
+
+declares : (s : Statement) → has_keyword (codes "$v") s ≡ true → declaring s ≡ true
 declares s h = go (body s) h
   where
     go : (ws : List Word) → list_any (is (codes "$v")) (take 1 ws) ≡ true → list_any (is_one_of (codes "$c" ∷ codes "$v" ∷ [])) (take 1 ws) ≡ true
@@ -261,20 +265,31 @@ declares s h = go (body s) h
       | inr e ↦ let bad : false ≡ true = rw e at h in absurd cc
     ]
 
-stands : (ss : List Statement) (k : ℕ) (s : Statement) (n : Name) → slice_get ss k ≡ Some s → has_keyword (codes "$v") s ≡ true → contains (symbols_in s) n ≡ true
-    → contains (flat_map symbols_in (filter (has_one_of (codes "$c" ∷ codes "$v" ∷ [])) ss)) n ≡ true
+pub declares-constants : (s : Statement) → has_keyword (codes "$c") s ≡ true → declaring s ≡ true
+declares-constants s h = go (body s) h
+  where
+    go : (ws : List Word) → list_any (is (codes "$c")) (take 1 ws) ≡ true → list_any (is_one_of (codes "$c" ∷ codes "$v" ∷ [])) (take 1 ws) ≡ true
+    go [] h = absurd cc
+    go (w ∷ ws) h = elim (cases_Bool (is (codes "$c") w)) [
+      | inl e ↦ rw e refl
+      | inr e ↦ let bad : false ≡ true = rw e at h in absurd cc
+    ]
+
+stands : (ss : List Statement) (k : ℕ) (s : Statement) (n : Name) → slice_get ss k ≡ Some s → declaring s ≡ true → contains (symbols_in s) n ≡ true → contains (flat_map symbols_in (filter declaring ss)) n ≡ true
 stands [] k s n at v h = absurd cc
 stands (x ∷ ss) zero s n at v h =
     let same : s ≡ x = cc in
-    let pass = declares s v in
-    let there : has_one_of (codes "$c" ∷ codes "$v" ∷ []) x ≡ true = ap (λ y. has_one_of (codes "$c" ∷ codes "$v" ∷ []) y) (sym same) ∙ pass in
-    rw there (list_any-append (bytes_eq n) (symbols_in x) (flat_map symbols_in (filter (has_one_of (codes "$c" ∷ codes "$v" ∷ [])) ss)) ∙ or_left (contains (symbols_in x) n) _ (ap (λ y. contains (symbols_in y) n) (sym same) ∙ h))
+    let there : declaring x ≡ true = ap declaring (sym same) ∙ v in
+    rw there (list_any-append (bytes_eq n) (symbols_in x) (flat_map symbols_in (filter declaring ss)) ∙ or_left (contains (symbols_in x) n) _ (ap (λ y. contains (symbols_in y) n) (sym same) ∙ h))
 stands (x ∷ ss) (suc k) s n at v h =
     let later = stands ss k s n at v h in
-    elim (cases_Bool (has_one_of (codes "$c" ∷ codes "$v" ∷ []) x)) [
-      | inl e ↦ rw e (list_any-append (bytes_eq n) (symbols_in x) (flat_map symbols_in (filter (has_one_of (codes "$c" ∷ codes "$v" ∷ [])) ss)) ∙ or_right (contains (symbols_in x) n) _ later)
+    elim (cases_Bool (declaring x)) [
+      | inl e ↦ rw e (list_any-append (bytes_eq n) (symbols_in x) (flat_map symbols_in (filter declaring ss)) ∙ or_right (contains (symbols_in x) n) _ later)
       | inr e ↦ rw e later
     ]
 
+pub declared-known : (ss : List Statement) (k : ℕ) (s : Statement) (n : Name) → slice_get ss k ≡ Some s → declaring s ≡ true → contains (symbols_in s) n ≡ true → contains (symbols ss) n ≡ true
+declared-known ss k s n at v h = kept_names [] (flat_map symbols_in (filter declaring ss)) n (stands ss k s n at v h) refl
+
 pub variable-known : (ss : List Statement) (k : ℕ) (s : Statement) (n : Name) → slice_get ss k ≡ Some s → has_keyword (codes "$v") s ≡ true → contains (symbols_in s) n ≡ true → contains (symbols ss) n ≡ true
-variable-known ss k s n at v h = kept_names [] (flat_map symbols_in (filter (has_one_of (codes "$c" ∷ codes "$v" ∷ [])) ss)) n (stands ss k s n at v h) refl
+variable-known ss k s n at v h = declared-known ss k s n at (declares s v) h

@@ -12,6 +12,8 @@ use Rattle.frame_lists.specs.declared.entry.EntryKind.TheVariants as entry
 use Rattle.frame_lists.specs.declared.entry.StatementKind.TheVariants as kind
 use Rattle.frame_lists.specs.declared.entry.StatementKind.{StatementKind}
 use Rattle.frame_lists.specs.Entries.{kind_in}
+use Rattle.frame_lists.specs.Places.{is_constants}
+use Rattle.model_laws.specs.StatementLaws.{statement_keywords}
 use Rattle.frame_lists.specs.Steps.{is_floating, is_axiom, is_assertion}
 
 abbrev pub is_open : EntryKind → Bool
@@ -144,6 +146,35 @@ closes s e = (kind-is_open s ∙ ap is_open e, kind-is_close s ∙ ap is_close e
 
 pub neither : (s : Statement) {k : StatementKind} → kind_in s ≡ entry.Statement k → (has_keyword (codes "${") s ≡ false) × (has_keyword (codes "$}") s ≡ false)
 neither s e = (kind-is_open s ∙ ap is_open e, kind-is_close s ∙ ap is_close e)
+
+pub constants-kind : (s : Statement) → has_keyword (codes "$c") s ≡ true → is_constants (kind_in s) ≡ true
+constants-kind s h = rw (one_keyword s (codes "$c") (codes "${") h refl, one_keyword s (codes "$c") (codes "$}") h refl, h) refl
+
+-- one that has the kind of a `$c` and is none has no keyword
+pub no-keyword : (s : Statement) → has_keyword (codes "$c") s ≡ false → is_constants (kind_in s) ≡ true → has_one_of statement_keywords s ≡ false
+no-keyword s c k = go (body s) c (kind-is_variables s ∙ other is_variables refl) (kind-is_distinct s ∙ other is_distinct refl) (kind-is_open s ∙ other is_open refl) (kind-is_close s ∙ other is_close refl) (kind-is_floating s ∙ other is_floating refl) (kind-is_essential s ∙ other is_essential refl) (kind-is_axiom s ∙ other is_axiom refl) (kind-is_provable s ∙ other is_provable refl)
+  where
+    is_c : (j : EntryKind) → is_constants j ≡ true → entry.Statement kind.Constants ≡ j
+    is_c entry.OpenBlock h = absurd cc
+    is_c entry.CloseBlock h = absurd cc
+    is_c (entry.Statement kind.Constants) h = refl
+    is_c (entry.Statement kind.Variables) h = absurd cc
+    is_c (entry.Statement kind.Distinct) h = absurd cc
+    is_c (entry.Statement kind.Floating) h = absurd cc
+    is_c (entry.Statement kind.Essential) h = absurd cc
+    is_c (entry.Statement kind.Axiom) h = absurd cc
+    is_c (entry.Statement kind.Provable) h = absurd cc
+
+    other : (t : EntryKind → Bool) → t (entry.Statement kind.Constants) ≡ false → t (kind_in s) ≡ false
+    other t h = ap t (sym (is_c (kind_in s) k)) ∙ h
+
+    none : (b : Bool) → (b || false) ≡ false → b ≡ false
+    none true h = h
+    none false h = h
+
+    go : (ws : List Word) → list_any (is (codes "$c")) (take 1 ws) ≡ false → list_any (is (codes "$v")) (take 1 ws) ≡ false → list_any (is (codes "$d")) (take 1 ws) ≡ false → list_any (is (codes "${")) (take 1 ws) ≡ false → list_any (is (codes "$}")) (take 1 ws) ≡ false → list_any (is (codes "$f")) (take 1 ws) ≡ false → list_any (is (codes "$e")) (take 1 ws) ≡ false → list_any (is (codes "$a")) (take 1 ws) ≡ false → list_any (is (codes "$p")) (take 1 ws) ≡ false → list_any (is_one_of statement_keywords) (take 1 ws) ≡ false
+    go [] c v d o p f e a q = refl
+    go (w ∷ ws) c v d o p f e a q = rw (none (is (codes "$c") w) c, none (is (codes "$v") w) v, none (is (codes "$d") w) d, none (is (codes "${") w) o, none (is (codes "$}") w) p, none (is (codes "$f") w) f, none (is (codes "$e") w) e, none (is (codes "$a") w) a, none (is (codes "$p") w) q) refl
 
 -- one of two keywords
 either : (j k : List ℕ) (s : Statement) → has_one_of (j ∷ k ∷ []) s ≡ (has_keyword j s || has_keyword k s)

@@ -14,3 +14,5 @@ pub mod Upto
 pub mod UptoLaws
 pub mod FrameLaws
 pub mod ActiveLaws
+pub mod PlaceLaws
+pub mod ConstantLaws

@@ -3,3 +3,4 @@ pub mod Listings
 pub mod Lists
 pub mod Orders
 pub mod Steps
+pub mod Places

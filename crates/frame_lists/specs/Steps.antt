@@ -18,10 +18,6 @@ use Rattle.frame_lists.specs.declared.scope.Block.{Block}
 
 -- ---- kinds
 
-abbrev pub is_constants : EntryKind → Bool
-is_constants (entry.Statement kind.Constants) = true
-is_constants k = false
-
 abbrev pub is_floating : EntryKind → Bool
 is_floating (entry.Statement kind.Floating) = true
 is_floating k = false

@@ -1,6 +1,9 @@
 ghost use Rattle.std.specs.Prelude.{◌≡◌, slice_index_or};
 
-use frame_lists::{Active, Frame, Listed, Stack, active_at, float_codes, place_after};
+use frame_lists::{
+    Active, Frame, Listed, Stack, active_at, constant_places, float_codes, frames_by_label,
+    place_after,
+};
 use mm_base::{Label, List, Memory, Sym, Typecode};
 use names::Names;
 use std::alloc::Global;
@@ -23,6 +26,7 @@ pub struct Frames {
 
 impl Model for Frames {
     ghost use Rattle.std.specs.Prelude.{◌<◌, ◌^◌, length};
+    ghost use Rattle.frame_lists.specs.Lists.{AreOf};
     ghost use Rattle.mm_frames.specs.Contents.{Contents};
 
     ghost Value = { Contents };
@@ -39,14 +43,36 @@ fn number_at(numbers: &[u32], place: u32) -> u32
 }
 
 impl Frames {
-    ghost use Rattle.std.specs.Prelude.{◌≡◌, ◌<◌, ◌≤◌, ℕ, List, length, position, option_map, slice_index_or, None, IfOk, []};
+    ghost use Rattle.std.specs.Prelude.{◌≡◌, ◌<◌, ◌≤◌, ◌^◌, ℕ, List, length, position, option_map, slice_index_or, None, IfOk, []};
     ghost use Rattle.std.specs.Option.{option_copied};
     ghost use Rattle.std.specs.Str.{bytes_eq};
     ghost use Rattle.mm_model.specs.Names.{sym, label};
     ghost use Rattle.mm_model.specs.Statements.{statements, statement_fault};
     ghost use Rattle.mm_model.specs.Frames as spec;
     ghost use Rattle.mm_model.specs.Frames.{proof_range};
+    ghost use Rattle.frame_lists.specs.Lists.{AreOf};
     ghost use Rattle.mm_frames.specs.Contents.{contents_of, place_byte, proof_at, frame_at};
+
+    /// What a text has, by its symbols, labels and statements.
+    pub(crate) fn of(
+        alloc: Global,
+        symbols: Names,
+        listed: Listed,
+        size: u32,
+    ) -> Result<Frames, Memory>
+        requires { length listed.entries < 2 ^ 32 }
+        ensures { (text : List ℕ) → statement_fault text ≡ None → symbols ≡ spec.symbols (statements text) → AreOf listed (statements text) → size ≡ length text → IfOk result (λ f. f ≡ contents_of text) }
+    {
+        let frames = frames_by_label(alloc, &listed)?;
+        let constants = constant_places(alloc, symbols.count(), listed.entries.as_slice())?;
+        Ok(Frames {
+            symbols,
+            listed,
+            frames,
+            constants,
+            size,
+        })
+    }
 
     /// The label of a name. None exactly where the database has no such label. It takes constant time.
     pub fn label(&self, name: &[u8]) -> Option<Label>

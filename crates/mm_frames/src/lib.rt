@@ -12,8 +12,8 @@ mod step;
 mod words;
 
 pub use fault::ReadFault;
-pub use frames::Frames;
 pub use frame_lists::{Active, Frame, Hyp};
+pub use frames::Frames;
 pub use reading::read;
 
 #[cfg(test)]
