@@ -34,11 +34,11 @@ find-none : (q : ℕ → Bool) (a n : ℕ) → ((p : ℕ) → a ≤ p → p < a 
 find-none q a zero none = refl
 find-none q a (suc n) none = let no : q a ≡ false = none a (omega arith) (omega arith) in rw no (find-none q (a + 1) n (λ p l m. none p (omega (arith, l)) (omega (arith, m))))
 
-find-same : (q r : ℕ → Bool) (a n : ℕ) → ((p : ℕ) → p < a + n → q p ≡ r p) → find q (range_with_len a n) ≡ find r (range_with_len a n)
+find-same : (q r : ℕ → Bool) (a n : ℕ) → ((p : ℕ) → a ≤ p → p < a + n → q p ≡ r p) → find q (range_with_len a n) ≡ find r (range_with_len a n)
 find-same q r a zero same = refl
 find-same q r a (suc n) same =
-    let later = find-same q r (a + 1) n (λ p m. same p (omega (arith, m))) in
-    ap (λ b. cond b (Some a) (find q (range_with_len (a + 1) n))) (same a (omega arith)) ∙ ap (λ o. cond (r a) (Some a) o) later
+    let later = find-same q r (a + 1) n (λ p l m. same p (omega (arith, l)) (omega (arith, m))) in
+    ap (λ b. cond b (Some a) (find q (range_with_len (a + 1) n))) (same a (omega arith) (omega arith)) ∙ ap (λ o. cond (r a) (Some a) o) later
 
 zero-test : (n : ℕ) → n ≡ 0 → (n == 0) ≡ true
 zero-test n h = grind (arith, nat_tests, h)
@@ -95,10 +95,10 @@ mapped-length : (names : List Name) (ss : List Statement) → length (map (entry
 mapped-length names [] = refl
 mapped-length names (s ∷ ss) = ap (λ (n : ℕ). suc n) (mapped-length names ss)
 
-pub place-law : (names : List Name) (ss : List Statement) (position : ℕ) → position < length ss → place_by (map (entry_in names) ss) position ≡ place_behind ss position
-place-law names ss position h =
+pub place-law : (names : List Name) (ss : List Statement) (position : ℕ) → place_by (map (entry_in names) ss) position ≡ place_behind ss position
+place-law names ss position =
     let xs = map (entry_in names) ss in
     let long = mapped-length names ss in
     ap (λ (n : ℕ). unwrap_or (find (λ p. depth_upto xs p == 0) (range_with_len (suc position) (n - position))) n) long
     ∙ ap (λ o. unwrap_or o (length ss)) (find-same (λ p. depth_upto xs p == 0) (λ p. is_empty (path (below ss p))) (suc position) (length ss - position)
-    (λ p m. ap (λ (d : ℕ). d == 0) (depth-law names ss p (omega (arith, m, h))) ∙ empty-test (path (below ss p))))
+    (λ p l m. ap (λ (d : ℕ). d == 0) (depth-law names ss p (omega (arith, l, m))) ∙ empty-test (path (below ss p))))

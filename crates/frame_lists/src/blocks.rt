@@ -39,8 +39,7 @@ fn first_place(entries: &[Entry], position: u32) -> u32
 /// The least place above a position where no block is open; the last place where there is none. It takes one pass over the
 /// statements, and no memory.
 pub fn place_after(entries: &[Entry], position: u32) -> u32
-    requires few { length entries.now < 2 ^ 32 }
-    requires there { position < length entries.now }
+    requires { length entries.now < 2 ^ 32 }
     ensures { (names : List Name) (ss : List Statement) → entries.now ≡ map (entry_in names) ss → result ≡ place_behind ss position }
 {
     first_place(entries, position)

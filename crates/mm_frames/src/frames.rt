@@ -42,6 +42,13 @@ fn number_at(numbers: &[u32], place: u32) -> u32
     numbers.get(place as usize).copied().unwrap_or(0)
 }
 
+/// The number of the `$c` that declares a symbol.
+fn declared_at(places: &[u32], symbol: u32) -> u32
+    ensures { result ≡ slice_index_or places.now symbol 4294967295 }
+{
+    places.get(symbol as usize).copied().unwrap_or(u32::MAX)
+}
+
 impl Frames {
     ghost use Rattle.std.specs.Prelude.{◌≡◌, ◌<◌, ◌≤◌, ◌^◌, ℕ, List, length, position, option_map, slice_index_or, None, IfOk, []};
     ghost use Rattle.std.specs.Option.{option_copied};
@@ -196,15 +203,13 @@ impl Frames {
         active_at(self.listed.entries.allocator(), &self.listed, place)
     }
 
-    /// Whether a `$c` of the symbol stands below a place. It takes constant time.
+    /// Whether a `$c` of a symbol of this database stands below a place. It takes constant time.
     pub fn constant_at(&self, symbol: Sym, place: u32) -> bool
-        requires { place ≤ length self.now.entries }
+        requires symbol { symbol.0 < length self.now.symbols }
+        requires place { place ≤ length self.now.entries }
         ensures { (text : List ℕ) → self.now ≡ contents_of text → result ≡ spec.is_constant_at (statements text) symbol place }
     {
-        match self.constants.as_slice().get(symbol.0 as usize) {
-            None => false,
-            Some(declared) => *declared < place,
-        }
+        declared_at(self.constants.as_slice(), symbol.0) < place
     }
 
     /// The least place above a label's position where no block is open; the last place where there is none. It takes one

@@ -8,6 +8,4 @@ use Rattle.frame_lists.proofs.blocks.place_after.Goals as goal
 
 pub returns : goal.returns
 returns c = λ names ss is.
-    let long = ap (λ (xs : List Entry). length xs) is ∙ length-map ss (entry_in names) in
-    let room = c.requires.there in
-    c.first_place.ensures ∙ ap (λ (xs : List Entry). place_by xs c.args.position) is ∙ place-law names ss c.args.position (omega (arith, room, long))
+    c.first_place.ensures ∙ ap (λ (xs : List Entry). place_by xs c.args.position) is ∙ place-law names ss c.args.position
