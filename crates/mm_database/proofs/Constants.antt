@@ -3,16 +3,18 @@ use Rattle.std.specs.Prelude.{◌≡◌, ◌<◌, ◌≤◌, ◌+◌, ◌^◌, �
 use Rattle.std.specs.List.{list_any, flat_map, prefix_len}
 use Rattle.std.specs.Option.{option_map_or}
 use Rattle.std.specs.Str.{bytes_eq}
-use Rattle.std.proofs.Common.{arith, sym, ap, ◌∙◌, subst, cond, get_or, inl, inr}
-use Rattle.std.proofs.lemmas.Bool.{cases_Bool, cases_order}
+use Rattle.std.proofs.Common.{arith, sym, ap, ◌∙◌, subst, cond, get_or, inl, inr, ◌⊎◌, ◌==◌}
+use Rattle.std.proofs.lemmas.Bool.{cases_lt, eqb-true, eq-eqb}
 use Rattle.std.proofs.lemmas.Bool.Decides.{nat_tests}
 use Rattle.std.proofs.lemmas.Grind.{reverse_onto}
 use Rattle.std.proofs.lemmas.List.Folds.{list_any-append}
+use Rattle.std.proofs.lemmas.List.{take_all, take-append-le, reverse-reverse, length-reverse, length-append}
 use Rattle.std.proofs.lemmas.Option.{slice_get-map, slice_get-get_or}
 use Rattle.mm_base.specs.declared.symbols.Sym.{Sym}
 use Rattle.mm_model.specs.Names.{Name, contains}
 use Rattle.mm_model.specs.Statements.{Statement, has_keyword, symbols_in, constants}
 use Rattle.mm_model.specs.Frames.{symbols, below, is_constant_at}
+use Rattle.frame_lists.specs.Listings.{declared_by, constant_places}
 use Rattle.mm_database.specs.Formulas.{is_constant}
 
 -- the statement is a `$c` of the name
@@ -39,54 +41,70 @@ any_declares n [] = refl
 any_declares n (s ∷ ss) =
     one_statement (has_keyword (codes "$c") s) n s (filter (has_keyword (codes "$c")) ss) ∙ ap (λ b. declares n s || b) (any_declares n ss)
 
--- ---- the first place at which a test passes
-
-abbrev found : ℕ → ℕ → ℕ → ℕ
-found k len most = unwrap_or (cond (nat_lt k len) (Some k) None) most
-
-both_less : (a b : ℕ) → nat_lt (1 + a) (suc b) ≡ nat_lt a b
-both_less a b = grind (arith, nat_tests)
+-- ---- the number of the `$c` of a name
 
 not_less : (a b : ℕ) → b ≤ a → nat_lt a b ≡ false
 not_less a b h = grind (arith, nat_tests)
 
-not_first : (p most k len : ℕ) → suc p ≤ most → nat_lt (found (1 + k) (suc len) most) (suc p) ≡ nat_lt (found k len most) p
-not_first p most k len h = elim (cases_Bool (nat_lt k len)) [
-  | inl d ↦
-      let here : found k len most ≡ k = ap (λ b. unwrap_or (cond b (Some k) None) most) d in
-      let there : found (1 + k) (suc len) most ≡ 1 + k = ap (λ b. unwrap_or (cond b (Some (1 + k)) None) most) (both_less k len ∙ d) in
-      ap (λ x. nat_lt x (suc p)) there ∙ both_less k p ∙ ap (λ x. nat_lt x p) (sym here)
-  | inr d ↦
-      let here : found k len most ≡ most = ap (λ b. unwrap_or (cond b (Some k) None) most) d in
-      let there : found (1 + k) (suc len) most ≡ most = ap (λ b. unwrap_or (cond b (Some (1 + k)) None) most) (both_less k len ∙ d) in
-      ap (λ x. nat_lt x (suc p)) there ∙ not_less most (suc p) h ∙ sym (not_less most p (omega (arith, h))) ∙ ap (λ x. nat_lt x p) (sym here)
-]
+is_less : (a b : ℕ) → a < b → nat_lt a b ≡ true
+is_less a b h = grind (arith, nat_tests)
 
-first_by : {X : Type 0} (b : Bool) (q : X → Bool) (xs : List X) (p most : ℕ) → suc p ≤ most → nat_lt (unwrap_or (position q xs) most) p ≡ list_any q (take p xs)
-    → nat_lt (found (cond (not b) (1 + prefix_len (λ y. not (q y)) xs) 0) (suc (length xs)) most) (suc p) ≡ (b || list_any q (take p xs))
-first_by true q xs p most h same =
-    let zero_less : nat_lt 0 (suc (length xs)) ≡ true = grind (arith, nat_tests) in
-    let below_p : nat_lt 0 (suc p) ≡ true = grind (arith, nat_tests) in
-    ap (λ b. nat_lt (unwrap_or (cond b (Some 0) None) most) (suc p)) zero_less ∙ below_p
-first_by false q xs p most h same = not_first p most (prefix_len (λ y. not (q y)) xs) (length xs) h ∙ same
+abbrev most : ℕ
+most = 2 ^ 32 - 1
 
--- it is below a place where the test passes before the place
-pub first_below : {X : Type 0} (q : X → Bool) (xs : List X) (place most : ℕ) → place ≤ most → nat_lt (unwrap_or (position q xs) most) place ≡ list_any q (take place xs)
-first_below q xs zero most h = not_less (unwrap_or (position q xs) most) 0 (omega arith)
-first_below q [] (suc p) most h = not_less most (suc p) h
-first_below q (x ∷ xs) (suc p) most h = first_by (q x) q xs p most h (first_below q xs p most (omega (arith, h)))
+bound_by : (e t : Bool) (d len : ℕ) → (d ≡ most) ⊎ (d < len) → (cond (e && t) len d ≡ most) ⊎ (cond (e && t) len d < suc len)
+bound_by true true d len h = inr (omega arith)
+bound_by true false d len h = elim h [ inl a ↦ inl a | inr a ↦ inr (omega (arith, a)) ]
+bound_by false t d len h = elim h [ inl a ↦ inl a | inr a ↦ inr (omega (arith, a)) ]
 
--- the numbers of the `$c`, by symbol
-abbrev pub places_of : List Statement → List ℕ
-places_of ss = map (λ n. unwrap_or (position (λ s. has_keyword (codes "$c") s && contains (symbols_in s) n) ss) (2 ^ 32 - 1)) (symbols ss)
+bound : (n : Name) (before : List Statement) → (declared_by before n ≡ most) ⊎ (declared_by before n < length before)
+bound n [] = inl refl
+bound n (s ∷ before) = bound_by (declared_by before n == most) (declares n s) (declared_by before n) (length before) (bound n before)
 
-pub constants_same : (ss : List Statement) (s : Sym) (place : ℕ) → s.0 < length (symbols ss) → place ≤ 2 ^ 32 - 1 → is_constant (places_of ss) place s ≡ is_constant_at ss s place
+-- one more statement, at or past the place
+past : (e t : Bool) (d len p : ℕ) → (e ≡ true → d ≡ most) → p ≤ most → p ≤ len → nat_lt (cond (e && t) len d) p ≡ nat_lt d p
+past true true d len p h m l = let is = h refl in not_less len p l ∙ sym (not_less d p (omega (arith, is, m)))
+past true false d len p h m l = refl
+past false t d len p h m l = refl
+
+-- one more statement, before the place
+short_of : (e t : Bool) (d len p : ℕ) → (e ≡ true → d ≡ most) → (e ≡ false → d < len) → p ≤ most → len < p → nat_lt (cond (e && t) len d) p ≡ (nat_lt d p || (t || false))
+short_of true true d len p h k m l = let is = h refl in is_less len p l ∙ ap (λ b. b || true) (sym (not_less d p (omega (arith, is, m))))
+short_of true false d len p h k m l = let is = h refl in let none = not_less d p (omega (arith, is, m)) in none ∙ ap (λ b. b || false) (sym none)
+short_of false t d len p h k m l = let lt = k refl in let some = is_less d p (omega (arith, lt, l)) in some ∙ ap (λ b. b || (t || false)) (sym some)
+
+other_less : (d len : ℕ) → (d ≡ most) ⊎ (d < len) → (d == most) ≡ false → d < len
+other_less d len (inl a) e = let same = eq-eqb d most a in absurd (cc)
+other_less d len (inr a) e = a
+
+-- it is below a place where one is declared before the place
+pub declared_below : (n : Name) (before : List Statement) (p : ℕ) → p ≤ most → nat_lt (declared_by before n) p ≡ list_any (declares n) (take p (reverse before))
+declared_below n [] zero m = refl
+declared_below n [] (suc p) m = not_less most (suc p) m
+declared_below n (s ∷ before) p m =
+    let d = declared_by before n in
+    let len = length before in
+    let xs = reverse before in
+    let long = length-reverse before in
+    let same = declared_below n before p m in
+    let whole = ap (λ ys. list_any (declares n) (take p ys)) (reverse_onto before s []) in
+    elim (cases_lt len p) [
+      | inl l ↦
+          short_of (d == most) (declares n s) d len p (eqb-true d most) (other_less d len (bound n before)) m l
+          ∙ ap (λ b. b || (declares n s || false)) (same ∙ ap (list_any (declares n)) (take_all p xs (omega (arith, long, l))))
+          ∙ sym (list_any-append (declares n) xs (s ∷ []))
+          ∙ ap (list_any (declares n)) (sym (take_all p (xs ++ s ∷ []) (let more = length-append xs (s ∷ []) in omega (arith, more, long, l)))) ∙ sym whole
+      | inr l ↦
+          past (d == most) (declares n s) d len p (eqb-true d most) m l ∙ same
+          ∙ ap (list_any (declares n)) (sym (take-append-le p xs (s ∷ []) (omega (arith, long, l)))) ∙ sym whole
+    ]
+
+pub constants_same : (ss : List Statement) (s : Sym) (place : ℕ) → s.0 < length (symbols ss) → place ≤ 2 ^ 32 - 1 → is_constant (constant_places ss) place s ≡ is_constant_at ss s place
 constants_same ss s place within small =
     let names = symbols ss in
     let n = get_or names s.0 [] in
     let at = slice_get-get_or names s.0 [] within in
-    ap (λ o. option_map_or (λ declared. nat_lt declared place) o false)
-    (slice_get-map (λ n. unwrap_or (position (λ s. has_keyword (codes "$c") s && contains (symbols_in s) n) ss) (2 ^ 32 - 1)) names s.0
-    ∙ ap (option_map (λ n. unwrap_or (position (λ s. has_keyword (codes "$c") s && contains (symbols_in s) n) ss) (2 ^ 32 - 1))) at)
-    ∙ first_below (declares n) ss place (2 ^ 32 - 1) small
+    ap (λ o. option_map_or (λ declared. nat_lt declared place) o false) (slice_get-map (declared_by (reverse ss)) names s.0 ∙ ap (option_map (declared_by (reverse ss))) at)
+    ∙ declared_below n (reverse ss) place small
+    ∙ ap (λ xs. list_any (declares n) (take place xs)) (reverse-reverse ss)
     ∙ sym (any_reversed (declares n) (take place ss)) ∙ sym (any_declares n (below ss place))

@@ -2,6 +2,7 @@ mod Constants
 mod Floats
 mod HeadLaws
 mod Lists
+mod Named
 mod Repeats
 mod Syntax
 mod Typed

@@ -28,7 +28,8 @@ use Rattle.mm_database.specs.Variables.{frame_variables, code_of}
 use Rattle.mm_database.specs.Formulas.{IsAnswer, IsReadBy, IsOneTree, is_assertion, is_constant, leaf_of}
 use Rattle.mm_database.specs.Assertions.{IsParsed, IsKept, AreParsed}
 use Rattle.mm_database.specs.Books.{kinds_in, parsed_at, assertion_of, usable_with, database_of}
-use Rattle.mm_database.proofs.Constants.{places_of, constants_same}
+use Rattle.frame_lists.specs.Listings.{constant_places}
+use Rattle.mm_database.proofs.Constants.{constants_same}
 use Rattle.mm_database.proofs.Typed.{typed_as, typed_are, find_map, map_map}
 use Rattle.mm_database.proofs.Zips.{Beside, zip_at}
 
@@ -80,7 +81,7 @@ begins_from o s rest formula is named short =
 
 module _ (kinds : Kinds) (text : List ℕ) (ok : database_fault text ≡ None) (own : FramesHaveOwnExpressions) (small : length (statements text) ≤ 2 ^ 32 - 1)
     (rows : List Production) (parsed : List (Option Parsed)) (rows_are : rows ≡ kept_rows kinds.provable (statements text))
-    (are : AreParsed (kinds_in (symbols (statements text)) kinds) rows (places_of (statements text)) (map (λ n. frame_of (statements text) (label n)) (range_with_len 0 (length (labels (statements text))))) parsed) where
+    (are : AreParsed (kinds_in (symbols (statements text)) kinds) rows (constant_places (statements text)) (map (λ n. frame_of (statements text) (label n)) (range_with_len 0 (length (labels (statements text))))) parsed) where
   abbrev ss : List Statement
   ss = statements text
 
@@ -105,22 +106,22 @@ module _ (kinds : Kinds) (text : List ℕ) (ok : database_fault text ≡ None) (
     facts : HasOwnExpressions text db l f
     facts = own text db shows ok l f frame
 
-    leaf_is : (s : Sym) → s.0 < length (symbols ss) → leaf_of (places_of ss) f.at (frame_variables f.hyps) s ≡ own_leaf db f s
+    leaf_is : (s : Sym) → s.0 < length (symbols ss) → leaf_of (constant_places ss) f.at (frame_variables f.hyps) s ≡ own_leaf db f s
     leaf_is s within =
         let place = facts.place in
         ap (λ b. cond b (Some (leaf.Const s)) (option_map (λ c. leaf.Var s c) (code_of (frame_variables f.hyps) s))) (constants_same ss s f.at within (omega (arith, place, small)))
         ∙ ap (λ o. cond (is_constant_at ss s f.at) (Some (leaf.Const s)) (option_map (λ c. leaf.Var s c) o)) (code_is f.hyps s)
 
-    leaves_are : (syms : List Sym) → AllByRecursion (λ s. s.0 < length (symbols ss)) syms → filter_map (leaf_of (places_of ss) f.at (frame_variables f.hyps)) syms ≡ filter_map (own_leaf db f) syms
+    leaves_are : (syms : List Sym) → AllByRecursion (λ s. s.0 < length (symbols ss)) syms → filter_map (leaf_of (constant_places ss) f.at (frame_variables f.hyps)) syms ≡ filter_map (own_leaf db f) syms
     leaves_are [] h = refl
     leaves_are (s ∷ syms) h =
-        ap (λ o. cons_option o (filter_map (leaf_of (places_of ss) f.at (frame_variables f.hyps)) syms)) (leaf_is s h.0) ∙ ap (cons_option (own_leaf db f s)) (leaves_are syms h.1)
+        ap (λ o. cons_option o (filter_map (leaf_of (constant_places ss) f.at (frame_variables f.hyps)) syms)) (leaf_is s h.0) ∙ ap (cons_option (own_leaf db f s)) (leaves_are syms h.1)
 
-    expression_is : (formula : List Sym) → IsOwn db f formula → filter_map (leaf_of (places_of ss) f.at (frame_variables f.hyps)) (drop 1 formula) ≡ expression_at db f.at formula
+    expression_is : (formula : List Sym) → IsOwn db f formula → filter_map (leaf_of (constant_places ss) f.at (frame_variables f.hyps)) (drop 1 formula) ≡ expression_at db f.at formula
     expression_is formula h = leaves_are (drop 1 formula) (all_rest (λ s. s.0 < length (symbols ss)) formula h.symbols) ∙ h.expression
 
     abbrev ReadBy : List Sym → Tree → Type 0
-    ReadBy formula t = IsReadBy (kinds_in (symbols ss) kinds) rows (places_of ss) f.at (frame_variables f.hyps) formula t
+    ReadBy formula t = IsReadBy (kinds_in (symbols ss) kinds) rows (constant_places ss) f.at (frame_variables f.hyps) formula t
 
     read_is : (formula : List Sym) (t : Tree) → IsOwn db f formula → ReadBy formula t → IsRead db f.at formula t
     read_is formula t h r =
@@ -157,10 +158,10 @@ module _ (kinds : Kinds) (text : List ℕ) (ok : database_fault text ≡ None) (
     all_from (h ∷ hs) (t ∷ ts) o z = (read_from h.formula t o.0 z.0, all_from hs ts o.1 z.1)
 
     abbrev Parses_as : Parsed → Type 0
-    Parses_as p = IsParsed (kinds_in (symbols ss) kinds) rows (places_of ss) f p
+    Parses_as p = IsParsed (kinds_in (symbols ss) kinds) rows (constant_places ss) f p
 
-    kept : Beside (IsKept (kinds_in (symbols ss) kinds) rows (places_of ss)) frames parsed l.0 (Some f)
-    kept = zip_at (IsKept (kinds_in (symbols ss) kinds) rows (places_of ss)) frames parsed are l.0 (Some f) (frame_stands l facts.label ∙ ap (λ o. Some o) frame)
+    kept : Beside (IsKept (kinds_in (symbols ss) kinds) rows (constant_places ss)) frames parsed l.0 (Some f)
+    kept = zip_at (IsKept (kinds_in (symbols ss) kinds) rows (constant_places ss)) frames parsed are l.0 (Some f) (frame_stands l facts.label ∙ ap (λ o. Some o) frame)
 
     kept_at : parsed_at parsed l ≡ kept.other
     kept_at = ap (option_and_then (λ (o : Option Parsed). o)) kept.stands

@@ -16,8 +16,11 @@ pub record Opened : Type 0 where
   pub parsed : List (Option Parsed)
 
 -- the number of the labels whose position is below a place
+abbrev pub labels_below : Contents → ℕ → ℕ
+labels_below c place = count_by (λ l. nat_lt (slice_index_or c.positions l 0) place) (range_with_len 0 (length c.labels))
+
 abbrev pub labels_before : Opened → ℕ → ℕ
-labels_before d place = count_by (λ l. nat_lt (slice_index_or d.contents.positions l 0) place) (range_with_len 0 (length d.contents.labels))
+labels_before d place = labels_below d.contents place
 
 -- it is opened from this text: the text has no fault, and what is kept is the text's database
 pub record IsOpened (kinds : Kinds) (text : List ℕ) (d : Opened) : Type 0 where

@@ -1,4 +1,4 @@
-ghost use Rattle.std.specs.Prelude.{◌≡◌, ◌≤◌, ◌^◌, None, Option, Some, length, option_map, position, IfOk, IfErr, OnOk};
+ghost use Rattle.std.specs.Prelude.{◌≡◌, ◌<◌, ◌≤◌, ◌^◌, None, Option, Some, length, option_map, position, nat_lt, slice_index_or, IfOk, IfErr, OnOk};
 ghost use Rattle.std.specs.Str.{bytes_eq};
 ghost use Rattle.mm_model.specs.Frames.{symbol_in};
 ghost use Rattle.mm_model.specs.Names.{sym, typecode, symbol_named};
@@ -6,7 +6,7 @@ ghost use Rattle.mm_model.specs.Productions.{kept_rows};
 ghost use Rattle.mm_model.specs.Statements.{statements, database_fault};
 ghost use Rattle.mm_frames.specs.Contents.{contents_of};
 ghost use Rattle.mm_database.specs.Faults.{IsDbFault};
-ghost use Rattle.mm_database.specs.Opened.{IsOpened};
+ghost use Rattle.mm_database.specs.Opened.{IsOpened, labels_below};
 ghost use Rattle.mm_database.specs.Assertions.{AreParsed};
 ghost use Rattle.mm_database.specs.Books.{kinds_in};
 
@@ -38,6 +38,11 @@ impl Model for Database {
     ghost use Rattle.mm_database.specs.Heads.{AreHeads};
 
     ghost Value = { Opened };
+
+    ghost use Rattle.mm_base.specs.contracts.tree.Tree as tree;
+    ghost use Rattle.std.specs.Coded.{codes};
+
+    ghost coded = { Prim.hlevel (codes, tree.the_row.coded) };
 
     ghost view = { λ d. record { contents = d.frames; rows = d.grammar; parsed = d.parsed.items } };
 
@@ -100,6 +105,31 @@ fn grammar_of(
     keep_rows(List::from_vec(rows))
 }
 
+fn is_below(frames: &Frames, number: u32, place: u32) -> bool
+    requires { number < length frames.now.labels }
+    ensures { result ≡ nat_lt (slice_index_or frames.now.positions number 0) place }
+{
+    frames.position(Label(number)) < place
+}
+
+fn count_before(frames: &Frames, place: u32) -> u32
+    ensures { result ≡ labels_below frames.now place }
+{
+    let mut count = 0;
+    for number in 0..frames.labels() {
+        if is_below(frames, number, place) {
+            count += 1;
+        }
+    }
+    count
+}
+
+fn has_few_statements(frames: &Frames)
+    ensures { length frames.now.entries < 2 ^ 32 }
+{
+    let _ = frames.end();
+}
+
 /// The database of the statements of a text, which is `text`.
 fn open_frames(
     alloc: Global,
@@ -112,6 +142,7 @@ fn open_frames(
     ensures { IfOk result (IsOpened kinds.now text.now) }
 {
     frames_have_own_expressions();
+    has_few_statements(&frames);
     let grammar = grammar_of(alloc, text, &frames, kinds)?;
     let codes = kind_codes(&frames, kinds);
     let parsed = parse_all(
@@ -218,13 +249,7 @@ impl Database {
     pub fn before(&self, place: u32) -> u32
         ensures { result ≡ labels_before self.now place }
     {
-        let mut count = 0;
-        for number in 0..self.frames.labels() {
-            if self.frames.position(Label(number)) < place {
-                count += 1;
-            }
-        }
-        count
+        count_before(&self.frames, place)
     }
 
     /// The usable assertions with that number of `$e` whose conclusion's tree is a production with that label, or, for
