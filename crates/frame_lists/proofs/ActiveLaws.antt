@@ -1,6 +1,6 @@
 -- What is active at a place is what the definitions say.
-use Rattle.std.proofs.Common.{◌≡◌, ℕ, ◌<◌, ◌≤◌, Bool, true, false, ◌||◌, List, [], ◌∷◌, length, map, drop, reverse, refl, sym, ap, ◌∙◌, arith, subst, inl, inr, codes}
-use Rattle.std.specs.List.{list_any, filter, AllByRecursion}
+use Rattle.std.proofs.Common.{◌≡◌, ℕ, ◌<◌, ◌≤◌, Bool, true, ◌||◌, List, [], ◌∷◌, length, map, drop, reverse, refl, sym, ap, ◌∙◌, subst, inl, inr, codes}
+use Rattle.std.specs.List.{filter, AllByRecursion}
 use Rattle.std.proofs.lemmas.Bool.{cases_Bool, or_cases}
 use Rattle.mm_base.specs.declared.symbols.Sym.{Sym}
 use Rattle.mm_base.specs.declared.symbols.Pair.{Pair}
@@ -8,7 +8,7 @@ use Rattle.mm_model.specs.Names.{Name, contains}
 use Rattle.mm_model.specs.declared.frames.Hyp.{Hyp}
 use Rattle.mm_model.specs.declared.frames.Active.{Active}
 use Rattle.mm_model.specs.Names as numbers
-use Rattle.mm_model.specs.Statements.{Statement, active, variables, labels_in, has_keyword, path, symbols_in}
+use Rattle.mm_model.specs.Statements.{Statement, active, variables, labels_in, path, symbols_in}
 use Rattle.mm_model.specs.Frames as model
 use Rattle.mm_model.specs.Frames.{symbols, symbol_in, below, hypothesis_of, active_variables}
 use Rattle.model_laws.specs.StatementLaws.{AreSound}
@@ -22,7 +22,7 @@ use Rattle.frame_lists.proofs.Keywords.{is_essential, kind-is_floating, kind-is_
 use Rattle.frame_lists.proofs.Members.{In, in_all, in_reverse}
 use Rattle.frame_lists.proofs.Numbered.{Numbered, here, on-is}
 use Rattle.frame_lists.proofs.Placed.{below-whole}
-use Rattle.frame_lists.proofs.ByNumber.{number, numbers_passing, names-fresh, ordered-is}
+use Rattle.frame_lists.proofs.ByNumber.{number, names-fresh, ordered-is}
 use Rattle.frame_lists.proofs.Added.{filter-map, map-reverse}
 use Rattle.frame_lists.proofs.Passing.{ScopeIs}
 use Rattle.frame_lists.proofs.StateLaws.{IsGood, all-good, statements_of, listed_by, variables-law, hyps-are}

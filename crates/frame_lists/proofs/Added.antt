@@ -8,7 +8,7 @@ use Rattle.frame_lists.specs.declared.entry.EntryKind.{EntryKind}
 use Rattle.frame_lists.specs.declared.entry.EntryKind.TheVariants as entry
 use Rattle.frame_lists.specs.declared.entry.StatementKind.TheVariants as kind
 use Rattle.frame_lists.specs.declared.scope.Scope.{Scope}
-use Rattle.frame_lists.specs.Steps.{has, is_floating, declared, with_float, passed}
+use Rattle.frame_lists.specs.Steps.{has, is_floating, declared, with_float}
 use Rattle.frame_lists.proofs.Keywords.{is_variables, is_distinct, is_essential}
 use Rattle.frame_lists.proofs.Passing.{added}
 

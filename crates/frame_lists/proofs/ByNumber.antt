@@ -1,5 +1,5 @@
 -- Names and their numbers.
-use Rattle.std.proofs.Common.{◌≡◌, ℕ, zero, suc, ◌+◌, ◌<◌, ◌≤◌, Bool, true, false, cond, ◌&&◌, ◌||◌, List, [], ◌∷◌, ◌++◌, append_assoc, append-nil, length, take, map, flat_map, reverse, nat_eq, eqb, ltb, refl, sym, ap, ◌∙◌, arith, inl, inr, subst, codes, get_or, slice_get, Some, Option}
+use Rattle.std.proofs.Common.{◌≡◌, ℕ, zero, suc, ◌+◌, ◌<◌, ◌≤◌, Bool, true, false, ◌||◌, List, [], ◌∷◌, ◌++◌, append_assoc, length, take, map, flat_map, reverse, nat_eq, eqb, ltb, refl, sym, ap, ◌∙◌, arith, inl, inr, subst, codes, get_or, slice_get, Some}
 use Rattle.std.specs.List.{list_any, position_or_len, AllByRecursion, filter}
 use Rattle.std.specs.List.Sorted.{IsStrictlySortedBy}
 use Rattle.std.specs.Ordering.{nat_cmp}
@@ -14,7 +14,7 @@ use Rattle.mm_base.specs.declared.symbols.Sym.{Sym}
 use Rattle.mm_model.specs.Words.{Word}
 use Rattle.mm_model.specs.Names.{Name, contains}
 use Rattle.mm_model.specs.Statements.{Statement, has_one_of, has_keyword, is, is_one_of, body, symbols_in}
-use Rattle.mm_model.specs.Frames.{symbols, symbol_in, without_repeats, formula_of}
+use Rattle.mm_model.specs.Frames.{symbols, symbol_in, without_repeats}
 use Rattle.frame_lists.specs.Steps.{has}
 use Rattle.frame_lists.proofs.Members.{In, in_has, has_in, in_contains, contains_in, sorted_cons, sorted_none, unique}
 use Rattle.std.proofs.lemmas.Cmp.{nat_cmp_total}

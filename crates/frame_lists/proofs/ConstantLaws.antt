@@ -1,15 +1,11 @@
 -- Where constants are declared, and typecodes of `$f`.
-use Rattle.std.proofs.Common.{◌≡◌, ℕ, zero, suc, ◌+◌, ◌-◌, ◌<◌, ◌≤◌, ◌==◌, ◌^◌, Bool, true, false, cond, ◌&&◌, ◌||◌, List, [], ◌∷◌, ◌++◌, append-nil, append_assoc, length, take, map, reverse, flat_map, fold, Option, Some, None, slice_get, option_map, slice_set, get_or, eqb, ltb, nat_lt, refl, sym, ap, ◌∙◌, arith, subst, inl, inr, codes, replicate}
-use Rattle.std.specs.List.{list_any, filter}
+use Rattle.std.proofs.Common.{◌≡◌, ℕ, zero, suc, ◌+◌, ◌<◌, ◌≤◌, ◌==◌, ◌^◌, Bool, true, false, cond, ◌&&◌, ◌||◌, List, [], ◌∷◌, ◌++◌, append-nil, append_assoc, length, take, map, reverse, flat_map, fold, Some, slice_get, option_map, slice_set, get_or, nat_lt, refl, sym, ap, ◌∙◌, arith, subst, inl, inr, codes, replicate}
 use Rattle.std.specs.Str.{bytes_eq}
 use Rattle.std.proofs.lemmas.Bool.{cases_Bool, or_left, or_right}
 use Rattle.std.proofs.lemmas.Bool.Decides.{nat_tests}
-use Rattle.std.proofs.lemmas.List.{map-append}
-use Rattle.std.proofs.lemmas.Slice.Eq.{bytes_eq-Decides}
-use Rattle.mm_base.specs.declared.symbols.Sym.{Sym}
 use Rattle.mm_base.specs.declared.symbols.Typecode.{Typecode}
 use Rattle.mm_model.specs.Names.{Name, contains, typecode}
-use Rattle.mm_model.specs.Statements.{Statement, has_keyword, symbols_in, with_keyword, constants}
+use Rattle.mm_model.specs.Statements.{Statement, has_keyword, symbols_in, with_keyword}
 use Rattle.mm_model.specs.Frames.{symbols, symbol_in, below}
 use Rattle.model_laws.specs.StatementLaws.{AreSound, IsSound}
 use Rattle.frame_lists.specs.declared.entry.Entry.{Entry}

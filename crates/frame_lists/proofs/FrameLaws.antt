@@ -1,15 +1,15 @@
 -- The frame of a label is that of the definitions.
-use Rattle.std.proofs.Common.{◌≡◌, ℕ, zero, suc, ◌+◌, ◌<◌, ◌≤◌, Bool, true, false, not, ◌&&◌, cond, List, [], ◌∷◌, ◌++◌, length, take, drop, map, reverse, Option, Some, None, slice_get, option_map, option_and_then, refl, sym, ap, ◌∙◌, arith, subst, codes}
-use Rattle.std.specs.List.{list_any, filter, AllByRecursion, range_with_len}
+use Rattle.std.proofs.Common.{◌≡◌, ℕ, zero, suc, ◌+◌, ◌<◌, ◌≤◌, Bool, true, false, not, ◌&&◌, cond, List, [], ◌∷◌, ◌++◌, length, take, drop, map, reverse, Option, Some, None, slice_get, option_map, option_and_then, refl, sym, ap, ◌∙◌, arith, subst}
+use Rattle.std.specs.List.{range_with_len}
 use Rattle.std.proofs.lemmas.List.{map-append, reverse-reverse}
 use Rattle.mm_base.specs.declared.symbols.Label.{Label}
 use Rattle.mm_base.specs.declared.symbols.Sym.{Sym}
 use Rattle.mm_base.specs.declared.symbols.Pair.{Pair}
-use Rattle.mm_model.specs.Names.{Name, label, contains}
+use Rattle.mm_model.specs.Names.{Name, label}
 use Rattle.mm_model.specs.Words.{Word}
 use Rattle.mm_model.specs.declared.frames.Frame.{Frame}
 use Rattle.mm_model.specs.declared.frames.Hyp.{Hyp}
-use Rattle.mm_model.specs.Statements.{Statement, labels, labels_in, is_empty, has_keyword, symbols_in, active, with_keyword, variables}
+use Rattle.mm_model.specs.Statements.{Statement, labels, labels_in, is_empty}
 use Rattle.mm_model.specs.Frames as model
 use Rattle.mm_model.specs.Frames.{symbols, below, frame_of, frame_at, positions, formula_of, mandatory_variables}
 use Rattle.model_laws.specs.StatementLaws.{AreSound}
@@ -20,17 +20,17 @@ use Rattle.frame_lists.specs.Lists.{AreOf}
 use Rattle.frame_lists.specs.Entries.{entry_in, kind_in}
 use Rattle.frame_lists.specs.Listings.{frames_of}
 use Rattle.frame_lists.specs.Orders.{IsFrameOf, IsFrameIf, IsAdded}
-use Rattle.frame_lists.specs.Steps.{has, is_axiom, is_assertion, mandatory, is_label_of, label_after, label_upto, scope_upto}
+use Rattle.frame_lists.specs.Steps.{has, is_assertion, mandatory, is_label_of, label_after, label_upto, scope_upto}
 use Rattle.frame_lists.proofs.Keywords.{kind-is_axiom, kind-is_assertion}
-use Rattle.frame_lists.proofs.Numbered.{Numbered, count, on, here}
-use Rattle.frame_lists.proofs.Placed.{IsPlaced, item-placed, all-placed, count-labels, below-whole, below-length}
+use Rattle.frame_lists.proofs.Numbered.{count, here}
+use Rattle.frame_lists.proofs.Placed.{item-placed, all-placed, count-labels, below-whole, below-length}
 use Rattle.frame_lists.proofs.Passing.{state, ScopeIs}
-use Rattle.frame_lists.proofs.StateLaws.{IsGood, all-good, floats-here, variables-within}
-use Rattle.frame_lists.proofs.MandatoryLaws.{get-map, mandatory-has}
+use Rattle.frame_lists.proofs.StateLaws.{all-good, floats-here, variables-within}
+use Rattle.frame_lists.proofs.MandatoryLaws.{mandatory-has}
 use Rattle.frame_lists.proofs.HypothesisLaws.{passes, passes-is, hypotheses-law}
 use Rattle.frame_lists.proofs.PairLaws.{pairs-law}
 use Rattle.frame_lists.proofs.Upto.{next-is}
-use Rattle.frame_lists.proofs.UptoLaws.{UptoIs, upto, sound-below, label-here, sound-at, whole-at}
+use Rattle.frame_lists.proofs.UptoLaws.{upto, sound-below, label-here, sound-at, whole-at}
 
 and-left : (a b : Bool) → (a && b) ≡ true → a ≡ true
 and-left true b h = refl

@@ -1,5 +1,5 @@
 -- Mandatory hypotheses in order of appearance.
-use Rattle.std.proofs.Common.{◌≡◌, ℕ, zero, suc, ◌+◌, ◌<◌, ◌≤◌, Bool, true, false, ◌&&◌, ◌||◌, ◌⊎◌, List, [], ◌∷◌, ◌++◌, length, map, reverse, fold, Option, Some, None, refl, sym, ap, ◌∙◌, arith, inl, inr, subst, codes, nat_eq, ltb}
+use Rattle.std.proofs.Common.{◌≡◌, ℕ, ◌+◌, ◌<◌, ◌≤◌, Bool, true, false, ◌&&◌, ◌||◌, ◌⊎◌, List, [], ◌∷◌, ◌++◌, length, map, reverse, fold, Option, Some, None, refl, sym, ap, ◌∙◌, arith, inl, inr, subst, codes, nat_eq, ltb}
 use Rattle.std.specs.List.{list_any, filter, AllByRecursion, ends_with}
 use Rattle.std.specs.Ordering.{nat_cmp}
 use Rattle.std.specs.declared.cmp.Ordering.TheVariants.{Less}
@@ -11,21 +11,19 @@ use Rattle.mm_model.specs.Names.{Name, contains}
 use Rattle.mm_model.specs.declared.frames.Hyp.{Hyp}
 use Rattle.mm_model.specs.Statements.{Statement, has_keyword, labels_in, symbols_in, second, active, path, variables, with_keyword}
 use Rattle.mm_model.specs.Frames.{symbols, formula_of, hypothesis_of, mandatory_variables, mandatory_hypotheses}
-use Rattle.model_laws.specs.StatementLaws.{AreSound}
 use Rattle.frame_lists.specs.declared.listed.Listed.{Listed}
 use Rattle.frame_lists.specs.declared.scope.Scope.{Scope}
 use Rattle.frame_lists.specs.Lists.{AreOf}
 use Rattle.frame_lists.specs.Entries.{kind_in}
-use Rattle.frame_lists.specs.Orders.{Ordered, Rises, AreHypotheses}
+use Rattle.frame_lists.specs.Orders.{Rises, AreHypotheses}
 use Rattle.frame_lists.specs.Steps.{has, is_floating, mandatory, hypothesis_at, float_of, or_more, labels_of}
 use Rattle.frame_lists.proofs.Keywords.{is_essential, kind-is_essential, kind-is_floating}
 use Rattle.frame_lists.proofs.Members.{In, in_all, in_has, has_in, in_contains, contains_in, in_map, map_in, in_filter, filter_in, in_reverse, reverse_in, in_append, in_left, in_right, any_found, any_there, unique, sorted_push, sorted_none}
 use Rattle.frame_lists.proofs.Numbered.{Numbered, item, count, on, here, on-is}
-use Rattle.frame_lists.proofs.Placed.{IsPlaced}
 use Rattle.frame_lists.proofs.ByNumber.{number, same-names, name-self}
 use Rattle.frame_lists.proofs.Added.{plus, filter-last, filter-map, map-reverse}
 use Rattle.frame_lists.proofs.Passing.{state}
-use Rattle.frame_lists.proofs.StateLaws.{IsGood, FloatsAre, statements_of, labels_by, listed_by, float_pair, float_pairs, look, look-in, essentials-are, float-is}
+use Rattle.frame_lists.proofs.StateLaws.{IsGood, FloatsAre, statements_of, labels_by, listed_by, float_pair, float_pairs, look-in, essentials-are, float-is}
 use Rattle.frame_lists.proofs.MandatoryLaws.{hypothesis-is, mandatory-law}
 
 -- ---- the labels of the active `$e` and of the `$f` of variables

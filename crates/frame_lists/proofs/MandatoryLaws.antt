@@ -1,16 +1,15 @@
 -- The variables of an assertion and of the active `$e`.
-use Rattle.std.proofs.Common.{◌≡◌, ℕ, zero, suc, Bool, true, false, not, ◌&&◌, ◌||◌, cond, List, [], ◌∷◌, ◌++◌, append-nil, length, map, reverse, flat_map, fold, Option, Some, None, slice_get, option_map, unwrap_or, get_or, refl, sym, ap, ◌∙◌, arith, inl, inr, subst, codes, nat_eq, eqb}
+use Rattle.std.proofs.Common.{◌≡◌, ℕ, zero, suc, Bool, true, false, ◌&&◌, ◌||◌, List, [], ◌∷◌, ◌++◌, append-nil, length, map, reverse, Some, slice_get, option_map, unwrap_or, get_or, refl, sym, ap, ◌∙◌, arith, inl, inr, codes, nat_eq}
 use Rattle.std.specs.List.{list_any, filter, AllByRecursion}
-use Rattle.std.specs.Str.{bytes_eq}
 use Rattle.std.proofs.lemmas.Bool.{cases_Bool}
 use Rattle.std.proofs.lemmas.Bool.Decides.{nat_tests}
-use Rattle.std.proofs.lemmas.List.{reverse-append, map-append}
+use Rattle.std.proofs.lemmas.List.{reverse-append}
 use Rattle.std.proofs.lemmas.List.Folds.{list_any-append}
 use Rattle.mm_base.specs.declared.symbols.Sym.{Sym}
 use Rattle.mm_model.specs.Names.{Name, contains}
 use Rattle.mm_model.specs.declared.frames.Hyp.{Hyp}
-use Rattle.mm_model.specs.Statements.{Statement, has_keyword, labels_in, labelled, symbols_in, with_keyword}
-use Rattle.mm_model.specs.Frames.{symbols, symbol_in, formula_of, label_in, hypothesis_of}
+use Rattle.mm_model.specs.Statements.{Statement, has_keyword, labels_in, symbols_in, with_keyword}
+use Rattle.mm_model.specs.Frames.{symbols, formula_of, label_in, hypothesis_of}
 use Rattle.frame_lists.specs.declared.entry.Entry.{Entry}
 use Rattle.frame_lists.specs.declared.listed.Listed.{Listed}
 use Rattle.frame_lists.specs.declared.scope.Scope.{Scope}
@@ -22,7 +21,7 @@ use Rattle.frame_lists.proofs.Numbered.{Numbered}
 use Rattle.frame_lists.proofs.Placed.{IsPlaced}
 use Rattle.frame_lists.proofs.ByNumber.{has_symbol, number, contains-symbols, any-turned}
 use Rattle.frame_lists.proofs.Added.{map-reverse, filter-append}
-use Rattle.frame_lists.proofs.StateLaws.{IsGood, statements_of, labels_by, listed_by, variables-law, essentials-are}
+use Rattle.frame_lists.proofs.StateLaws.{IsGood, statements_of, listed_by, variables-law, essentials-are}
 use Rattle.frame_lists.proofs.Passing.{state}
 
 -- ---- Booleans

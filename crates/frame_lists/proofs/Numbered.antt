@@ -4,7 +4,7 @@ use Rattle.std.proofs.lemmas.Bool.{cases_Bool, cases_lt}
 use Rattle.std.proofs.lemmas.Bool.Decides.{nat_tests}
 use Rattle.std.specs.List.{ends_with}
 use Rattle.std.specs.Cmp.Lexicographic.{pointwise}
-use Rattle.mm_model.specs.Statements.{Statement, has_keyword, path, active_on, active, labels_in}
+use Rattle.mm_model.specs.Statements.{Statement, has_keyword, path, active_on, labels_in}
 use Rattle.mm_model.proofs.Scopes.{Below, cond_then, cond_else, ends_with-same, ends_with-longer, path-below, path-open, path-close, path-plain, length-drop-lt, drop-tail}
 
 -- how many labels statements have

@@ -1,7 +1,6 @@
 -- Pairs of distinct variables in order.
-use Rattle.std.proofs.Common.{◌≡◌, ℕ, zero, suc, ◌+◌, ◌<◌, ◌≤◌, Bool, true, false, ◌&&◌, ◌||◌, ◌⊎◌, List, [], ◌∷◌, ◌++◌, length, map, reverse, fold, refl, sym, ap, ◌∙◌, arith, inl, inr, subst, codes, nat_eq, ltb, eqb, nat_lt}
+use Rattle.std.proofs.Common.{◌≡◌, ℕ, ◌<◌, Bool, true, false, ◌&&◌, ◌||◌, ◌⊎◌, List, [], ◌∷◌, ◌++◌, length, map, fold, refl, sym, ap, ◌∙◌, arith, inl, inr, subst, codes, nat_eq, ltb, eqb, nat_lt}
 use Rattle.std.specs.List.{list_any, filter, AllByRecursion}
-use Rattle.std.specs.List.Sorted.{IsStrictlySortedBy}
 use Rattle.std.specs.Ordering.{nat_cmp, ordering_then}
 use Rattle.std.specs.declared.cmp.Ordering.TheVariants.{Less, Equal, Greater}
 use Rattle.std.specs.Str.{bytes_eq}
@@ -21,15 +20,14 @@ use Rattle.frame_lists.specs.declared.listed.Listed.{Listed}
 use Rattle.frame_lists.specs.declared.scope.Scope.{Scope}
 use Rattle.frame_lists.specs.Lists.{AreOf}
 use Rattle.frame_lists.specs.Entries.{kind_in}
-use Rattle.frame_lists.specs.Orders.{Ordered, Rises, PairsRise, ArePairs}
-use Rattle.frame_lists.specs.Steps.{has, symbols_at, chosen_more, chosen, pair_more, pairs_with, pairs_all, found_pairs, pair_of}
+use Rattle.frame_lists.specs.Orders.{Rises, PairsRise, ArePairs}
+use Rattle.frame_lists.specs.Steps.{has, symbols_at, chosen_more, chosen, pairs_with, pairs_all, found_pairs, pair_of}
 use Rattle.frame_lists.proofs.Keywords.{is_distinct, kind-is_distinct}
 use Rattle.frame_lists.proofs.PairOrder.{pair_cmp, pair_total}
-use Rattle.frame_lists.proofs.Members.{In, in_all, in_has, has_in, in_contains, contains_in, in_map, map_in, in_filter, filter_in, in_append, in_left, in_right, any_found, any_there, unique, sorted_cons, sorted_none, sorted_append}
+use Rattle.frame_lists.proofs.Members.{In, in_all, in_contains, contains_in, in_map, map_in, in_filter, filter_in, in_append, in_left, in_right, any_there, unique, sorted_cons, sorted_none, sorted_append}
 use Rattle.frame_lists.proofs.Numbered.{Numbered, here, on-is}
-use Rattle.frame_lists.proofs.Placed.{IsPlaced}
-use Rattle.frame_lists.proofs.ByNumber.{has_symbol, number, numbers_passing, contains-symbols, any-turned, passing-rise, to-passing, from-passing, Fresh, names-fresh, name-self}
-use Rattle.frame_lists.proofs.Added.{map-reverse, filter-append}
+use Rattle.frame_lists.proofs.ByNumber.{has_symbol, number, numbers_passing, contains-symbols, any-turned, passing-rise, to-passing, from-passing, names-fresh, name-self}
+use Rattle.frame_lists.proofs.Added.{map-reverse}
 use Rattle.frame_lists.proofs.Passing.{state}
 use Rattle.frame_lists.proofs.StateLaws.{IsGood, statements_of, joined, distinct-are}
 use Rattle.frame_lists.proofs.MandatoryLaws.{symbols-is, filter-reverse}

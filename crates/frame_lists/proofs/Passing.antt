@@ -1,11 +1,10 @@
 -- What the pass over the statements keeps is that of the active statements.
-use Rattle.std.proofs.Common.{◌≡◌, ℕ, zero, suc, ◌+◌, ◌-◌, ◌<◌, ◌≤◌, Bool, true, false, not, ◌&&◌, cond, List, [], ◌∷◌, ◌++◌, append-nil, append_assoc, length, take, drop, map, fold, reverse, Option, Some, None, slice_get, nat_eq, refl, sym, ap, ◌∙◌, arith, inl, inr, subst, codes}
-use Rattle.std.specs.List.{list_any}
+use Rattle.std.proofs.Common.{◌≡◌, ℕ, suc, ◌-◌, ◌<◌, List, [], ◌∷◌, ◌++◌, append-nil, append_assoc, length, take, drop, reverse, Some, slice_get, refl, sym, ap, ◌∙◌, arith, inl, inr, subst}
 use Rattle.std.proofs.lemmas.Bool.{cases_Bool}
 use Rattle.std.proofs.lemmas.List.{reverse-append}
 use Rattle.mm_base.specs.declared.symbols.Sym.{Sym}
 use Rattle.mm_model.specs.Names.{Name}
-use Rattle.mm_model.specs.Statements.{Statement, has_keyword, path}
+use Rattle.mm_model.specs.Statements.{Statement, path}
 use Rattle.mm_model.specs.Frames.{formula_of}
 use Rattle.mm_model.proofs.Scopes.{path-open, path-close, path-plain, length-drop-lt, drop-tail}
 use Rattle.frame_lists.specs.declared.entry.EntryKind.{EntryKind}
@@ -14,7 +13,7 @@ use Rattle.frame_lists.specs.declared.entry.StatementKind.TheVariants as kind
 use Rattle.frame_lists.specs.declared.scope.Scope.{Scope}
 use Rattle.frame_lists.specs.declared.scope.Block.{Block}
 use Rattle.frame_lists.specs.Entries.{kind_in}
-use Rattle.frame_lists.specs.Steps.{has, first_scope, declared, declared_more, with_float, with_open, with_close, closed_at, cut_to, last_block, passed}
+use Rattle.frame_lists.specs.Steps.{has, first_scope, declared, with_float, with_open, with_close, closed_at, cut_to, last_block, passed}
 use Rattle.frame_lists.proofs.Keywords.{opens, closes, neither}
 use Rattle.frame_lists.proofs.Numbered.{Numbered, item, count, on, here, on-skip, on-keep, here-open, here-plain, here-close, here-astray, nested}
 

@@ -1,11 +1,11 @@
 -- Places where no block is open.
-use Rattle.std.proofs.Common.{◌≡◌, ℕ, zero, suc, ◌+◌, ◌-◌, ◌<◌, ◌≤◌, ◌==◌, Bool, true, false, cond, List, [], ◌∷◌, length, drop, map, Option, Some, None, slice_get, option_map, unwrap_or, eqb, refl, sym, ap, ◌∙◌, arith, subst, inl, inr, codes}
+use Rattle.std.proofs.Common.{◌≡◌, ℕ, zero, suc, ◌+◌, ◌-◌, ◌<◌, ◌≤◌, ◌==◌, Bool, true, false, cond, List, [], ◌∷◌, length, drop, map, Some, None, slice_get, option_map, unwrap_or, eqb, refl, sym, ap, ◌∙◌, arith, inl, inr}
 use Rattle.std.specs.Prelude.{find}
 use Rattle.std.specs.List.{range_with_len}
 use Rattle.std.proofs.lemmas.Bool.{cases_Bool}
 use Rattle.std.proofs.lemmas.Bool.Decides.{nat_tests}
 use Rattle.mm_model.specs.Names.{Name}
-use Rattle.mm_model.specs.Statements.{Statement, has_keyword, is_empty, path}
+use Rattle.mm_model.specs.Statements.{Statement, is_empty, path}
 use Rattle.mm_model.specs.Frames.{below}
 use Rattle.mm_model.proofs.Scopes.{path-open, path-close, path-plain}
 use Rattle.frame_lists.specs.declared.entry.Entry.{Entry}

@@ -1,25 +1,25 @@
 -- What is kept of active statements, said of the statements.
-use Rattle.std.proofs.Common.{◌≡◌, ℕ, zero, suc, ◌+◌, ◌-◌, ◌<◌, ◌≤◌, Bool, true, false, cond, ◌||◌, ◌&&◌, List, [], ◌∷◌, ◌++◌, append-nil, append_assoc, length, take, drop, map, reverse, flat_map, fold, Option, Some, None, slice_get, option_map, option_and_then, unwrap_or, position, get_or, nat_eq, eqb, ltb, refl, sym, ap, ◌∙◌, arith, inl, inr, subst, codes, ◌⊎◌}
+use Rattle.std.proofs.Common.{◌≡◌, ℕ, zero, suc, ◌+◌, ◌<◌, ◌≤◌, Bool, true, false, cond, ◌||◌, List, [], ◌∷◌, ◌++◌, append-nil, append_assoc, length, drop, map, reverse, flat_map, Option, Some, None, slice_get, option_map, option_and_then, position, nat_eq, ltb, refl, sym, ap, ◌∙◌, arith, inl, inr, subst, codes, ◌⊎◌}
 use Rattle.std.specs.List.{list_any, filter, AllByRecursion, ends_with, position_or_len}
 use Rattle.std.specs.Str.{bytes_eq}
 use Rattle.std.proofs.lemmas.Bool.{cases_Bool, or_cases, or_left, or_right, or_parts}
 use Rattle.std.proofs.lemmas.Bool.Decides.{nat_tests}
-use Rattle.std.proofs.lemmas.List.{map-append, length-reverse, reverse-append}
+use Rattle.std.proofs.lemmas.List.{map-append, reverse-append}
 use Rattle.std.proofs.lemmas.List.Folds.{list_any-append}
 use Rattle.mm_base.specs.declared.symbols.Sym.{Sym}
 use Rattle.mm_model.specs.Names.{Name, contains}
-use Rattle.mm_model.specs.Statements.{Statement, has_keyword, labels_in, labelled, symbols_in, second, typed, variables, active, path, with_keyword}
-use Rattle.mm_model.specs.Frames.{symbols, symbol_in, formula_of, below}
-use Rattle.mm_model.proofs.Scopes.{path-open, path-close, path-plain, drop-tail, length-drop-lt}
+use Rattle.mm_model.specs.Statements.{Statement, has_keyword, labels_in, labelled, symbols_in, second, active, path, with_keyword}
+use Rattle.mm_model.specs.Frames.{symbols, symbol_in, formula_of}
+use Rattle.mm_model.proofs.Scopes.{path-open, path-close, path-plain, length-drop-lt}
 use Rattle.model_laws.specs.StatementLaws.{IsSound, AreSound}
 use Rattle.frame_lists.specs.declared.entry.EntryKind.{EntryKind}
 use Rattle.frame_lists.specs.declared.scope.Scope.{Scope}
 use Rattle.frame_lists.specs.Entries.{kind_in}
-use Rattle.frame_lists.specs.Steps.{has, is_floating, declared, declared_more, with_float, float_of, passed}
+use Rattle.frame_lists.specs.Steps.{has, is_floating, declared, with_float, float_of}
 use Rattle.frame_lists.proofs.Keywords.{is_variables, is_distinct, is_essential, kind-is_variables, kind-is_floating}
 use Rattle.frame_lists.proofs.Members.{In}
-use Rattle.frame_lists.proofs.Numbered.{Numbered, item, count, on, here, on-is, on-skip, on-keep, here-open, here-plain, here-close}
-use Rattle.frame_lists.proofs.Passing.{added, state}
+use Rattle.frame_lists.proofs.Numbered.{Numbered, item, on, here, on-is, on-skip, on-keep, here-open}
+use Rattle.frame_lists.proofs.Passing.{state}
 use Rattle.frame_lists.proofs.Placed.{IsPlaced, item-placed, all-placed}
 use Rattle.frame_lists.proofs.ByNumber.{has_symbol, number, number-within, contains-symbols, test-number, variable-known, name-self}
 use Rattle.frame_lists.proofs.Added.{plus, added-essentials, added-hyps, added-distinct, added-variables, no_float, a_float, filter-last}

@@ -1,5 +1,5 @@
 -- Behind the first statements of a text without a fault, the scope and the next label are as the definitions say.
-use Rattle.std.proofs.Common.{◌≡◌, ℕ, zero, suc, ◌+◌, ◌<◌, ◌≤◌, ◌==◌, Bool, true, false, not, cond, List, [], ◌∷◌, ◌++◌, length, take, drop, map, reverse, Option, Some, None, slice_get, option_map, unwrap_or, refl, sym, ap, ◌∙◌, arith, subst}
+use Rattle.std.proofs.Common.{◌≡◌, ℕ, zero, suc, ◌+◌, ◌<◌, ◌≤◌, not, cond, List, [], ◌∷◌, ◌++◌, length, take, drop, reverse, Some, slice_get, option_map, unwrap_or, refl, sym, ap, ◌∙◌, arith, subst}
 use Rattle.std.proofs.lemmas.List.{reverse-append}
 use Rattle.mm_base.specs.declared.symbols.Sym.{Sym}
 use Rattle.mm_model.specs.Words.{Word}
@@ -13,7 +13,7 @@ use Rattle.frame_lists.specs.declared.entry.EntryKind.TheVariants as entry
 use Rattle.frame_lists.specs.declared.listed.Listed.{Listed}
 use Rattle.frame_lists.specs.declared.scope.Scope.{Scope}
 use Rattle.frame_lists.specs.Lists.{AreOf}
-use Rattle.frame_lists.specs.Entries.{entry_in, kind_in}
+use Rattle.frame_lists.specs.Entries.{kind_in}
 use Rattle.frame_lists.specs.Steps.{passed, kind_at, symbols_at, is_label_of, label_after, label_upto, scope_upto}
 use Rattle.frame_lists.proofs.Numbered.{count}
 use Rattle.frame_lists.proofs.Placed.{is_at, next-label, below-next, below-whole, below-length}

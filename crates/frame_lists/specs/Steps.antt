@@ -1,16 +1,13 @@
 -- What the passes make of their lists, step by step. Variables, labels and statements are numbers here.
-use Rattle.std.specs.Prelude.{◌≡◌, ℕ, zero, suc, ◌+◌, ◌-◌, ◌==◌, Bool, true, false, not, ◌&&◌, List, [], ◌∷◌, ◌++◌, length, take, map, fold, Option, None, Some, if◌then◌else◌, nat_eq, nat_lt, slice_get, slice_index_or, unwrap_or, option_map, option_and_then, position}
+use Rattle.std.specs.Prelude.{ℕ, zero, suc, ◌+◌, ◌-◌, ◌==◌, Bool, true, false, not, ◌&&◌, List, [], ◌∷◌, ◌++◌, length, take, fold, Option, None, Some, if◌then◌else◌, nat_eq, nat_lt, slice_get, slice_index_or, unwrap_or, option_map, option_and_then, position}
 use Rattle.std.specs.List.{list_any}
 use Rattle.mm_base.specs.declared.symbols.Sym.{Sym}
 use Rattle.mm_base.specs.declared.symbols.Pair.{Pair}
 use Rattle.mm_model.specs.declared.frames.Hyp.{Hyp}
-use Rattle.mm_model.specs.declared.frames.Frame.{Frame}
-use Rattle.mm_model.specs.declared.frames.Active.{Active}
-use Rattle.mm_model.specs.Names.{sym, label}
+use Rattle.mm_model.specs.Names.{sym}
 use Rattle.frame_lists.specs.declared.entry.Entry.{Entry}
 use Rattle.frame_lists.specs.declared.entry.EntryKind.{EntryKind}
 use Rattle.frame_lists.specs.declared.entry.EntryKind.TheVariants as entry
-use Rattle.frame_lists.specs.declared.entry.StatementKind.{StatementKind}
 use Rattle.frame_lists.specs.declared.entry.StatementKind.TheVariants as kind
 use Rattle.frame_lists.specs.declared.listed.Listed.{Listed}
 use Rattle.frame_lists.specs.declared.scope.Scope.{Scope}

@@ -19,3 +19,4 @@ pub mod Numbers
 pub mod SoFar
 pub mod Shapes
 pub mod State
+pub mod Empty

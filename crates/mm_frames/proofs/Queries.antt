@@ -17,6 +17,7 @@ use Rattle.mm_model.specs.Statements.{Statement, statements, labels, labels_in, 
 use Rattle.mm_model.specs.Frames.{symbols, positions, positions_from, proof_range, frame_of, statement_of, is_assertion, frame_at as frame_there, below, is_constant_at}
 use Rattle.frame_lists.specs.declared.entry.Entry.{Entry}
 use Rattle.frame_lists.specs.Entries.{entry_in, proof_of}
+use Rattle.mm_frames.proofs.Empty.{no-empty}
 use Rattle.mm_frames.specs.Contents.{Contents, contents_of, proof_at, frame_at}
 
 get-entry : (names : List Name) (ss : List Statement) (i : ℕ) → slice_get (map (entry_in names) ss) i ≡ option_map (entry_in names) (slice_get ss i)
@@ -188,15 +189,30 @@ get-mapped f [] k d h = let bad : ⊥ = omega (arith, h) in absurd bad
 get-mapped f (x ∷ xs) zero d h = refl
 get-mapped f (x ∷ xs) (suc k) d h = get-mapped f xs k d (omega (arith, h))
 
-pub constant-is : (c : Contents) (s : Sym) (place : ℕ) (text : List ℕ) → c ≡ contents_of text → s.0 < length c.symbols → place ≤ length c.entries → length c.entries < 4294967296
+get-past : {X : Type 0} (xs : List X) (k : ℕ) (d : X) → length xs ≤ k → get_or xs k d ≡ d
+get-past [] zero d h = refl
+get-past [] (suc k) d h = refl
+get-past (x ∷ xs) zero d h = let bad : ⊥ = omega (arith, h) in absurd bad
+get-past (x ∷ xs) (suc k) d h = get-past xs k d (omega (arith, h))
+
+pub constant-is : (c : Contents) (s : Sym) (place : ℕ) (text : List ℕ) → c ≡ contents_of text → place ≤ length c.entries → length c.entries < 4294967296
     → nat_lt (get_or c.constants s.0 4294967295) place ≡ is_constant_at (statements text) s place
-constant-is c s place text h known within few =
+constant-is c s place text h within few =
     let ss = statements text in
     let long : length c.entries ≡ length ss = ap (λ (d : Contents). length d.entries) h ∙ map-length (entry_in (symbols ss)) ss in
-    let known' : s.0 < length (symbols ss) = subst (λ (d : Contents). s.0 < length d.symbols) h known in
     ap (λ (d : Contents). nat_lt (get_or d.constants s.0 4294967295) place) h
-    ∙ ap (λ (k : ℕ). nat_lt k place) (get-mapped (declared_by (reverse ss)) (symbols ss) s.0 4294967295 known')
-    ∙ constant-law ss (get_or (symbols ss) s.0 []) place (omega (arith, long, within)) (omega (arith, long, few))
+    ∙ elim (cases_lt s.0 (length (symbols ss))) as (λ w. nat_lt (get_or (constant_places ss) s.0 4294967295) place ≡ is_constant_at ss s place) [
+      | inl known ↦
+          ap (λ (k : ℕ). nat_lt k place) (get-mapped (declared_by (reverse ss)) (symbols ss) s.0 4294967295 known)
+          ∙ constant-law ss (get_or (symbols ss) s.0 []) place (omega (arith, long, within)) (omega (arith, long, few))
+      | inr out ↦
+          let none = get-past (constant_places ss) s.0 4294967295 (at-most (length (constant_places ss)) (length (symbols ss)) s.0 (map-length (declared_by (reverse ss)) (symbols ss)) out) in
+          let big : ltb 4294967295 place ≡ false = grind (arith, nat_tests, within, few) in
+          ap (λ (k : ℕ). nat_lt k place) none ∙ big ∙ sym (ap (λ n. contains (constants (below ss place)) n) (get-past (symbols ss) s.0 [] out) ∙ no-empty text place)
+    ]
+  where
+    at-most : (a n k : ℕ) → a ≡ n → n ≤ k → a ≤ k
+    at-most a n k e h = omega (arith, e, h)
 
 -- ---- statements below a place
 

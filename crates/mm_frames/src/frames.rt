@@ -117,13 +117,18 @@ impl Frames {
         self.symbols.name(symbol.0)
     }
 
+<<<<<<< HEAD
     /// The number of symbols; they are numbered from 0.
+=======
+    /// The number of symbols; they are numbered from 0, in the order in which they were first declared.
+>>>>>>> 191f81b50f9d194af156b107bfdc04894589605e
     pub fn symbols(&self) -> u32
         ensures { result ≡ length self.now.symbols }
     {
         self.symbols.count()
     }
 
+<<<<<<< HEAD
     /// The frames by label; none where it is no label of an assertion.
     pub fn frames(&self) -> &[Option<Frame>]
         ensures { result.now ≡ self.now.frames }
@@ -138,6 +143,8 @@ impl Frames {
         self.constants.as_slice()
     }
 
+=======
+>>>>>>> 191f81b50f9d194af156b107bfdc04894589605e
     /// The number of labels; they are numbered from 0.
     pub fn labels(&self) -> u32
         ensures { result ≡ length self.now.labels }
@@ -203,10 +210,9 @@ impl Frames {
         active_at(self.listed.entries.allocator(), &self.listed, place)
     }
 
-    /// Whether a `$c` of a symbol of this database stands below a place. It takes constant time.
+    /// Whether a `$c` of the symbol stands below a place. It takes constant time.
     pub fn constant_at(&self, symbol: Sym, place: u32) -> bool
-        requires symbol { symbol.0 < length self.now.symbols }
-        requires place { place ≤ length self.now.entries }
+        requires { place ≤ length self.now.entries }
         ensures { (text : List ℕ) → self.now ≡ contents_of text → result ≡ spec.is_constant_at (statements text) symbol place }
     {
         declared_at(self.constants.as_slice(), symbol.0) < place

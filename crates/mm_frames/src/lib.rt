@@ -12,7 +12,7 @@ mod step;
 mod words;
 
 pub use fault::ReadFault;
-pub use frame_lists::{Active, Frame, Hyp};
+pub use frame_lists::{Active, Entry, EntryKind, Frame, Hyp, StatementKind};
 pub use frames::Frames;
 pub use reading::read;
 

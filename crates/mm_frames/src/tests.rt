@@ -1,8 +1,10 @@
 ghost use Rattle.std.specs.Prelude.{◌≤◌, ◌^◌, length};
 
 use super::*;
-use mm_base::Sym;
+use mm_base::{Label, Pair, Sym};
 use mm_tokens::tokens;
+use std::alloc::{AllocError, Global};
+use std::test::Fail;
 
 fn has_fault(rt: HostRuntime, text: &[u8], fault: ReadFault) -> bool
     requires { length text.now ≤ 2 ^ 28 }
@@ -29,6 +31,23 @@ fn declarations(rt: HostRuntime) {
     assert!(rt; has_fault(rt, b"$c a $. ${ $v", ReadFault::Unended(13)));
     assert!(rt; has_fault(rt, b"${ ${ $}", ReadFault::BlockOpen(8)));
     assert!(rt; has_fault(rt, b"${ $} $}", ReadFault::BlockUnopened(6)));
+}
+
+/// The text `${ ` so many times.
+fn deep(alloc: Global, blocks: u32) -> Result<Vec<u8>, AllocError> {
+    let mut text = Vec::new(alloc);
+    for _ in 0..blocks {
+        text.extend_from_slice(b"${ ")?;
+    }
+    Ok(text)
+}
+
+#[test]
+fn blocks_may_be_nested_deeply(rt: HostRuntime) -> Result<(), Fail> {
+    let text = deep(rt.alloc(), 100000)?;
+    assert_eq!(rt; text.len(), 300000);
+    assert!(rt; has_fault(rt, text.as_slice(), ReadFault::BlockOpen(300000)));
+    Ok(())
 }
 
 #[test]
@@ -79,4 +98,115 @@ fn contents(rt: HostRuntime) {
             assert_eq!(rt; frames.place_byte(4), 44);
         }
     }
+}
+
+static LOGIC: &[u8] =
+    b"$c ( ) -> -. wff |- $. $v ph ps ch $. wph $f wff ph $. wps $f wff ps $. wch $f wff ch $.
+wn $a wff -. ph $. wi $a wff ( ph -> ps ) $.
+${ min $e |- ph $. maj $e |- ( ph -> ps ) $. ax-mp $a |- ps $. $}
+ax-1 $a |- ( ph -> ( ps -> ph ) ) $. ax-2 $a |- ( ( ph -> ( ps -> ch ) ) -> ( ( ph -> ps ) -> ( ph -> ch ) ) ) $.
+$c setvar class { } | = A. $. $v x y A B $. vx $f setvar x $. vy $f setvar y $. cA $f class A $. cB $f class B $.
+cv $a class x $. cab $a class { x | ph } $. wceq $a wff A = B $. wal $a wff A. x ph $.
+${ a1i.1 $e |- ph $. a1i $a |- ( ps -> ph ) $. $}
+${ a2i.1 $e |- ( ph -> ( ps -> ch ) ) $. a2i $a |- ( ( ph -> ps ) -> ( ph -> ch ) ) $. $}
+${ $d x ph $. ax-5 $a |- ( ph -> A. x ph ) $. $}
+eqid $a |- A = A $. ${ drop.1 $e |- ( ph -> A. x ph ) $. drop $a |- ( ph -> ph ) $. $}
+two $p |- ( ph -> ph ) $= ? $.";
+
+fn write_symbols(frames: &Frames, line: &mut Vec<u8>, symbols: &[Sym]) -> Result<(), AllocError> {
+    for symbol in symbols {
+        if symbol.0 < frames.symbols() {
+            line.extend_from_slice(frames.symbol_name(*symbol))?;
+        }
+        line.push(b' ')?;
+    }
+    Ok(())
+}
+
+fn write_names(line: &mut Vec<u8>, hyps: &[Hyp]) -> Result<(), AllocError> {
+    for hyp in hyps {
+        line.extend_from_slice(hyp.name.as_slice())?;
+        line.push(b' ')?;
+    }
+    Ok(())
+}
+
+fn write_pairs(frames: &Frames, line: &mut Vec<u8>, pairs: &[Pair]) -> Result<(), AllocError> {
+    for pair in pairs {
+        write_symbols(frames, line, &[pair.a, pair.b])?;
+    }
+    Ok(())
+}
+
+/// The formula, the hypotheses and the pairs of a label's frame.
+fn frame_line(alloc: Global, frames: &Frames, name: &[u8]) -> Result<Vec<u8>, AllocError> {
+    let mut line = Vec::new(alloc);
+    let label = frames.label(name).unwrap_or(Label(u32::MAX));
+    if let Some(frame) = frames.frame(label) {
+        write_symbols(frames, &mut line, frame.formula.as_slice())?;
+        line.extend_from_slice(b"; ")?;
+        write_names(&mut line, frame.hyps.as_slice())?;
+        line.extend_from_slice(b"; ")?;
+        write_pairs(frames, &mut line, frame.pairs.as_slice())?;
+    }
+    Ok(line)
+}
+
+/// The variables, the hypotheses and the pairs that are active at a place.
+fn active_line(alloc: Global, frames: &Frames, place: u32) -> Result<Vec<u8>, Fail> {
+    let mut line = Vec::new(alloc);
+    if place <= frames.end() {
+        let active = frames.active_at(place)?;
+        write_symbols(frames, &mut line, active.variables.as_slice())?;
+        line.extend_from_slice(b"; ")?;
+        write_names(&mut line, active.hyps.as_slice())?;
+        line.extend_from_slice(b"; ")?;
+        write_pairs(frames, &mut line, active.pairs.as_slice())?;
+    }
+    Ok(line)
+}
+
+fn opened(alloc: Global, text: &[u8]) -> Option<Frames>
+    requires { length text.now ≤ 2 ^ 28 }
+{
+    match tokens(alloc, text) {
+        Err(_) => None,
+        Ok(tokens) => read(alloc, text, &tokens).ok(),
+    }
+}
+
+#[test]
+fn frames_and_places(rt: HostRuntime) -> Result<(), Fail> {
+    let alloc = rt.alloc();
+    assert!(rt; LOGIC.len() <= 268435456);
+    let frames = opened(alloc, LOGIC).ok_or("a fault")?;
+    let ax_mp = frame_line(alloc, &frames, b"ax-mp")?;
+    assert!(rt; ax_mp.as_slice() == b"|- ps ; wph wps min maj ; ".as_slice());
+    let ax_5 = frame_line(alloc, &frames, b"ax-5")?;
+    assert!(rt; ax_5.as_slice() == b"|- ( ph -> A. x ph ) ; wph vx ; ph x ".as_slice());
+    let drop_ = frame_line(alloc, &frames, b"drop")?;
+    assert!(rt; drop_.as_slice() == b"|- ( ph -> ph ) ; wph vx drop.1 ; ".as_slice());
+    let min = frame_line(alloc, &frames, b"min")?;
+    assert!(rt; min.is_empty());
+    let inside = active_line(alloc, &frames, 10)?;
+    assert!(rt; inside.as_slice() == b"ph ps ch ; wph wps wch min maj ; ".as_slice());
+    let later = active_line(alloc, &frames, 34)?;
+    assert!(rt;
+        later.as_slice() == b"ph ps ch x y A B ; wph wps wch vx vy cA cB ; ph x ".as_slice()
+    );
+    let class = frames.symbol(b"class").ok_or("no symbol")?;
+    let label = frames.label(b"min").ok_or("no label")?;
+    if label.0 < frames.labels() && 15 <= frames.end() {
+        assert!(rt; !frames.constant_at(class, 14) && frames.constant_at(class, 15));
+        assert_eq!(rt; frames.place_after(label), 12);
+        assert_eq!(rt; frames.float_codes(5)?.as_slice().len(), 3);
+    }
+    assert!(rt; frames.frame(label).is_none());
+    let two = frames.label(b"two").ok_or("no label")?;
+    assert!(rt;
+        frames
+            .frame(two)
+            .is_some_and(|frame| !frame.is_axiom && frame.label == two)
+    );
+    Ok(())
 }

@@ -1,4 +1,4 @@
-use Rattle.std.proofs.Common.{◌≡◌, ℕ, ◌<◌, List, length, Some, slice_get, get_or, ap, sym, ◌∙◌, arith, subst}
+use Rattle.std.proofs.Common.{◌≡◌, ◌<◌, List, length, get_or, ap, ◌∙◌, arith}
 use Rattle.frame_lists.specs.declared.entry.Entry.{Entry}
 use Rattle.frame_lists.proofs.Upto.{entry-here, scope-step, label-step, label-within}
 use Rattle.frame_lists.proofs.active.scope_at.Goals as goal

@@ -1,4 +1,4 @@
-use Rattle.std.proofs.Common.{◌≡◌, take, fold, map, [], ◌∷◌, ◌++◌}
+use Rattle.std.proofs.Common.{◌≡◌, take, map}
 use Rattle.mm_model.specs.Names.{sym}
 use Rattle.frame_lists.proofs.active.symbols_of.Given as goal
 

@@ -1,7 +1,5 @@
-use Rattle.std.proofs.Common.{◌≡◌, ℕ, List, length, map, ap, sym, ◌∙◌, arith, ◌<◌}
-use Rattle.std.proofs.lemmas.List.{length-map}
+use Rattle.std.proofs.Common.{List, ap, ◌∙◌}
 use Rattle.frame_lists.specs.declared.entry.Entry.{Entry}
-use Rattle.frame_lists.specs.Entries.{entry_in}
 use Rattle.frame_lists.specs.Places.{place_by}
 use Rattle.frame_lists.proofs.PlaceLaws.{place-law}
 use Rattle.frame_lists.proofs.blocks.place_after.Goals as goal

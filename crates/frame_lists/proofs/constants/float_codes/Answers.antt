@@ -1,4 +1,4 @@
-use Rattle.std.proofs.Common.{◌≡◌, ℕ, List, [], length, take, fold, ap, sym, ◌∙◌, arith, ◌≤◌}
+use Rattle.std.proofs.Common.{List, [], fold, ap, ◌∙◌, arith}
 use Rattle.std.proofs.lemmas.List.{take_all}
 use Rattle.frame_lists.specs.declared.entry.Entry.{Entry}
 use Rattle.frame_lists.specs.Places.{codes_more}

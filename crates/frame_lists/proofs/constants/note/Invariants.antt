@@ -1,4 +1,4 @@
-use Rattle.std.proofs.Common.{◌≡◌, ℕ, fold, take}
+use Rattle.std.proofs.Common.{◌≡◌, fold, take}
 use Rattle.mm_base.specs.declared.symbols.Sym.{Sym}
 use Rattle.frame_lists.specs.Places.{noted_more}
 use Rattle.frame_lists.proofs.constants.note.Given as goal

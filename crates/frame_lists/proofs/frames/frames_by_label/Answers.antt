@@ -1,9 +1,9 @@
-use Rattle.std.proofs.Common.{◌≡◌, ℕ, ◌<◌, List, length, get_or, ap, sym, ◌∙◌, arith, subst}
+use Rattle.std.proofs.Common.{◌≡◌, ℕ, ◌<◌, List, length, get_or, ap, ◌∙◌, arith}
 use Rattle.mm_model.specs.Statements.{statements}
 use Rattle.frame_lists.specs.declared.entry.Entry.{Entry}
 use Rattle.frame_lists.specs.Steps.{label_upto}
 use Rattle.frame_lists.proofs.Upto.{entry-here, scope-step}
-use Rattle.frame_lists.proofs.FrameLaws.{FramedNext, framed-next, framed-whole}
+use Rattle.frame_lists.proofs.FrameLaws.{framed-next, framed-whole}
 use Rattle.frame_lists.proofs.frames.frames_by_label.Goals as goal
 
 pub loop-number-preserved : goal.loop-number-preserved

@@ -1,4 +1,4 @@
-use Rattle.std.proofs.Common.{◌≡◌, take, fold, map, [], ◌∷◌, ◌++◌}
+use Rattle.std.proofs.Common.{◌≡◌, take, map}
 use Rattle.frame_lists.specs.Steps.{hypothesis_at}
 use Rattle.frame_lists.proofs.hypotheses.hypotheses.Given as goal
 

@@ -1,4 +1,4 @@
-use Rattle.std.proofs.Common.{◌≡◌, take, fold, map, [], ◌∷◌, ◌++◌}
+use Rattle.std.proofs.Common.{◌≡◌, take, fold}
 use Rattle.frame_lists.specs.Steps.{or_more, float_of}
 use Rattle.frame_lists.proofs.hypotheses.labels_of.Given as goal
 

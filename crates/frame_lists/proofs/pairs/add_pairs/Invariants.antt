@@ -1,4 +1,4 @@
-use Rattle.std.proofs.Common.{◌≡◌, take, fold, map, [], ◌∷◌, ◌++◌}
+use Rattle.std.proofs.Common.{◌≡◌, take, fold}
 use Rattle.frame_lists.specs.Steps.{pairs_with}
 use Rattle.frame_lists.proofs.pairs.add_pairs.Given as goal
 

@@ -1,4 +1,4 @@
-use Rattle.std.proofs.Common.{◌≡◌, take, fold, map, [], ◌∷◌, ◌++◌}
+use Rattle.std.proofs.Common.{◌≡◌, take, map}
 use Rattle.frame_lists.specs.Steps.{pair_of}
 use Rattle.frame_lists.proofs.pairs.as_pairs.Given as goal
 

@@ -1,4 +1,4 @@
-use Rattle.std.proofs.Common.{◌≡◌, take, fold, map, [], ◌∷◌, ◌++◌}
+use Rattle.std.proofs.Common.{◌≡◌, take, fold}
 use Rattle.frame_lists.specs.Steps.{declared_more}
 use Rattle.frame_lists.proofs.scope.declare.Given as goal
 
