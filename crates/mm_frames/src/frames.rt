@@ -117,18 +117,13 @@ impl Frames {
         self.symbols.name(symbol.0)
     }
 
-<<<<<<< HEAD
-    /// The number of symbols; they are numbered from 0.
-=======
     /// The number of symbols; they are numbered from 0, in the order in which they were first declared.
->>>>>>> 191f81b50f9d194af156b107bfdc04894589605e
     pub fn symbols(&self) -> u32
         ensures { result ≡ length self.now.symbols }
     {
         self.symbols.count()
     }
 
-<<<<<<< HEAD
     /// The frames by label; none where it is no label of an assertion.
     pub fn frames(&self) -> &[Option<Frame>]
         ensures { result.now ≡ self.now.frames }
@@ -143,8 +138,6 @@ impl Frames {
         self.constants.as_slice()
     }
 
-=======
->>>>>>> 191f81b50f9d194af156b107bfdc04894589605e
     /// The number of labels; they are numbered from 0.
     pub fn labels(&self) -> u32
         ensures { result ≡ length self.now.labels }
