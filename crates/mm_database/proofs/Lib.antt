@@ -1,8 +1,11 @@
+mod Constants
 mod Floats
 mod HeadLaws
 mod Lists
+mod Named
 mod Repeats
 mod Syntax
 mod Typed
+mod Usable
 mod Wholes
 mod Zips

@@ -22,6 +22,18 @@ module _ {A B : Type 0} (R : A → B → Type 0) where
   zip_append (x ∷ xs) zs [] ws h k = absurd h
   zip_append (x ∷ xs) zs (y ∷ ys) ws h k = (h.0, zip_append xs zs ys ws h.1 k)
 
+  -- what stands beside an element
+  pub record Beside (xs : List A) (ys : List B) (k : ℕ) (x : A) : Type 0 where
+    pub other : B
+    pub stands : slice_get ys k ≡ Some other
+    pub belongs : R x other
+
+  pub zip_at : (xs : List A) (ys : List B) → AllZip R xs ys → (k : ℕ) (x : A) → slice_get xs k ≡ Some x → Beside xs ys k x
+  zip_at [] ys h k x e = absurd (cc)
+  zip_at (a ∷ xs) [] h k x e = absurd h
+  zip_at (a ∷ xs) (b ∷ ys) h zero x e = let same : a ≡ x = cc in record { other = b; stands = refl; belongs = subst (λ y. R y b) same h.0 }
+  zip_at (a ∷ xs) (b ∷ ys) h (suc k) x e = let z = zip_at xs ys h.1 k x e in record { other = z.other; stands = z.stands; belongs = z.belongs }
+
   zip_parts_more : (x : A) (xs zs : List A) (y : B) (ys : List B) → R x y → Parted xs zs ys → Parted (x ∷ xs) zs (y ∷ ys)
   zip_parts_more x xs zs y ys r p = record { front = y ∷ p.front; back = p.back; is = ap (λ l. y ∷ l) p.is; first = (r, p.first); rest = p.rest }
 

@@ -1,6 +1,10 @@
 pub mod Assertions
+pub mod Books
+pub mod Faults
 pub mod Formulas
 pub mod HeadKeys
 pub mod Heads
+pub mod Opened
 pub mod Productions
+pub mod ToldFaults
 pub mod Variables

@@ -1,13 +1,17 @@
-//! An opened database: its statements, its productions, and the trees of its assertions.
+//! An opened database: its statements, its productions, and the trees of its usable assertions.
 #![tactic(auto)]
 
 mod assertions;
+mod database;
+mod faults;
 mod formulas;
 mod heads;
 mod productions;
 mod variables;
 
-pub use assertions::{Parsed, parse_all};
-pub use formulas::KindCodes;
-pub use heads::Heads;
-pub use productions::rows;
+pub use assertions::Parsed;
+pub use database::{Database, open_database};
+pub use faults::{DbFault, db_fault_line};
+
+#[cfg(test)]
+mod tests;

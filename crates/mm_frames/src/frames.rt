@@ -124,6 +124,20 @@ impl Frames {
         self.symbols.count()
     }
 
+    /// The frames by label; none where it is no label of an assertion.
+    pub fn frames(&self) -> &[Option<Frame>]
+        ensures { result.now ≡ self.now.frames }
+    {
+        self.frames.as_slice()
+    }
+
+    /// By symbol the number of the `$c` that declares it; 2^32 - 1 where there is none.
+    pub fn constants(&self) -> &[u32]
+        ensures { result.now ≡ self.now.constants }
+    {
+        self.constants.as_slice()
+    }
+
     /// The number of labels; they are numbered from 0.
     pub fn labels(&self) -> u32
         ensures { result ≡ length self.now.labels }

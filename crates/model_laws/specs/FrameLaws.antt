@@ -1,5 +1,5 @@
 -- Laws of the frames of a text without a fault: their formulas by their own variables, and the productions that they give.
-use Rattle.std.specs.Prelude.{◌≡◌, ℕ, List, drop, Option, Some, None, option_map, if◌then◌else◌}
+use Rattle.std.specs.Prelude.{◌≡◌, ◌<◌, ℕ, List, length, drop, Option, Some, None, option_map, if◌then◌else◌}
 use Rattle.std.specs.List.{AllByRecursion, filter_map}
 use Rattle.mm_base.specs.declared.symbols.Sym.{Sym}
 use Rattle.mm_base.specs.declared.symbols.Label.{Label}
@@ -8,8 +8,8 @@ use Rattle.mm_model.specs.declared.frames.Hyp.{Hyp}
 use Rattle.mm_model.specs.declared.frames.Frame.{Frame}
 use Rattle.mm_model.specs.declared.rows.Leaf.{Leaf}
 use Rattle.mm_model.specs.declared.rows.Leaf.TheVariants as leaf
-use Rattle.mm_model.specs.Statements.{statements, database_fault}
-use Rattle.mm_model.specs.Frames.{symbols, frame_of, active_at, is_constant_at}
+use Rattle.mm_model.specs.Statements.{statements, labels, database_fault}
+use Rattle.mm_model.specs.Frames.{symbols, end_of, frame_of, active_at, is_constant_at}
 use Rattle.mm_model.specs.Productions.{essentials, rows}
 use Rattle.mm_model.specs.Rows.{AreRows}
 use Rattle.mm_model.specs.Book.{Database, float_of, expression_at}
@@ -28,14 +28,21 @@ own_leaf db f s = if db.is_constant_at s f.at then Some (leaf.Const s) else opti
 abbrev pub own_expression : Database → Frame → List Sym → List Leaf
 own_expression db f formula = filter_map (own_leaf db f) (drop 1 formula)
 
--- a frame's formulas are at its place what they are by its own `$f`
-pub record HasOwnExpressions (db : Database) (f : Frame) : Type 0 where
-  pub formula : own_expression db f f.formula ≡ expression_at db f.at f.formula
-  pub hyps : AllByRecursion (λ (h : Hyp). own_expression db f h.formula ≡ expression_at db f.at h.formula) (essentials f.hyps)
+-- the formula is at the frame's place what it is by the frame's own `$f`, and its symbols are the database's
+pub record IsOwn (db : Database) (f : Frame) (formula : List Sym) : Type 0 where
+  pub expression : own_expression db f formula ≡ expression_at db f.at formula
+  pub symbols : AllByRecursion (λ (s : Sym). s.0 < length db.symbols) formula
+
+-- so are a frame's formulas; its label and its place are the text's
+pub record HasOwnExpressions (text : List ℕ) (db : Database) (l : Label) (f : Frame) : Type 0 where
+  pub label : l.0 < length (labels (statements text))
+  pub place : f.at < end_of (statements text)
+  pub formula : IsOwn db f f.formula
+  pub hyps : AllByRecursion (λ (h : Hyp). IsOwn db f h.formula) (essentials f.hyps)
 
 abbrev pub FramesHaveOwnExpressions : Type 0
 FramesHaveOwnExpressions =
-    (text : List ℕ) (db : Database) → ShowsText text db → database_fault text ≡ None → (l : Label) (f : Frame) → db.frame l ≡ Some f → HasOwnExpressions db f
+    (text : List ℕ) (db : Database) → ShowsText text db → database_fault text ≡ None → (l : Label) (f : Frame) → db.frame l ≡ Some f → HasOwnExpressions text db l f
 
 -- the productions that the frames give are rows of which a grammar can be made
 abbrev pub FramesGiveRows : Type 0

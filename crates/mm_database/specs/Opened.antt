@@ -1,0 +1,29 @@
+-- An opened database.
+use Rattle.std.specs.Prelude.{ℕ, ◌≡◌, List, length, slice_index_or, nat_lt, count_by, Option, None}
+use Rattle.std.specs.List.{range_with_len}
+use Rattle.mm_base.specs.declared.kinds.Kinds.{Kinds}
+use Rattle.mm_model.specs.declared.rows.Production.{Production}
+use Rattle.mm_model.specs.Statements.{database_fault}
+use Rattle.mm_model.specs.Book.{IsDatabaseOf}
+use Rattle.mm_frames.specs.Contents.{Contents, contents_of}
+use Rattle.mm_database.specs.declared.assertions.Parsed.{Parsed}
+use Rattle.mm_database.specs.Books.{database_of}
+
+-- what is kept: the statements, the kept productions, and by label what is kept of a usable assertion
+pub record Opened : Type 0 where
+  pub contents : Contents
+  pub rows : List Production
+  pub parsed : List (Option Parsed)
+
+-- the number of the labels whose position is below a place
+abbrev pub labels_below : Contents → ℕ → ℕ
+labels_below c place = count_by (λ l. nat_lt (slice_index_or c.positions l 0) place) (range_with_len 0 (length c.labels))
+
+abbrev pub labels_before : Opened → ℕ → ℕ
+labels_before d place = labels_below d.contents place
+
+-- it is opened from this text: the text has no fault, and what is kept is the text's database
+pub record IsOpened (kinds : Kinds) (text : List ℕ) (d : Opened) : Type 0 where
+  pub no_fault : database_fault text ≡ None
+  pub contents : d.contents ≡ contents_of text
+  pub database : IsDatabaseOf kinds text (database_of kinds text d.rows d.parsed)

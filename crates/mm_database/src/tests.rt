@@ -1,0 +1,115 @@
+ghost use Rattle.std.specs.Prelude.{◌≤◌, ◌^◌, length};
+
+use crate::{Database, DbFault, db_fault_line, open_database};
+use mm_base::{Kinds, Label, List, Memory, Sym};
+use mm_frames::ReadFault;
+use std::alloc::Global;
+use std::test::Fail;
+
+const TEXT: &[u8] = b"
+$c ( ) -> -. wff |- setvar class = $.
+$v ph ps x y A B $.
+wph $f wff ph $. wps $f wff ps $. vx $f setvar x $. vy $f setvar y $. cA $f class A $. cB $f class B $.
+wn $a wff -. ph $. wi $a wff ( ph -> ps ) $.
+${ min $e |- ph $. maj $e |- ( ph -> ps ) $. ax-mp $a |- ps $. $}
+ax-1 $a |- ( ph -> ( ps -> ph ) ) $.
+cv $a class x $. wceq $a wff A = B $.
+one $a |- x = y $.
+vc $a setvar A $. weq $a wff x = y $.
+two $a |- x = y $.
+any $a |- ph $.
+";
+
+fn opened(alloc: Global, text: &[u8]) -> Result<Database, DbFault> {
+    let (Ok(provable), Ok(logic)) = (Vec::from_slice(alloc, b"|-"), Vec::from_slice(alloc, b"wff"))
+    else {
+        return Err(DbFault::Memory);
+    };
+    if text.len() > 1_000_000 {
+        return Err(DbFault::Memory);
+    }
+    open_database(
+        alloc,
+        text,
+        &Kinds {
+            provable: List::from_vec(provable),
+            logic: List::from_vec(logic),
+        },
+    )
+}
+
+fn label(database: &Database, name: &[u8]) -> Label {
+    database.frames().label(name).unwrap_or(Label(u32::MAX))
+}
+
+// Whether the text's last assertion, a sign before a formula so many times, is usable.
+fn signs_are_usable(alloc: Global, signs: usize) -> Result<bool, Memory> {
+    let mut text = Vec::from_slice(
+        alloc,
+        b"$c -. wff |- $. $v ph $. wph $f wff ph $. wn $a wff -. ph $. deep $a |- ",
+    )?;
+    for _ in 0..signs {
+        for byte in b"-. " {
+            text.push(*byte)?;
+        }
+    }
+    for byte in b"ph $." {
+        text.push(*byte)?;
+    }
+    match opened(alloc, &text) {
+        Ok(database) => Ok(database.usable(label(&database, b"deep"))),
+        Err(_) => Err(Memory),
+    }
+}
+
+#[test]
+fn assertions_are_usable_with_one_tree(rt: HostRuntime) -> Result<(), Fail> {
+    let Ok(database) = opened(rt.alloc(), TEXT) else {
+        return Err("a fault")?;
+    };
+    for (name, usable) in [
+        (b"ax-mp".as_slice(), true),
+        (b"ax-1".as_slice(), true),
+        (b"one".as_slice(), true),
+        (b"two".as_slice(), false),
+        (b"any".as_slice(), true),
+        (b"wn".as_slice(), false),
+        (b"min".as_slice(), false),
+        (b"none".as_slice(), false),
+    ] {
+        assert_eq!(rt; database.usable(label(&database, name)), usable);
+    }
+    let grammar = database.grammar();
+    assert!(rt; grammar.production(label(&database, b"cv")).is_some());
+    assert!(rt; grammar.production(label(&database, b"vc")).is_none());
+    let (wi, mp) = (label(&database, b"wi"), label(&database, b"ax-mp"));
+    assert_eq!(rt; database.by_head(Some(wi), 0).as_slice(), [label(&database, b"ax-1")].as_slice());
+    assert_eq!(rt; database.by_head(None, 2).as_slice(), [mp].as_slice());
+    assert_eq!(rt; database.by_head(None, 0).as_slice(), [label(&database, b"any")].as_slice());
+    assert!(rt; database.by_head(None, 1).as_slice().is_empty());
+    if database.usable(mp) {
+        assert_eq!(rt; database.hyp_trees(mp).as_slice().len(), 2);
+        let ph = database.frames().symbol(b"ph").unwrap_or(Sym(0));
+        let ps = database.frames().symbol(b"ps").unwrap_or(Sym(0));
+        assert_eq!(rt; database.vars(mp).as_slice(), [ph, ps].as_slice());
+    }
+    assert_eq!(rt; database.before(0), 0);
+    assert_eq!(rt; database.before(database.frames().end()), database.frames().labels());
+    Ok(())
+}
+
+#[test]
+fn sizes_and_faults(rt: HostRuntime) -> Result<(), Fail> {
+    assert!(rt; signs_are_usable(rt.alloc(), 4_094)?);
+    assert!(rt; !signs_are_usable(rt.alloc(), 4_095)?);
+    let Err(DbFault::Read(ReadFault::Redeclared(byte))) = opened(rt.alloc(), b"$c wff $. $v wff $.")
+    else {
+        return Err("another answer")?;
+    };
+    let line = db_fault_line(
+        rt.alloc(),
+        &DbFault::Read(ReadFault::Redeclared(byte)),
+    )?;
+    assert_eq!(rt; line.as_slice(), b"database error 12 Redeclared at byte 13".as_slice());
+    Ok(())
+}
