@@ -2,6 +2,7 @@ pub mod Applying
 pub mod Entering
 pub mod FoundLaw
 pub mod Knowing
+pub mod LabelSteps
 pub mod Leasts
 pub mod Lookup
 pub mod Parts

@@ -8,6 +8,7 @@ mod fault;
 mod formula;
 mod found;
 mod known;
+mod normal;
 mod pairs;
 mod run;
 mod stack;
