@@ -1,6 +1,9 @@
 -- The code of a normal proof, label by label.
-use Rattle.std.proofs.Common.{◌≡◌, ℕ, zero, suc, ◌+◌, Bool, true, false, cond, ◌||◌, List, [], ◌∷◌, ◌++◌, length, map, position, Option, Some, None, option_map, refl, sym, ap, ◌∙◌, arith, subst, inl, inr}
+use Rattle.std.proofs.Common.{◌≡◌, ◌<◌, ℕ, zero, suc, ◌+◌, Bool, true, false, cond, ◌||◌, List, [], ◌∷◌, ◌++◌, length, map, position, take, get_or, Option, Some, None, option_map, refl, sym, ap, ◌∙◌, arith, subst, inl, inr}
 use Rattle.std.proofs.lemmas.List.{map-append}
+use Rattle.std.proofs.Math.Seq.{take-suc}
+use Rattle.stack_verify.specs.declared.formula.Span.{Span}
+use Rattle.stack_verify.specs.Proofs.{name_in, names_in}
 use Rattle.std.specs.Prelude.{codes, unwrap_or}
 use Rattle.std.specs.List.{list_any, AllByRecursion}
 use Rattle.std.specs.Str.{bytes_eq}
@@ -196,3 +199,15 @@ one_step m ls others new w s steps more n e p h =
       listed = is ∙ sym (repeats_more (codes "?" ∷ m) ls w);
       taken = p ∙ ap (λ (x : List Step). x ++ s ∷ []) front ∙ ap (λ (x : Step). map (normal_step m new) ls ++ x ∷ []) e ∙ sym (map-append (normal_step m new) ls (w ∷ []));
     }
+
+-- ---- the words by their places in the text
+
+names_more : (text : List ℕ) (spans : List Span) (i : ℕ) (d : Span) → i < length spans → names_in text (take i spans) ++ name_in text (get_or spans i d) ∷ [] ≡ names_in text (take (i + 1) spans)
+names_more text spans i d low =
+    let one : suc i ≡ i + 1 = omega arith in
+    sym (map-append (name_in text) (take i spans) (get_or spans i d ∷ [])) ∙ ap (names_in text) (sym (take-suc spans i d low) ∙ ap (λ (j : ℕ). take j spans) one)
+
+pub one_word : (m others new : List (List ℕ)) (text : List ℕ) (spans : List Span) (i : ℕ) (d : Span) (s : Step) (steps more : List Step) → i < length spans → new ≡ with_other m others (name_in text (get_or spans i d))
+    → s ≡ normal_step m new (name_in text (get_or spans i d)) → more ≡ steps ++ s ∷ [] → StepsSoFar m (names_in text (take i spans)) others steps → StepsSoFar m (names_in text (take (i + 1) spans)) new more
+one_word m others new text spans i d s steps more low n e p h =
+    subst (λ (l : List (List ℕ)). StepsSoFar m l new more) (names_more text spans i d low) (one_step m (names_in text (take i spans)) others new (name_in text (get_or spans i d)) s steps more n e p h)

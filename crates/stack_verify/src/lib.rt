@@ -3,6 +3,7 @@
 #![tactic(auto)]
 
 mod accepting;
+mod coding;
 mod entries;
 mod fault;
 mod formula;
