@@ -12,7 +12,7 @@ use Rattle.stack_verify.specs.Lookups.{IsIndexOf, look, place_of}
 use Rattle.stack_verify.proofs.Substitutes.{cond_then, cond_else, position-cons, position_within}
 
 -- the first, or else the second
-abbrev or_at : Option ℕ → Option ℕ → Option ℕ
+abbrev pub or_at : Option ℕ → Option ℕ → Option ℕ
 or_at (Some k) o = Some k
 or_at None o = o
 
@@ -24,7 +24,7 @@ chosen : (t : Bool) (n : ℕ) → option_map (λ (n : ℕ). suc n) (cond t (Some
 chosen true n = refl
 chosen false n = refl
 
-position_more : {X : Type 0} (p : X → Bool) (xs : List X) (x : X) → position p (xs ++ x ∷ []) ≡ or_at (position p xs) (cond (p x) (Some (length xs)) None)
+pub position_more : {X : Type 0} (p : X → Bool) (xs : List X) (x : X) → position p (xs ++ x ∷ []) ≡ or_at (position p xs) (cond (p x) (Some (length xs)) None)
 position_more p [] x = position-cons p x []
 position_more p (y ∷ xs) x =
     let next : Option ℕ → Option ℕ = option_map (λ (n : ℕ). suc n) in
@@ -76,7 +76,7 @@ label_put labels places hyps h i label n m e =
 clash : (n : ℕ) → Some n ≡ None → ⊥
 clash n e = cc
 
-none_there : {X : Type 0} (p : X → Bool) (xs : List X) → position p xs ≡ None → list_any p xs ≡ false
+pub none_there : {X : Type 0} (p : X → Bool) (xs : List X) → position p xs ≡ None → list_any p xs ≡ false
 none_there p [] e = refl
 none_there p (x ∷ xs) e =
     elim (cases_Bool (p x)) [

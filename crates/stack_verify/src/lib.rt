@@ -3,11 +3,13 @@
 #![tactic(auto)]
 
 mod accepting;
+mod coding;
 mod entries;
 mod fault;
 mod formula;
 mod found;
 mod known;
+mod normal;
 mod pairs;
 mod run;
 mod stack;
