@@ -36,7 +36,9 @@ fn first_pair(pairs: &[Pair], vars: &[Sym], trees: &[Tree]) -> Option<(Sym, Sym,
 }
 
 /// The first pair, in the order of the frame, whose values share a variable of the database, with the least such
-/// variable. None where no pair has such values. A variable without a tree has no variables. It takes no memory.
+/// variable: the pair's variables in its order, and the one that is shared. None where no pair has such values. Work
+/// variables are not shared, and a variable without a tree has no variables. It takes no memory, and goes over the values
+/// of a pair at most once for each different variable in them.
 pub fn clash(pairs: &List<Pair>, vars: &List<Sym>, trees: &List<Tree>) -> Option<(Sym, Sym, Sym)>
     ensures first { (u : Use) → IsUseOf u pairs.now vars.now trees.now → result ≡ first_clash u }
     ensures variable { (u : Use) → IsUseOf u pairs.now vars.now trees.now → option_map (λ c. c.2) result ≡ clash_of u }

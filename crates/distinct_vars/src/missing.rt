@@ -9,8 +9,9 @@ fn is_among(pairs: &[Pair], pair: Pair) -> bool
     pairs.iter().any(|other| pair == *other)
 }
 
-/// The first of the needed pairs that is not given; none where each is. It takes no memory, and looks through the given
-/// pairs once for each needed one up to the answer.
+/// The first of the needed pairs that is not given; none where each is. Two pairs are one where they have the same
+/// variables in the same order, so both lists have the lesser variable first. It takes no memory, and looks through the
+/// given pairs once for each needed one up to the answer.
 pub fn lacking(needed: &List<Pair>, given: &List<Pair>) -> Option<Pair>
     ensures { result ≡ find (λ p. not (is_pair_in given.now p)) needed.now }
 {

@@ -1,5 +1,5 @@
 -- The numbers of names, and the least number whose name is not used.
-use Rattle.std.proofs.Common.{◌≡◌, ℕ, zero, suc, ◌+◌, ◌<◌, ◌≤◌, ◌^◌, ◌==◌, Bool, true, false, not, ◌||◌, List, [], ◌∷◌, ◌++◌, map, find, take, length, get_or, Some, unwrap_or, codes, decimal, refl, sym, ap, subst, ◌∙◌, inl, inr, add-one, arith}
+use Rattle.std.proofs.Common.{◌≡◌, ℕ, zero, suc, ◌+◌, ◌<◌, ◌≤◌, ◌^◌, ◌==◌, Bool, true, false, not, ◌||◌, List, [], ◌∷◌, ◌++◌, map, find, take, length, get_or, Some, unwrap_or, nat_lt, codes, decimal, refl, sym, ap, subst, ◌∙◌, inl, inr, add-one, arith}
 use Rattle.std.specs.List.{range_with_len}
 use Rattle.std.specs.Str.{bytes_eq}
 use Rattle.std.proofs.lemmas.Bool.{cases_Bool}
@@ -13,7 +13,7 @@ use Rattle.std.proofs.Math.Seq.{take-suc}
 use Rattle.mm_model.specs.Names.{Name, contains}
 use Rattle.written_model.specs.Filled.{derived_name}
 use Rattle.work_vars.specs.Free.{is_used, IsLeastFree}
-use Rattle.hyp_derive.specs.Naming.{numbered_name, AreNumbersOf}
+use Rattle.hyp_derive.specs.Naming.{numbered_name, AreNumbersOf, IsLeastName}
 
 -- ---- one name more
 
@@ -100,3 +100,14 @@ name_is used numbers k are least bound small =
 
     used_below : (j : ℕ) → 1 ≤ j → j < k → is_used numbers j ≡ true
     used_below j from to = used_or j (is_used numbers j) refl from to
+
+pub name_least : (used : List Name) (numbers : List ℕ) (k : ℕ) → AreNumbersOf used numbers → IsLeastFree numbers k → k < 2 ^ 64 → IsLeastName used (numbered_name k)
+name_least used numbers k are least small = record {
+  number = k;
+  named = refl;
+  least = record { from_one = least.from_one; holds = sym (are.same k small) ∙ least.holds; least = λ m from free. at m from free (nat_lt m k) refl };
+}
+  where
+    at : (m : ℕ) → 1 ≤ m → contains used (numbered_name m) ≡ false → (b : Bool) → nat_lt m k ≡ b → k ≤ m
+    at m from free true t = let less : m < k = grind (arith, nat_tests, t) in least.least m from (are.same m (omega (arith, less, small)) ∙ free)
+    at m from free false f = grind (arith, nat_tests, f)

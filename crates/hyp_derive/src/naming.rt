@@ -1,6 +1,6 @@
 ghost use Rattle.std.specs.Prelude.{◌≡◌, ◌≢◌, ℕ, ◌<◌, ◌^◌, ◌++◌, codes, decimal, IfOk, IfSome, MatchOption};
 ghost use Rattle.written_model.specs.Filled.{derived_name};
-ghost use Rattle.hyp_derive.specs.Naming.{numbered_name, AreNumbersOf};
+ghost use Rattle.hyp_derive.specs.Naming.{numbered_name, AreNumbersOf, IsLeastName};
 
 use itoa::Buffer;
 use mm_base::{List, Memory, Name};
@@ -40,7 +40,8 @@ fn derived(alloc: Global, number: u64) -> Result<Name, Memory>
 /// The name of a new step: `d` and the least number from 1 that makes a name not used. It reads each name once, and
 /// takes memory for a number and a byte for each.
 pub fn step_name(alloc: Global, used: &List<Name>) -> Result<Name, Memory>
-    ensures { IfOk result (λ name. name ≡ derived_name used.now) }
+    ensures name { IfOk result (λ name. name ≡ derived_name used.now) }
+    ensures least { IfOk result (λ name. IsLeastName used.now name) }
 {
     let numbers = derived_numbers(alloc, used.as_slice())?;
     let number = least_unused(alloc, numbers.as_slice())?;

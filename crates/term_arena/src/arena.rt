@@ -1,4 +1,4 @@
-ghost use Rattle.std.specs.Prelude.{◌≡◌, ◌+◌, ◌^◌, ◌<◌, ◌≤◌, ◌∷◌, ◌++◌, [], length, IfOk, OnOk, OnErr, slice_get, Some, None, take, true, ◌≢◌, IsTrue, ◌↔◌};
+ghost use Rattle.std.specs.Prelude.{◌≡◌, ◌+◌, ◌^◌, ◌<◌, ◌≤◌, ◌∷◌, ◌++◌, [], length, IfOk, OnOk, OnErr, slice_get, Some, None, take, true, false, ◌≢◌, IsTrue, ◌↔◌};
 
 use crate::cycles::settle_since;
 use term_model::{Id, Shape};
@@ -47,10 +47,11 @@ impl Arena {
     ghost use Rattle.term_model.specs.Store.{with_node, with_link, cut_to, IsStore, IsClosed, IsSolved, HasSolution};
     ghost use Rattle.term_model.specs.Sizes.{AreSizes, AreTreeSizes};
 
-    /// No nodes.
+    /// No nodes, and not ready.
     pub fn new(alloc: Global) -> Result<Arena, Memory>
         ensures nodes { IfOk result (λ a. a.nodes ≡ []) }
         ensures links { IfOk result (λ a. a.links ≡ []) }
+        ensures ready { IfOk result (λ a. a.ready ≡ false) }
         ensures solved { IfOk result (λ a. IsSolved a.nodes a.links) }
     {
         Ok(Arena {

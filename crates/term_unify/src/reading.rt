@@ -8,8 +8,9 @@ use std::alloc::Global;
 use term_arena::{Arena, Id, Shape};
 
 /// The most general tree of a node, with a leaf `Fresh` for each unbound free node, by the node's number and typecode. In
-/// every solution the node has this tree, with the solution's trees in place of the leaves. It takes time and memory in
-/// proportion to the text, and recurses as deep as the tree. `Memory`: there is no room for the tree.
+/// every solution the node has this tree, with the solution's trees in place of the leaves. It takes memory in proportion
+/// to the nodes of the tree, time in proportion to them and to the bindings that lead to their ends, and recurses as deep
+/// as the tree. `Memory`: there is no room for the tree.
 pub fn read_off(alloc: Global, arena: &Arena, id: Id) -> Result<Tree, Memory>
     requires id { id.0 < length arena.now.nodes }
     requires solved { IsSolved arena.now.nodes arena.now.links }

@@ -1,7 +1,7 @@
 //! A list of numbers that grows within room made before, and gives its last ones back.
 #![tactic(auto)]
 
-ghost use Rattle.std.specs.Prelude.{◌≡◌, ◌+◌, ◌-◌, ◌^◌, ◌<◌, ◌≤◌, ◌∷◌, ◌++◌, [], length, IfOk, OnOk, MatchOption, slice_get, Some, take, max};
+ghost use Rattle.std.specs.Prelude.{◌≡◌, ◌+◌, ◌-◌, ◌^◌, ◌<◌, ◌≤◌, ◌∷◌, ◌++◌, [], length, IfOk, OnOk, OnErr, MatchOption, slice_get, Some, take, max};
 
 use mm_base::Memory;
 use std::alloc::{AllocError, Global};
@@ -39,17 +39,22 @@ impl Trail {
     }
 
     /// Makes room for at least so many more numbers. It takes 4 bytes for each that there was no room for. `Memory`:
-    /// memory ran out, or a number could not count them all; no room was lost.
+    /// memory ran out, or a number could not count them all, and nothing changed.
     pub fn reserve(&mut self, n: u32) -> Result<(), Memory>
         ensures entries { self.new.entries ≡ self.old.entries }
         ensures spare { OnOk result (n ≤ self.new.spare) }
         ensures kept { self.old.spare ≤ self.new.spare }
+        ensures err { OnErr result (self.new ≡ self.old) }
     {
         let wanted = self.len + n as usize;
         if wanted > u32::MAX as usize {
             return Err(Memory);
         }
-        grow(&mut self.slots, wanted)?;
+        let room = self.slots.len();
+        if grow(&mut self.slots, wanted).is_err() {
+            self.slots.truncate(room);
+            return Err(Memory);
+        }
         Ok(())
     }
 

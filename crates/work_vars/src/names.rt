@@ -29,7 +29,7 @@ fn prefix(alloc: Global, code: &[u8]) -> Result<Vec<u8>, Memory>
 }
 
 /// The name of a work variable, by its typecode's name and its number, from 1: `&W1`, `&S1` and `&C1` for `wff`, `setvar`
-/// and `class`, and `&T.1` for another typecode T.
+/// and `class`, and `&T.1` for another typecode T. It takes memory for the name. `Memory`: there is no room for it.
 pub fn spelling(alloc: Global, code: &[u8], number: u32) -> Result<Name, Memory>
     ensures { IfOk result (λ name. name ≡ spelling_of code.now number) }
 {
@@ -91,7 +91,8 @@ fn work_number(digits: &[u8]) -> Option<u32>
 }
 
 /// The work variable whose name a token is: its typecode's name and its number. None where it is no such name, as where
-/// the number has a leading zero, is 0 or is above 2^32 - 1.
+/// the number has a leading zero, is 0 or is above 2^32 - 1. It takes memory for the typecode's name. `Memory`: there is no
+/// room for it.
 pub fn read_name(alloc: Global, token: &[u8]) -> Result<Option<(Name, u32)>, Memory>
     ensures named { IfOk result (λ name. IsNamedBy token.now name) }
     ensures number { IfOk result (λ name. (code : List ℕ) → work_number_by code token.now ≡ number_by code name) }
