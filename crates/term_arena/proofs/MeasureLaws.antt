@@ -1,14 +1,12 @@
 -- A step of a walk that counts tokens keeps what was counted.
-use Rattle.std.proofs.Common.{◌≡◌, ℕ, ◌<◌, ◌≤◌, Bool, true, false, Option, List, [], ◌∷◌, length, set, refl, ap, sym, ◌∙◌}
-use Rattle.std.specs.List.{slice_get}
-use Rattle.std.proofs.Common.{Some}
+use Rattle.std.proofs.Common.{◌≡◌, ℕ, ◌<◌, true, false, Option, List, length, set, refl, ap, ◌∙◌}
 use Rattle.term_arena.specs.declared.walk.Step.{Step}
-use Rattle.term_model.specs.Terms.{Term, term_at}
+use Rattle.term_model.specs.Terms.{Term}
 use Rattle.term_model.specs.Links.{Link}
-use Rattle.term_model.specs.Store.{IsStore, HasSolution}
-use Rattle.term_model.specs.Marks.{bound_at, parts_of, is_marked, are_marked, IsWay, IsTableOf}
-use Rattle.term_arena.specs.Walks.{Walked, State, unseen, opened, settled, state_at, marks_of, IsStep}
-use Rattle.term_model.specs.Sizes.{node_tokens, AreMeasured, AreAllMeasured, AreSizes}
+use Rattle.term_model.specs.Store.{IsStore}
+use Rattle.term_model.specs.Marks.{is_marked, IsTableOf}
+use Rattle.term_arena.specs.Walks.{Walked, unseen, opened, state_at, marks_of, IsStep}
+use Rattle.term_model.specs.Sizes.{AreMeasured, AreAllMeasured, AreSizes}
 use Rattle.term_arena.specs.Counted.{IsCounted}
 use Rattle.term_arena.proofs.StepLaws.{settled_marks, opened_marks, not_settled}
 use Rattle.term_model.proofs.SizeLaws.{measured_more, measured_all}

@@ -1,12 +1,12 @@
 -- What the walk from the bound nodes says.
-use Rattle.std.proofs.Common.{◌≡◌, ◌↔◌, IsTrue, ℕ, ◌<◌, ◌≤◌, Bool, true, false, Option, Some, None, List, zero, suc, [], ◌∷◌, length, take, get_or, refl, ap, sym, ◌∙◌, arith}
+use Rattle.std.proofs.Common.{◌≡◌, ◌↔◌, IsTrue, ℕ, ◌<◌, Bool, true, false, Option, Some, None, List, zero, suc, [], ◌∷◌, length, take, get_or, refl, ap, arith}
 use Rattle.std.specs.List.{slice_get}
 use Rattle.std.specs.Bool.{OnTrue, OnFalse}
 use Rattle.undo_trail.specs.Noted.{Noted}
 use Rattle.term_model.specs.Terms.{Term}
 use Rattle.term_model.specs.Links.{Link, link_at}
 use Rattle.term_model.specs.Store.{IsClosed, HasSolution}
-use Rattle.term_model.specs.Marks.{is_marked, IsCyclic, IsGraph}
+use Rattle.term_model.specs.Marks.{IsCyclic, IsGraph}
 use Rattle.term_arena.specs.Walks.{State, AreSettled}
 use Rattle.term_arena.specs.Inside.{links_of, IsArena}
 use Rattle.term_arena.proofs.ArenaLaws.{link_at_trail, length-links_of, trail_bound}
@@ -33,9 +33,9 @@ module _ (nodes : List Term) (bound : List (Option ℕ)) (trail : Noted) (states
   solved_since t closed old s =
       let links : List Link = links_of trail.entries bound in
       solution_since nodes links bound t s.marks a.store closed a.table old s.long s.solved (λ k from within.
-        let read = read_at trail.entries k (omega (arith, within, length-links_of trail.entries bound)) in
-        let same : (link_at links k).from ≡ get_or trail.entries k 0 = ap (λ (l : Link). l.from) (link_at_trail trail.entries bound k (get_or trail.entries k 0) read) in
-        rw same (s.each k (get_or trail.entries k 0) from read))
+      let read = read_at trail.entries k (omega (arith, within, length-links_of trail.entries bound)) in
+      let same : (link_at links k).from ≡ get_or trail.entries k 0 = ap (λ (l : Link). l.from) (link_at_trail trail.entries bound k (get_or trail.entries k 0) read) in
+      rw same (s.each k (get_or trail.entries k 0) from read))
 
   pub since_exact : (t : ℕ) (r : Bool) → IsClosed nodes (links_of trail.entries bound) → HasSolution nodes (take t (links_of trail.entries bound)) → OnTrue r (AreSettled nodes bound trail.entries t) → OnFalse r (IsCyclic nodes bound) → IsTrue r ↔ HasSolution nodes (links_of trail.entries bound)
   since_exact t true closed old done cycle = (λ _. solved_since t closed old done, λ _. refl)

@@ -1,7 +1,7 @@
 -- A step of a walk keeps what the walk knows.
-use Rattle.std.proofs.Common.{◌≡◌, ◌≢◌, ◌⊎◌, ℕ, ◌+◌, ◌<◌, ◌≤◌, Bool, true, false, ◌&&◌, Option, Some, None, add-one, List, zero, suc, [], ◌∷◌, ◌++◌, length, take, drop, set, get_or, map, refl, ap, sym, subst, ◌∙◌, inl, inr, arith}
-use Rattle.std.specs.List.{AllByRecursion, sum_by, slice_get}
-use Rattle.std.proofs.lemmas.Bool.{cases_eq, and_from}
+use Rattle.std.proofs.Common.{◌≡◌, ◌⊎◌, ℕ, ◌+◌, ◌<◌, ◌≤◌, Bool, true, false, ◌&&◌, Option, Some, None, add-one, List, zero, suc, [], ◌∷◌, length, drop, set, get_or, map, refl, ap, sym, subst, ◌∙◌, inl, inr, arith}
+use Rattle.std.specs.List.{AllByRecursion, slice_get}
+use Rattle.std.proofs.lemmas.Bool.{cases_eq}
 use Rattle.std.proofs.lemmas.List.{length-map, length-set, map-set, set-get_or, get_or-set_same, get_or-set_other}
 use Rattle.std.proofs.lemmas.List.Sums.{sum_by-set}
 use Rattle.std.proofs.Math.Seq.{drop-cons}
@@ -9,7 +9,7 @@ use Rattle.term_model.specs.declared.shape.Id.{Id}
 use Rattle.term_arena.specs.declared.walk.Step.{Step}
 use Rattle.term_model.specs.Terms.{Term}
 use Rattle.term_model.specs.Marks.{IsIn, is_marked, are_marked, parts_of, IsGraph, IsWay, IsPartlySolved, IsCyclic}
-use Rattle.term_arena.specs.Walks.{Walked, State, unseen, opened, settled, state_at, is_settled, marks_of, state_weight, work_left, IsStep, IsIdle, KeepsMarks, IsWalking}
+use Rattle.term_arena.specs.Walks.{Walked, State, unseen, opened, settled, state_at, is_settled, marks_of, state_weight, work_left, IsStep, IsIdle, IsWalking}
 use Rattle.term_model.proofs.MarkLaws.{marked_more, mark_more}
 use Rattle.term_arena.proofs.WalkLaws.{mark_of_state}
 use Rattle.term_model.proofs.CycleLaws.{way_below}
@@ -55,8 +55,9 @@ weight_set states i s h = sum_by-set state_weight states i s unseen h
 
 begun_still : (states : List State) (i root : ℕ) (s : State) → i < length states → (s ≡ unseen → ⊥) → (state_at states root ≡ unseen → ⊥) → state_at (set states i s) root ≡ unseen → ⊥
 begun_still states i root s h n begun e = elim (cases_eq root i) [
-      inl at ↦ n (sym (get_or-set_same states i s unseen h) ∙ subst (λ (k : ℕ). state_at (set states i s) k ≡ unseen) at e)
-    | inr past ↦ begun (sym (get_or-set_other states i root s unseen past) ∙ e) ]
+  | inl at ↦ n (sym (get_or-set_same states i s unseen h) ∙ subst (λ (k : ℕ). state_at (set states i s) k ≡ unseen) at e)
+  | inr past ↦ begun (sym (get_or-set_other states i root s unseen past) ∙ e)
+]
 
 way_rest : (nodes : List Term) (bound : List (Option ℕ)) (i : ℕ) (rest : List ℕ) → IsWay nodes bound (i ∷ rest) → IsWay nodes bound rest
 way_rest nodes bound i [] way = tt

@@ -1,10 +1,10 @@
 -- The children of all terms in one list.
-use Rattle.std.proofs.Common.{◌≡◌, ℕ, ◌+◌, ◌<◌, ◌≤◌, ◌^◌, Option, None, List, zero, suc, [], ◌∷◌, ◌++◌, length, take, drop, map, get_or, refl, ap, sym, subst, ◌∙◌, arith, length-append, length-drop}
+use Rattle.std.proofs.Common.{◌≡◌, ℕ, ◌+◌, ◌<◌, ◌≤◌, ◌^◌, Option, None, List, zero, suc, [], ◌∷◌, ◌++◌, length, take, drop, get_or, refl, ap, sym, subst, ◌∙◌, arith, length-append, length-drop}
 use Rattle.std.proofs.lemmas.List.{map_push, length_push, length-map, get_or-map, take-map, take-append-le, drop-append-le, take_all, drop_at, length-take-le, take-append-drop}
 use Rattle.term_model.specs.declared.shape.Id.{Id}
 use Rattle.term_model.specs.declared.shape.Shape.{Shape}
 use Rattle.term_arena.specs.declared.terms.Entry.{Entry}
-use Rattle.term_model.specs.Terms.{Term, Free, no_code, term_at, shape_count, shape_of, term_of}
+use Rattle.term_model.specs.Terms.{Free, no_code, term_at, shape_count, shape_of, term_of}
 use Rattle.term_arena.specs.Inside.{entry_term, entry_terms, IsPacked, IsTerms}
 
 pub packed_push : (start : ℕ) (entries : List Entry) (end : ℕ) (e : Entry) → IsPacked start entries end → e.start ≡ end → IsPacked start (entries ++ e ∷ []) (end + shape_count e.shape)
@@ -47,7 +47,7 @@ pub terms_push : (entries : List Entry) (children more : List Id) (e : Entry) �
     → entry_terms (children ++ more) (entries ++ e ∷ []) ≡ entry_terms children entries ++ term_of e.shape e.constants more ∷ []
 terms_push entries children more e p s h =
     let here : take (shape_count e.shape) (drop e.start (children ++ more)) ≡ more =
-      ap (take (shape_count e.shape)) (ap (λ (k : ℕ). drop k (children ++ more)) s ∙ drop_at children more (length children) refl) ∙ take_all (shape_count e.shape) more (omega (arith, h)) in
+    ap (take (shape_count e.shape)) (ap (λ (k : ℕ). drop k (children ++ more)) s ∙ drop_at children more (length children) refl) ∙ take_all (shape_count e.shape) more (omega (arith, h)) in
     map_push (entry_term (children ++ more)) entries e ∙ rw (here, terms_append 0 entries children more p) refl
 
 pub shape_back : (shape : Shape) (constants : ℕ) (children : List Id) → length children ≡ shape_count shape → shape_of (term_of shape constants children) ≡ shape
@@ -59,7 +59,7 @@ shape_back (Shape.Node l c n) constants children h = ap (Shape.Node l c) h
 pub entry_shape : (children : List Id) (e : Entry) → e.start + shape_count e.shape ≤ length children → shape_of (entry_term children e) ≡ e.shape
 entry_shape children e h =
     shape_back e.shape e.constants (take (shape_count e.shape) (drop e.start children))
-      (length-take-le (shape_count e.shape) (drop e.start children) (omega (arith, length-drop e.start children)))
+    (length-take-le (shape_count e.shape) (drop e.start children) (omega (arith, length-drop e.start children)))
 
 pub terms_more : (entries : List Entry) (children more : List Id) (bound : List (Option ℕ)) (e : Entry) → IsTerms entries children bound → e.start ≡ length children → shape_count e.shape ≡ length more
     → length entries + 1 < 2 ^ 32 → length children + length more < 2 ^ 32 → IsTerms (entries ++ e ∷ []) (children ++ more) (bound ++ None ∷ [])

@@ -1,13 +1,13 @@
 -- What changes of a walk's fields say of its states and its path.
-use Rattle.std.proofs.Common.{◌≡◌, ◌≢◌, ◌⊎◌, ℕ, ◌+◌, ◌-◌, ◌<◌, ◌≤◌, ◌^◌, Bool, true, false, eqb, cond, List, zero, suc, [], ◌∷◌, ◌++◌, length, set, get_or, map, Option, Some, None, refl, ap, sym, subst, ◌∙◌, inl, inr, arith}
+use Rattle.std.proofs.Common.{◌≡◌, ◌≢◌, ℕ, ◌+◌, ◌-◌, ◌<◌, ◌≤◌, ◌^◌, eqb, cond, List, zero, suc, [], ◌∷◌, ◌++◌, length, set, get_or, map, Option, Some, None, refl, ap, sym, subst, ◌∙◌, inl, inr, arith}
 use Rattle.std.specs.Prelude.{reverse, count_by, slice_get}
-use Rattle.std.proofs.lemmas.Bool.{cases_eq, cases_lt, eq-eqb, ne_eqb, both_ways}
-use Rattle.std.proofs.lemmas.List.{length-map, length-set, length_push, reverse-append, get_or-map, get_or-set_same, get_or-set_other, get_or_past, get_or-reverse, map-set, length-reverse}
+use Rattle.std.proofs.lemmas.Bool.{cases_eq, cases_lt, eq-eqb, ne_eqb}
+use Rattle.std.proofs.lemmas.List.{length-map, length-set, length_push, reverse-append, get_or-set_same, get_or-set_other, get_or_past, get_or-reverse, map-set, length-reverse}
 use Rattle.std.proofs.lemmas.Option.{get_or_from_slice_get}
 use Rattle.std.proofs.lemmas.List.Sums.{sum_by-set, sum_by-cons, count_by-le-length}
 use Rattle.undo_trail.specs.Noted.{Noted}
 use Rattle.term_model.specs.Marks.{IsIn, is_marked}
-use Rattle.term_arena.specs.Walks.{Walked, IsIdle, state_at, is_open, is_settled, marks_of, state_of, IsOpenPath, IsWalk, State, unseen, opened, settled}
+use Rattle.term_arena.specs.Walks.{IsIdle, state_at, is_open, is_settled, marks_of, state_of, IsOpenPath, IsWalk, State, unseen, opened, settled}
 
 -- a zero at the end is not seen
 pub read_push_zero : (xs : List ℕ) (i : ℕ) → get_or (xs ++ 0 ∷ []) i 0 ≡ get_or xs i 0
@@ -61,7 +61,7 @@ fresh_states stamps round h past i = state_by_stamp round stamps i h ∙ state_o
 pub walk_room : (stamps more : List ℕ) (round : ℕ) (path after : Noted) → IsWalk stamps round path → ((i : ℕ) → state_at (map (state_of round) stamps) i ≡ unseen) → ((i : ℕ) → get_or more i 0 ≡ get_or stamps i 0) → after.entries ≡ [] → length more ≤ after.spare → IsWalk more round after
 walk_room stamps more round path after w fresh same e room =
     walk_fresh more round after w.started w.limit (λ i. rw (same i) (w.stamps_old i))
-      (λ i. state_by_stamp round more i w.started ∙ ap (state_of round) (same i) ∙ sym (state_by_stamp round stamps i w.started) ∙ fresh i) e room
+    (λ i. state_by_stamp round more i w.started ∙ ap (state_of round) (same i) ∙ sym (state_by_stamp round stamps i w.started) ∙ fresh i) e room
 
 pub no_entries : (xs : List ℕ) → length xs ≡ 0 → xs ≡ []
 no_entries [] h = refl
@@ -98,8 +98,9 @@ path_other states (i ∷ path) j s n p =
 -- an open node is one of the walk's
 pub open_below : (states : List State) (i : ℕ) → state_at states i ≡ opened → i < length states
 open_below states i e = elim (cases_lt i (length states)) [
-      inl h ↦ h
-    | inr past ↦ let impossible : unseen ≡ opened = sym (get_or_past states i unseen past) ∙ e in cc ]
+  | inl h ↦ h
+  | inr past ↦ let impossible : unseen ≡ opened = sym (get_or_past states i unseen past) ∙ e in cc
+]
 
 module _ (stamps : List ℕ) (round : ℕ) (path after : Noted) (i : ℕ) (w : IsWalk stamps round path) where
   abbrev states : List State
@@ -116,8 +117,9 @@ module _ (stamps : List ℕ) (round : ℕ) (path after : Noted) (i : ℕ) (w : I
 
   stamps_set : (s : ℕ) → s ≤ round + 1 → i < length stamps → (k : ℕ) → get_or (set stamps i s) k 0 ≤ round + 1
   stamps_set s h below k = elim (cases_eq k i) [
-        inl at ↦ rw (at, get_or-set_same stamps i s 0 below) h
-      | inr past ↦ rw (get_or-set_other stamps i k s 0 past) (w.stamps_old k) ]
+    | inl at ↦ rw (at, get_or-set_same stamps i s 0 below) h
+    | inr past ↦ rw (get_or-set_other stamps i k s 0 past) (w.stamps_old k)
+  ]
 
   -- the path goes on to a new node
   pub walk_open : i < length states → state_at states i ≡ unseen → after.entries ≡ path.entries ++ i ∷ [] → after.spare + 1 ≡ path.spare → IsWalk (set stamps i round) round after
@@ -135,8 +137,9 @@ module _ (stamps : List ℕ) (round : ℕ) (path after : Noted) (i : ℕ) (w : I
         counted = rw states_opened (omega (arith, counted, w.counted, longer));
         open_path = rw (states_opened, whole) (get_or-set_same states i opened unseen h, off, path_other states (reverse path.entries) i opened off w.open_path);
         on_path = rw (states_opened, whole) (λ k o. elim (cases_eq k i) [
-            inl at ↦ inl at
-          | inr past ↦ inr (w.on_path k (sym (get_or-set_other states i k opened unseen past) ∙ o)) ]);
+          | inl at ↦ inl at
+          | inr past ↦ inr (w.on_path k (sym (get_or-set_other states i k opened unseen past) ∙ o))
+        ]);
       }
 
   -- the last node of the path is settled
@@ -156,10 +159,11 @@ module _ (stamps : List ℕ) (round : ℕ) (path after : Noted) (i : ℕ) (w : I
         counted = rw states_settled (omega (arith, counted, w.counted, shorter));
         open_path = rw states_settled (path_other states (reverse after.entries) i settled on_it.1 on_it.2);
         on_path = rw states_settled (λ k o. elim (cases_eq k i) [
-            inl at ↦
+          | inl at ↦
               let here : state_at (set states i settled) k ≡ settled = rw at (get_or-set_same states i settled unseen h) in
               let impossible : settled ≡ opened = sym here ∙ o in cc
-          | inr past ↦ left k past (rw whole at (w.on_path k (sym (get_or-set_other states i k settled unseen past) ∙ o))) ]);
+          | inr past ↦ left k past (rw whole at (w.on_path k (sym (get_or-set_other states i k settled unseen past) ∙ o)))
+        ]);
       }
     where
       left : (k : ℕ) → k ≢ i → IsIn k (i ∷ reverse after.entries) → IsIn k (reverse after.entries)
@@ -185,10 +189,12 @@ head_open states (j ∷ path) i e p = let same : j ≡ i = cc in rw (← same) p
 
 settled_test : (round stamp : ℕ) → is_settled (state_of round stamp) ≡ eqb stamp (round + 1)
 settled_test round stamp = elim (cases_eq stamp (round + 1)) [
-      inl at ↦ rw (eq-eqb stamp (round + 1) at) refl
-    | inr past ↦ rw (ne_eqb stamp (round + 1) past) (elim (cases_eq stamp round) [
-        inl here ↦ rw (eq-eqb stamp round here) refl
-      | inr off ↦ rw (ne_eqb stamp round off) refl ]) ]
+  | inl at ↦ rw (eq-eqb stamp (round + 1) at) refl
+  | inr past ↦ rw (ne_eqb stamp (round + 1) past) (elim (cases_eq stamp round) [
+    | inl here ↦ rw (eq-eqb stamp round here) refl
+    | inr off ↦ rw (ne_eqb stamp round off) refl
+  ])
+]
 
 -- whether a node is settled
 pub mark_of_state : (states : List State) (i : ℕ) → is_marked (marks_of states) i ≡ is_settled (state_at states i)

@@ -1,13 +1,13 @@
 ghost use Rattle.std.specs.Prelude.{◌≡◌, ◌+◌, ◌^◌, ◌<◌, ◌≤◌, ◌∷◌, ◌++◌, [], length, IfOk, OnOk, OnErr, slice_get, Some, None, take, true, false, ◌≢◌, IsTrue, ◌↔◌};
 
 use crate::cycles::settle_since;
-use term_model::{Id, Shape};
 use crate::sizes::measure_all;
 use crate::terms::Terms;
 use crate::walk::Walk;
 use mm_base::{Label, List, Memory, Sym, Typecode};
 use std::alloc::Global;
 use std::marker::Model;
+use term_model::{Id, Shape};
 use undo_trail::Trail;
 
 /// A store of terms with shared parts, whose nodes may be bound to each other. A node that is bound stands for the node
@@ -139,7 +139,13 @@ impl Arena {
 
     /// Adds a production, with the number of constants in its text and its children in order, as the last node. `Memory`:
     /// there is no room or no number for it, and nothing changed.
-    pub fn add_node(&mut self, label: Label, code: Typecode, constants: u32, children: &[Id]) -> Result<Id, Memory>
+    pub fn add_node(
+        &mut self,
+        label: Label,
+        code: Typecode,
+        constants: u32,
+        children: &[Id],
+    ) -> Result<Id, Memory>
         requires { AllByRecursion (λ id. id.0 < length self.old.nodes) children.now }
         ensures id { IfOk result (λ id. id.0 ≡ length self.old.nodes) }
         ensures ok { OnOk result (self.new ≡ with_node self.old (term.Node label code constants children.now)) }

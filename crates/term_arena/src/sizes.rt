@@ -6,11 +6,11 @@ ghost use Rattle.term_model.specs.Sizes.{node_tokens, AreMeasured, AreAllMeasure
 ghost use Rattle.term_arena.specs.Counted.{IsCounted};
 
 use crate::cycles::step;
-use term_model::Shape;
 use crate::terms::Terms;
 use crate::walk::{Step, Walk};
 use mm_base::Memory;
 use std::alloc::Global;
+use term_model::Shape;
 
 /// The tokens of a node's text, from those of the nodes that it is made of.
 fn tokens(terms: &Terms, sizes: &[u64], node: u32) -> u64

@@ -1,10 +1,10 @@
 ghost use Rattle.std.specs.Prelude.{◌≡◌, ◌+◌, ◌<◌, ◌≤◌, ◌∷◌, ◌++◌, ◌^◌, [], length, take, set, Some, None, IfOk, OnOk, OnErr, vec_len};
 ghost use Rattle.term_arena.specs.Inside.{IsPacked};
 
-use term_model::{Id, Shape};
 use mm_base::Memory;
 use std::alloc::Global;
 use std::marker::Model;
+use term_model::{Id, Shape};
 
 /// A term as the store keeps it: its children begin at a place of the list of all children.
 #[derive(Clone, Copy, Debug)]

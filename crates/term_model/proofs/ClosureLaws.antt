@@ -1,11 +1,10 @@
 -- Closed bindings, as far as the links have been gone through.
-use Rattle.std.proofs.Common.{◌≡◌, ◌≢◌, ℕ, ◌+◌, ◌<◌, ◌≤◌, List, zero, suc, [], ◌∷◌, ◌++◌, length, take, get_or, map, refl, ap, sym, subst, ◌∙◌, inl, inr, arith}
+use Rattle.std.proofs.Common.{◌≡◌, ℕ, ◌+◌, ◌<◌, ◌≤◌, List, [], ◌∷◌, ◌++◌, length, take, get_or, map, refl, ap, sym, subst, ◌∙◌, inl, inr, arith}
 use Rattle.std.proofs.lemmas.Bool.{cases_eq}
 use Rattle.std.proofs.lemmas.List.{take_all, take-append-le, take_more}
 use Rattle.mm_base.specs.declared.symbols.Label.{Label}
 use Rattle.mm_base.specs.declared.symbols.Typecode.{Typecode}
 use Rattle.term_model.specs.declared.shape.Id.{Id}
-
 use Rattle.term_model.specs.Terms.{Term, Var, Free, Node, term_at}
 use Rattle.term_model.specs.Links.{Link, end_of}
 use Rattle.term_model.specs.Store.{ends_of, IsSameNode, Agrees, IsClosed, IsClosedUpTo}
@@ -44,21 +43,26 @@ agrees_refl links (Free c) = tt
 agrees_refl links (Node l c k xs) = (refl, refl, refl)
 
 pub closed_push : (k : ℕ) (nodes : List Term) (links : List Link) (link : Link) → k ≤ length links → IsClosedUpTo k nodes links → IsClosedUpTo k nodes (links ++ link ∷ [])
-closed_push k nodes links link h c = record { agrees = λ i below.
-    subst (λ (front : List Link). Agrees (links ++ link ∷ []) (term_at nodes i) (term_at nodes (end_of front i)))
+closed_push k nodes links link h c = record {
+  agrees = λ i below.
+      subst (λ (front : List Link). Agrees (links ++ link ∷ []) (term_at nodes i) (term_at nodes (end_of front i)))
       (sym (take-append-le k links (link ∷ []) h))
-      (agrees_push links link (term_at nodes i) (term_at nodes (end_of (take k links) i)) (c.agrees i below)) }
+      (agrees_push links link (term_at nodes i) (term_at nodes (end_of (take k links) i)) (c.agrees i below));
+}
 
 -- one more link gone through: its two nodes agree
 pub closed_step : (k : ℕ) (nodes : List Term) (links : List Link) (d : Link) → k < length links → IsClosedUpTo k nodes links → Agrees links (term_at nodes (get_or links k d).from) (term_at nodes (get_or links k d).to) → IsClosedUpTo (k + 1) nodes links
-closed_step k nodes links d h c here = record { agrees = λ i below.
-    let link : Link = get_or links k d in
-    let e : end_of (take (k + 1) links) i ≡ hop link (end_of (take k links) i) = rw (take_more links k d h) (end_of_push (take k links) link i) in
-    let old = c.agrees i below in
-    elim (cases_eq (end_of (take k links) i) link.from) [
-      inl at ↦ rw (e, hop_at link (end_of (take k links) i) at)
-        (agrees_trans links (term_at nodes i) (term_at nodes link.from) (term_at nodes link.to) (rw at at old) here)
-    | inr past ↦ rw (e, hop_past link (end_of (take k links) i) past) old ] }
+closed_step k nodes links d h c here = record {
+  agrees = λ i below.
+      let link : Link = get_or links k d in
+      let e : end_of (take (k + 1) links) i ≡ hop link (end_of (take k links) i) = rw (take_more links k d h) (end_of_push (take k links) link i) in
+      let old = c.agrees i below in
+      elim (cases_eq (end_of (take k links) i) link.from) [
+        | inl at ↦ rw (e, hop_at link (end_of (take k links) i) at)
+            (agrees_trans links (term_at nodes i) (term_at nodes link.from) (term_at nodes link.to) (rw at at old) here)
+        | inr past ↦ rw (e, hop_past link (end_of (take k links) i) past) old
+      ];
+}
 
 pub closed_all : (k : ℕ) (nodes : List Term) (links : List Link) → length links ≤ k → IsClosedUpTo k nodes links → IsClosed nodes links
 closed_all k nodes links h c = λ i below. rw (take_all k links h) at (c.agrees i below)

@@ -1,22 +1,21 @@
 -- Closed bindings have a solution exactly where no path comes back to itself.
-use Rattle.std.proofs.Common.{◌≡◌, ◌≢◌, ◌⊎◌, ◌↔◌, IsTrue, ℕ, ◌+◌, ◌*◌, ◌<◌, ◌≤◌, Bool, true, false, ◌&&◌, Option, Some, None, List, zero, suc, [], ◌∷◌, ◌++◌, length, take, get_or, set, replicate, map, sum, refl, ap, sym, subst, ◌∙◌, inl, inr, arith}
+use Rattle.std.proofs.Common.{◌≡◌, ◌≢◌, ◌⊎◌, ℕ, ◌+◌, ◌*◌, ◌<◌, ◌≤◌, Bool, true, false, Option, Some, None, List, zero, suc, [], ◌∷◌, length, take, set, replicate, map, sum, refl, ap, sym, subst, ◌∙◌, inl, inr, arith}
 use Rattle.std.specs.List.{AllByRecursion}
 use Rattle.std.proofs.Math.Nat.{mul-le-mul_left}
 use Rattle.std.proofs.lemmas.Bool.{cases_eq, cases_lt, cases_Bool, eq-eqb, ne_eqb, both_ways}
-use Rattle.std.proofs.lemmas.List.{length-set, length-replicate, get_or-replicate, get_or-set_same, get_or_past}
+use Rattle.std.proofs.lemmas.List.{length-set, length-replicate, get_or-replicate, get_or_past}
 use Rattle.std.proofs.lemmas.List.Sums.{sum_by-cons}
 use Rattle.mm_base.specs.declared.symbols.Label.{Label}
 use Rattle.mm_base.specs.declared.symbols.Typecode.{Typecode}
 use Rattle.mm_base.specs.declared.tree.Tree.{Tree}
 use Rattle.mm_base.specs.declared.tree.Tree.TheVariants as tree
-use Rattle.mm_base.specs.Trees.{code_of}
 use Rattle.mm_model.specs.Sizes.{nodes as size_of}
 use Rattle.mm_model.proofs.SizeLaws.{nodes-Node}
 use Rattle.term_model.specs.declared.shape.Id.{Id}
 use Rattle.term_model.specs.Terms.{Term, Var, Free, Node, term_code, term_at, children_of, HasChildrenBelow}
-use Rattle.term_model.specs.Links.{Link, link_at, target_of, end_of, hops_of, Avoids, InOrder}
+use Rattle.term_model.specs.Links.{Link, link_at, target_of, end_of, hops_of, InOrder}
 use Rattle.term_model.specs.Store.{tree_at, trees_at, ends_of, Fits, Respects, Solution, Agrees, IsSameNode, IsClosed, HaveSameCodes, IsStore, HasSolution}
-use Rattle.term_model.specs.Marks.{bound_at, IsTableOf, parts_at, parts_of, IsIn, is_marked, are_marked, unmarked_count, FitsAt, IsMarkedWell, IsPartlySolved, IsGraph, IsWay, IsCyclic}
+use Rattle.term_model.specs.Marks.{bound_at, IsTableOf, parts_at, parts_of, IsIn, is_marked, are_marked, unmarked_count, FitsAt, IsPartlySolved, IsGraph, IsWay, IsCyclic}
 use Rattle.term_model.proofs.LinkLaws.{target_of_avoided, target_ends, target_hops, target_below, end_unbound, end_below, in_order_take}
 use Rattle.term_model.proofs.SolutionLaws.{respects_end, same_end, fits_code}
 use Rattle.term_model.proofs.MarkLaws.{unmarked_in, unmarked_falls, marked_more, mark_more, part_below, child_below, none_marked}
@@ -26,8 +25,9 @@ use Rattle.term_model.proofs.ClosureLaws.{agrees_refl}
 target_of_tail : (n : ℕ) (l : Link) (links : List Link) (i j : ℕ) → InOrder n (l ∷ links) → target_of links i ≡ Some j → target_of (l ∷ links) i ≡ Some j
 target_of_tail n l links i j o e =
     elim (cases_eq i l.from) [
-      inl at ↦ let none : target_of links i ≡ None = rw at (target_of_avoided links l.from o.3) in let impossible : ◌≡◌ {A = Option ℕ} None (Some j) = sym none ∙ e in cc
-    | inr past ↦ rw (ne_eqb i l.from past) e ]
+      | inl at ↦ let none : target_of links i ≡ None = rw at (target_of_avoided links l.from o.3) in let impossible : ◌≡◌ {A = Option ℕ} None (Some j) = sym none ∙ e in cc
+      | inr past ↦ rw (ne_eqb i l.from past) e
+    ]
 
 target_of_head : (l : Link) (links : List Link) → target_of (l ∷ links) l.from ≡ Some l.to
 target_of_head l links = rw (eq-eqb l.from l.from refl) refl
@@ -44,16 +44,18 @@ passes_to_end n Q [] i o each q = q
 passes_to_end n Q (l ∷ links) i o each q =
     let tail = λ (i j : ℕ) (e : target_of links i ≡ Some j). each i j (target_of_tail n l links i j o e) in
     elim (cases_eq i l.from) [
-      inl at ↦ rw (eq-eqb i l.from at) (passes_to_end n Q links l.to o.4 tail (each l.from l.to (target_of_head l links) (subst Q at q)))
-    | inr past ↦ rw (ne_eqb i l.from past) (passes_to_end n Q links i o.4 tail q) ]
+      | inl at ↦ rw (eq-eqb i l.from at) (passes_to_end n Q links l.to o.4 tail (each l.from l.to (target_of_head l links) (subst Q at q)))
+      | inr past ↦ rw (ne_eqb i l.from past) (passes_to_end n Q links i o.4 tail q)
+    ]
 
 -- a node has the typecode of its end
 pub code_of_end : (nodes : List Term) (links : List Link) (i : ℕ) → HaveSameCodes nodes links → term_code (term_at nodes i) ≡ term_code (term_at nodes (end_of links i))
 code_of_end nodes [] i codes = refl
 code_of_end nodes (l ∷ links) i codes =
     elim (cases_eq i l.from) [
-      inl at ↦ rw (eq-eqb i l.from at) (ap (λ (k : ℕ). term_code (term_at nodes k)) at ∙ codes.0 ∙ code_of_end nodes links l.to codes.1)
-    | inr past ↦ rw (ne_eqb i l.from past) (code_of_end nodes links i codes.1) ]
+      | inl at ↦ rw (eq-eqb i l.from at) (ap (λ (k : ℕ). term_code (term_at nodes k)) at ∙ codes.0 ∙ code_of_end nodes links l.to codes.1)
+      | inr past ↦ rw (ne_eqb i l.from past) (code_of_end nodes links i codes.1)
+    ]
 
 -- children with the same ends have the same trees
 pub same_ends : (trees : List Tree) (links : List Link) (xs : List Id) → Respects trees links → trees_at trees xs ≡ map (tree_at trees) (ends_of links xs)
@@ -78,19 +80,21 @@ pub solution_from_marks : (nodes : List Term) (links : List Link) (bound : List 
 solution_from_marks nodes links bound marks store closed table p all =
     let n = length nodes in
     let at_target : (i j : ℕ) → target_of links i ≡ Some j → tree_at p.trees i ≡ tree_at p.trees j = λ i j e.
-        bound_tree i j (source_below n links i j store.in_order e) e in
-    let respects : Respects p.trees links = respects_targets n p.trees links store.in_order at_target in
-    (p.trees, record {
-      count = p.tree_count;
-      nodes_fit = λ i below.
-        let r = end_of links i in
-        let r_below : r < n = end_below n links i store.in_order below in
-        let free : bound_at bound r ≡ None = table.each r ∙ end_unbound n links i store.in_order in
-        let there : FitsAt p.trees (tree_at p.trees r) (term_at nodes r) None = rw free at (p.each r r_below (all r r_below)).fits in
-        rw (respects_end p.trees links i respects)
-          (fits_end p.trees links (tree_at p.trees r) (term_at nodes i) (term_at nodes r) respects (closed i below) (code_of_end nodes links i store.codes) there);
-      links_fit = respects;
-    })
+    bound_tree i j (source_below n links i j store.in_order e) e in
+    let respects : Respects p.trees links = respects_targets n p.trees links store.in_order at_target in (
+      p.trees,
+      record {
+        count = p.tree_count;
+        nodes_fit = λ i below.
+            let r = end_of links i in
+            let r_below : r < n = end_below n links i store.in_order below in
+            let free : bound_at bound r ≡ None = table.each r ∙ end_unbound n links i store.in_order in
+            let there : FitsAt p.trees (tree_at p.trees r) (term_at nodes r) None = rw free at (p.each r r_below (all r r_below)).fits in
+            rw (respects_end p.trees links i respects)
+            (fits_end p.trees links (tree_at p.trees r) (term_at nodes i) (term_at nodes r) respects (closed i below) (code_of_end nodes links i store.codes) there);
+        links_fit = respects;
+      },
+    )
   where
     bound_tree : (i j : ℕ) → i < length nodes → target_of links i ≡ Some j → tree_at p.trees i ≡ tree_at p.trees j
     bound_tree i j below e =
@@ -102,9 +106,9 @@ solution_from_marks nodes links bound marks store closed table p all =
     source_below n [] i j o e = let impossible : ◌≡◌ {A = Option ℕ} None (Some j) = e in cc
     source_below n (l ∷ links) i j o e =
         elim (cases_eq i l.from) [
-          inl at ↦ rw at o.0
-        | inr past ↦ source_below n links i j o.4 (rw (ne_eqb i l.from past) at e) ]
-
+          | inl at ↦ rw at o.0
+          | inr past ↦ source_below n links i j o.4 (rw (ne_eqb i l.from past) at e)
+        ]
 
 -- ---- in a solution, what a node is made of weighs less
 
@@ -112,8 +116,9 @@ hops_few : (links : List Link) (i : ℕ) → hops_of links i ≤ length links
 hops_few [] i = omega arith
 hops_few (l ∷ links) i =
     elim (cases_eq i l.from) [
-      inl at ↦ rw (eq-eqb i l.from at) (omega (arith, hops_few links l.to))
-    | inr past ↦ rw (ne_eqb i l.from past) (omega (arith, hops_few links i)) ]
+      | inl at ↦ rw (eq-eqb i l.from at) (omega (arith, hops_few links l.to))
+      | inr past ↦ rw (ne_eqb i l.from past) (omega (arith, hops_few links i))
+    ]
 
 -- the size of its tree, and of equal trees the number of bindings up to its end
 abbrev pub weight : List Link → List Tree → ℕ → ℕ
@@ -126,10 +131,11 @@ child_size : (trees : List Tree) (j : ℕ) (kids : List Id) → IsIn j (map (λ 
 child_size trees j [] h = absurd h
 child_size trees j (id ∷ kids) h =
     let whole : sum (map size_of (trees_at trees (id ∷ kids))) ≡ size_of (tree_at trees id.0) + sum (map size_of (trees_at trees kids)) =
-      sum_by-cons (λ (x : ℕ). x) (size_of (tree_at trees id.0)) (map size_of (trees_at trees kids)) in
+    sum_by-cons (λ (x : ℕ). x) (size_of (tree_at trees id.0)) (map size_of (trees_at trees kids)) in
     elim h [
-      inl e ↦ omega (arith, whole, ap (λ (k : ℕ). size_of (tree_at trees k)) e)
-    | inr rest ↦ omega (arith, whole, child_size trees j kids rest) ]
+      | inl e ↦ omega (arith, whole, ap (λ (k : ℕ). size_of (tree_at trees k)) e)
+      | inr rest ↦ omega (arith, whole, child_size trees j kids rest)
+    ]
 
 pub child_smaller : (trees : List Tree) (t : Tree) (e : Term) (j : ℕ) → Fits trees t e → IsIn j (map (λ (id : Id). id.0) (children_of e)) → size_of (tree_at trees j) < size_of t
 child_smaller trees t (Var s c) j f h = absurd h
@@ -185,10 +191,12 @@ same_count nodes bound more marks e a = rw (← e) a
 find_unmarked : (marks : List Bool) (n : ℕ) → ((i : ℕ) → i < n → is_marked marks i ≡ true) ⊎ ((i : ℕ) × (i < n) × (is_marked marks i ≡ false))
 find_unmarked marks zero = inl (λ i h. absurd (omega arith))
 find_unmarked marks (suc n) = elim (find_unmarked marks n) [
-      inr found ↦ inr (found.0, omega (arith, found.1), found.2)
-    | inl all ↦ elim (cases_Bool (is_marked marks n)) [
-        inl here ↦ inl (λ i h. elim (cases_eq i n) [ inl at ↦ rw at here | inr past ↦ all i (omega arith) ])
-      | inr not ↦ inr (n, omega arith, not) ] ]
+  | inr found ↦ inr (found.0, omega (arith, found.1), found.2)
+  | inl all ↦ elim (cases_Bool (is_marked marks n)) [
+    | inl here ↦ inl (λ i h. elim (cases_eq i n) [ inl at ↦ rw at here | inr past ↦ all i (omega arith) ])
+    | inr not ↦ inr (n, omega arith, not)
+  ]
+]
 
 module _ (nodes : List Term) (bound : List (Option ℕ)) (g : IsGraph nodes bound) (w : ℕ → ℕ) where
   abbrev pub Falls : List Bool → Type 0
@@ -197,28 +205,31 @@ module _ (nodes : List Term) (bound : List (Option ℕ)) (g : IsGraph nodes boun
   lowest : (marks : List Bool) → Falls marks → (s i : ℕ) → i < length nodes → is_marked marks i ≡ false → w i < s → (k : ℕ) × (k < length nodes) × (is_marked marks k ≡ false) × (are_marked marks (parts_of nodes bound k) ≡ true)
   lowest marks f zero i below fresh h = absurd (omega (arith, h))
   lowest marks f (suc s) i below fresh h = elim (cases_Bool (are_marked marks (parts_of nodes bound i))) [
-        inl all ↦ (i, below, fresh, all)
-      | inr not ↦
-          let found = unmarked_in marks (parts_of nodes bound i) not in
-          lowest marks f s found.0 (part_below nodes bound g i found.0 below found.1) found.2 (omega (arith, f i found.0 below fresh found.1, h)) ]
+    | inl all ↦ (i, below, fresh, all)
+    | inr not ↦
+        let found = unmarked_in marks (parts_of nodes bound i) not in
+        lowest marks f s found.0 (part_below nodes bound g i found.0 below found.1) found.2 (omega (arith, f i found.0 below fresh found.1, h))
+  ]
 
   fresh_still : (marks : List Bool) (k i : ℕ) → is_marked marks k ≡ false → is_marked (set marks k true) i ≡ false → is_marked marks i ≡ false
   fresh_still marks k i fresh m = elim (cases_Bool (is_marked marks i)) [
-        inl was ↦ absurd (both_ways _ m (marked_more marks k fresh i was))
-      | inr not ↦ not ]
+    | inl was ↦ absurd (both_ways _ m (marked_more marks k fresh i was))
+    | inr not ↦ not
+  ]
 
   pub settle_rest : (s : ℕ) (marks : List Bool) → unmarked_count marks < s → length nodes ≤ length marks → Falls marks → IsPartlySolved nodes bound marks → AllSolved nodes bound (length marks)
   settle_rest zero marks h long f p = absurd (omega arith)
   settle_rest (suc s) marks h long f p = elim (find_unmarked marks (length nodes)) [
-        inl all ↦ record { marks = marks; solved = p; all = all; count = refl }
-      | inr found ↦
-          let next = lowest marks f (w found.0 + 1) found.0 found.1 found.2 (omega arith) in
-          let within : next.0 < length marks = omega (arith, next.1, long) in
-          let one = unmarked_falls marks next.0 within next.2 in
-          let rest = settle_rest s (set marks next.0 true) (omega (arith, one, h)) (omega (arith, length-set marks next.0 true, long))
-            (λ i j below m is. f i j below (fresh_still marks next.0 i next.2 m) is)
-            (mark_more nodes bound marks next.0 next.1 within next.2 g next.3 p) in
-          same_count nodes bound (set marks next.0 true) marks (length-set marks next.0 true) rest ]
+    | inl all ↦ record { marks = marks; solved = p; all = all; count = refl }
+    | inr found ↦
+        let next = lowest marks f (w found.0 + 1) found.0 found.1 found.2 (omega arith) in
+        let within : next.0 < length marks = omega (arith, next.1, long) in
+        let one = unmarked_falls marks next.0 within next.2 in
+        let rest = settle_rest s (set marks next.0 true) (omega (arith, one, h)) (omega (arith, length-set marks next.0 true, long))
+        (λ i j below m is. f i j below (fresh_still marks next.0 i next.2 m) is)
+        (mark_more nodes bound marks next.0 next.1 within next.2 g next.3 p) in
+        same_count nodes bound (set marks next.0 true) marks (length-set marks next.0 true) rest
+  ]
 
 pub children_within : (n m : ℕ) (xs : List Id) → n ≤ m → AllByRecursion (λ (id : Id). id.0 < n) xs → AllByRecursion (λ (id : Id). id.0 < m) xs
 children_within n m [] h a = tt
@@ -246,8 +257,9 @@ none_bound (suc i) = refl
 
 pub none_in : (n k : ℕ) → is_marked (replicate n false) k ≡ false
 none_in n k = elim (cases_lt k n) [
-      inl h ↦ get_or-replicate n k false false h
-    | inr past ↦ get_or_past (replicate n false) k false (omega (arith, length-replicate n false)) ]
+  | inl h ↦ get_or-replicate n k false false h
+  | inr past ↦ get_or_past (replicate n false) k false (omega (arith, length-replicate n false))
+]
 
 -- without bindings there is a solution
 pub start_solution : (nodes : List Term) (links : List Link) → IsStore nodes links → HasSolution nodes []
@@ -258,8 +270,8 @@ start_solution nodes links s =
     let marks : List Bool = replicate (length nodes) false in
     let none : (k : ℕ) → is_marked marks k ≡ false = none_in (length nodes) in
     solved_by nodes [] [] (length marks) store (λ i below. agrees_refl [] (term_at nodes i)) table
-      (settle_rest nodes [] g (λ i. i) (unmarked_count marks + 1) marks (omega arith) (omega (arith, length-replicate (length nodes) false))
-        (λ i j below m h. child_before nodes i j below s h) (none_marked nodes [] marks none))
+    (settle_rest nodes [] g (λ i. i) (unmarked_count marks + 1) marks (omega arith) (omega (arith, length-replicate (length nodes) false))
+    (λ i j below m h. child_before nodes i j below s h) (none_marked nodes [] marks none))
   where
     child_before : (nodes : List Term) (i j : ℕ) → i < length nodes → IsStore nodes links → IsIn j (parts_of nodes [] i) → j < i
     child_before nodes i j below s h = child_below i j (children_of (term_at nodes i)) (s.children i below) (subst (λ (o : Option ℕ). IsIn j (parts_at o (term_at nodes i))) (none_bound i) h)
@@ -280,7 +292,7 @@ pub solution_since : (nodes : List Term) (links : List Link) (bound : List (Opti
 solution_since nodes links bound t marks store closed table old long p roots =
     let early : List Link = take t links in
     let falls : (i j : ℕ) → i < length nodes → is_marked marks i ≡ false → IsIn j (parts_of nodes bound i) → weight early old.0 j < weight early old.0 i = λ i j below m h.
-        let other : (k : ℕ) → t ≤ k → k < length links → (link_at links k).from ≢ i = λ k from within e. both_ways (is_marked marks i) m (subst (λ (x : ℕ). is_marked marks x ≡ true) e (roots k from within)) in
-        parts_fall nodes early bound old.0 (in_order_take (length nodes) t links store.in_order) old.1 i j below (table.each i ∙ sym (target_take t links i other)) h in
+    let other : (k : ℕ) → t ≤ k → k < length links → (link_at links k).from ≢ i = λ k from within e. both_ways (is_marked marks i) m (subst (λ (x : ℕ). is_marked marks x ≡ true) e (roots k from within)) in
+    parts_fall nodes early bound old.0 (in_order_take (length nodes) t links store.in_order) old.1 i j below (table.each i ∙ sym (target_take t links i other)) h in
     solved_by nodes links bound (length marks) store closed table
-      (settle_rest nodes bound (graph_of_store nodes links bound store table) (weight early old.0) (unmarked_count marks + 1) marks (omega arith) long falls p)
+    (settle_rest nodes bound (graph_of_store nodes links bound store table) (weight early old.0) (unmarked_count marks + 1) marks (omega arith) long falls p)

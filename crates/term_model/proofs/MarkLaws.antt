@@ -1,14 +1,14 @@
 -- Marking one more node keeps a solution of the marked nodes.
-use Rattle.std.proofs.Common.{◌≡◌, ◌≢◌, ◌⊎◌, ℕ, ◌+◌, ◌-◌, ◌<◌, ◌≤◌, Bool, true, false, ◌&&◌, Option, Some, None, List, zero, suc, [], ◌∷◌, ◌++◌, length, set, get_or, replicate, not, cond, map, refl, ap, sym, subst, ◌∙◌, inl, inr, arith}
-use Rattle.std.proofs.lemmas.Bool.{cases_eq, cases_lt, and_parts, and_from, and_cases, both_ways}
+use Rattle.std.proofs.Common.{◌≡◌, ◌≢◌, ℕ, ◌+◌, ◌-◌, ◌<◌, ◌≤◌, Bool, true, false, Option, Some, None, List, [], ◌∷◌, length, set, get_or, replicate, not, cond, map, refl, sym, ◌∙◌, inl, inr, arith}
+use Rattle.std.proofs.lemmas.Bool.{cases_eq, and_parts, and_from, and_cases, both_ways}
 use Rattle.std.proofs.lemmas.List.Sums.{sum_by-set, count_by-le-length}
-use Rattle.std.proofs.lemmas.List.{length-replicate, length-set, get_or-set_same, get_or-set_other, get_or_past}
+use Rattle.std.proofs.lemmas.List.{length-replicate, length-set, get_or-set_same, get_or-set_other}
 use Rattle.mm_base.specs.declared.tree.Tree.{Tree}
 use Rattle.mm_base.specs.declared.tree.Tree.TheVariants as tree
 use Rattle.term_model.proofs.TreeLaws.{code_of-Fresh}
 use Rattle.term_model.specs.declared.shape.Id.{Id}
 use Rattle.term_model.specs.Terms.{Term, Var, Free, Node, no_code, term_at, children_of}
-use Rattle.term_model.specs.Store.{tree_at, trees_at, Fits}
+use Rattle.term_model.specs.Store.{tree_at, trees_at}
 use Rattle.term_model.specs.Marks.{bound_at, parts_at, parts_of, IsIn, is_marked, are_marked, rank_at, unmarked_count, FitsAt, IsMarkedWell, IsPartlySolved, IsGraph}
 use Rattle.std.specs.List.{AllByRecursion}
 
@@ -22,13 +22,14 @@ marked_in marks (k ∷ js) j m (inr h) = marked_in marks js j (and_parts (is_mar
 pub unmarked_in : (marks : List Bool) (js : List ℕ) → are_marked marks js ≡ false → (j : ℕ) × IsIn j js × (is_marked marks j ≡ false)
 unmarked_in marks [] m = let impossible : true ≡ false = m in cc
 unmarked_in marks (k ∷ js) m = elim (and_cases (is_marked marks k) (are_marked marks js) m) [
-      inl here ↦ (k, inl refl, here)
-    | inr there ↦ let found = unmarked_in marks js there in (found.0, inr found.1, found.2) ]
+  | inl here ↦ (k, inl refl, here)
+  | inr there ↦ let found = unmarked_in marks js there in (found.0, inr found.1, found.2)
+]
 
 pub unmarked_falls : (marks : List Bool) (i : ℕ) → i < length marks → is_marked marks i ≡ false → unmarked_count (set marks i true) + 1 ≡ unmarked_count marks
 unmarked_falls marks i below fresh =
     let same : unmarked_count (set marks i true) + cond (not (get_or marks i false)) 1 0 ≡ unmarked_count marks + 0 =
-      sum_by-set (λ (b : Bool). cond (not b) 1 0) marks i true false below in
+    sum_by-set (λ (b : Bool). cond (not b) 1 0) marks i true false below in
     let one : unmarked_count (set marks i true) + 1 ≡ unmarked_count marks + 0 = rw fresh at same in
     omega (arith, one)
 
@@ -116,8 +117,8 @@ module _ (nodes : List Term) (bound : List (Option ℕ)) (marks : List Bool) (i 
         parts = all_marked_more marks i fresh (parts_of nodes bound i) can;
         fits = rw tree_here (fits_more marks p.trees i t fresh t (term_at nodes i) (bound_at bound i) can (tree_of_fits p.trees i (term_at nodes i) (bound_at bound i)));
         lower = λ j h.
-          let m = marked_in marks (parts_of nodes bound i) j can h in
-          rw (rank_here, rank_same p.ranks r j m) (omega (arith, (p.each j (part_below nodes bound g i j below h) m).few));
+            let m = marked_in marks (parts_of nodes bound i) j can h in
+            rw (rank_here, rank_same p.ranks r j m) (omega (arith, (p.each j (part_below nodes bound g i j below h) m).few));
         few = rw rank_here (omega (arith, fewer, count, length-set marks i true));
       } in
       record {
@@ -126,10 +127,11 @@ module _ (nodes : List Term) (bound : List (Option ℕ)) (marks : List Bool) (i 
         tree_count = length-set p.trees i t ∙ p.tree_count;
         rank_count = length-set p.ranks i r ∙ p.rank_count;
         each = λ k k_below m. elim (cases_eq k i) [
-            inl at ↦ rw at here
+          | inl at ↦ rw at here
           | inr past ↦
               let was : is_marked marks k ≡ true = sym (get_or-set_other marks i k true false past) ∙ m in
-              well_more p.trees p.ranks t r k was (p.each k k_below was) ];
+              well_more p.trees p.ranks t r k was (p.each k k_below was)
+        ];
       }
 
 -- with no mark there is nothing to solve

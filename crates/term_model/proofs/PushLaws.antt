@@ -1,5 +1,5 @@
 -- One more node keeps closed bindings and a solution.
-use Rattle.std.proofs.Common.{◌≡◌, ◌≢◌, ℕ, ◌+◌, ◌<◌, ◌≤◌, List, [], ◌∷◌, ◌++◌, length, map, refl, ap, sym, subst, ◌∙◌, inl, inr, arith}
+use Rattle.std.proofs.Common.{◌≡◌, ℕ, ◌+◌, ◌<◌, List, [], ◌∷◌, ◌++◌, length, refl, ap, sym, ◌∙◌, inl, inr, arith}
 use Rattle.std.specs.List.{AllByRecursion}
 use Rattle.std.proofs.lemmas.Bool.{cases_eq}
 use Rattle.std.proofs.lemmas.List.{length_push, get_or_push, get_or_append_left}
@@ -8,7 +8,7 @@ use Rattle.mm_base.specs.declared.tree.Tree.TheVariants as tree
 use Rattle.term_model.specs.declared.shape.Id.{Id}
 use Rattle.term_model.specs.Terms.{Term, Var, Free, Node, term_at, children_of, HasChildrenBelow}
 use Rattle.term_model.specs.Links.{Link, end_of, InOrder}
-use Rattle.term_model.specs.Store.{tree_at, trees_at, Fits, Respects, Solution, Agrees, IsClosed, IsSolved, IsStore}
+use Rattle.term_model.specs.Store.{tree_at, trees_at, Fits, Respects, Solution, IsClosed, IsSolved, IsStore}
 use Rattle.term_model.proofs.TreeLaws.{code_of-Fresh}
 use Rattle.term_model.proofs.LinkLaws.{end_below, end_of_unbound, unbound_past, are_below}
 use Rattle.term_model.proofs.ClosureLaws.{agrees_refl}
@@ -52,23 +52,25 @@ module _ (nodes : List Term) (links : List Link) (e : Term) (store : IsStore nod
       record {
         count = length_push trees t ∙ ap (λ (k : ℕ). k + 1) n ∙ sym (length_push nodes e);
         nodes_fit = λ i h. elim (cases_eq i (length nodes)) [
-            inl at ↦ rw (get_or_push nodes e _ i (sym at), get_or_push trees t _ i (n ∙ sym at)) (fits_old trees t t e below (new_fits trees e))
+          | inl at ↦ rw (get_or_push nodes e _ i (sym at), get_or_push trees t _ i (n ∙ sym at)) (fits_old trees t t e below (new_fits trees e))
           | inr past ↦
               let old : i < length nodes = omega (arith, length_push nodes e) in
               let old' : i < length trees = omega (arith, n) in
               let inside : HasChildrenBelow (length trees) (term_at nodes i) = children_within i (length trees) (children_of (term_at nodes i)) (omega (arith, old')) (store.children i old) in
-              rw (get_or_append_left nodes (e ∷ []) _ i old, tree_old trees t i old') (fits_old trees t (tree_at trees i) (term_at nodes i) inside (s.nodes_fit i old)) ];
+              rw (get_or_append_left nodes (e ∷ []) _ i old, tree_old trees t i old') (fits_old trees t (tree_at trees i) (term_at nodes i) inside (s.nodes_fit i old))
+        ];
         links_fit = respects_old trees t links (rw n store.in_order) s.links_fit;
       }
 
   closed_pushed : IsClosed nodes links → IsClosed (nodes ++ e ∷ []) links
   closed_pushed c i h = elim (cases_eq i (length nodes)) [
-        inl at ↦
-          let free : end_of links i ≡ i = end_of_unbound links i (unbound_past (length nodes) links i (are_below (length nodes) links store.in_order) (omega (arith, at))) in
-          rw free (agrees_refl links (term_at (nodes ++ e ∷ []) i))
-      | inr past ↦
-          let old : i < length nodes = omega (arith, length_push nodes e) in
-          rw (get_or_append_left nodes (e ∷ []) _ i old, get_or_append_left nodes (e ∷ []) _ (end_of links i) (end_below (length nodes) links i store.in_order old)) (c i old) ]
+    | inl at ↦
+        let free : end_of links i ≡ i = end_of_unbound links i (unbound_past (length nodes) links i (are_below (length nodes) links store.in_order) (omega (arith, at))) in
+        rw free (agrees_refl links (term_at (nodes ++ e ∷ []) i))
+    | inr past ↦
+        let old : i < length nodes = omega (arith, length_push nodes e) in
+        rw (get_or_append_left nodes (e ∷ []) _ i old, get_or_append_left nodes (e ∷ []) _ (end_of links i) (end_below (length nodes) links i store.in_order old)) (c i old)
+  ]
 
   pub solved_pushed : IsSolved nodes links → IsSolved (nodes ++ e ∷ []) links
   solved_pushed s = record { closed = closed_pushed s.closed; solution = (s.solution.0 ++ new_tree s.solution.0 e ∷ [], solution_pushed s.solution.0 s.solution.1) }

@@ -1,5 +1,5 @@
 -- In a store with a solution the nodes can be numbered, each above what it is made of.
-use Rattle.std.proofs.Common.{◌≡◌, ℕ, ◌+◌, ◌<◌, ◌≤◌, Bool, true, false, Option, Some, None, List, zero, suc, [], ◌∷◌, length, map, replicate, refl, ap, sym, subst, ◌∙◌, inl, inr, arith}
+use Rattle.std.proofs.Common.{◌≡◌, ℕ, ◌+◌, ◌<◌, ◌≤◌, Bool, false, Option, Some, None, List, zero, suc, [], ◌∷◌, length, map, replicate, refl, ap, sym, subst, ◌∙◌, inl, inr, arith}
 use Rattle.std.specs.List.{slice_get, range_with_len}
 use Rattle.std.proofs.lemmas.Bool.{cases_lt}
 use Rattle.std.proofs.lemmas.List.{length-replicate, get_or-map, get_or_past}
@@ -8,8 +8,8 @@ use Rattle.term_model.specs.declared.shape.Id.{Id}
 use Rattle.term_model.specs.Terms.{Term, term_at, children_of}
 use Rattle.term_model.specs.Links.{Link, target_of, end_of}
 use Rattle.term_model.specs.Store.{IsStore, HasSolution}
-use Rattle.term_model.specs.Marks.{bound_at, parts_at, parts_of, IsIn, is_marked, unmarked_count, rank_at, IsTableOf, IsMarkedWell, IsPartlySolved}
-use Rattle.term_model.specs.Ranks.{end_rank, AreRanked, IsAbove}
+use Rattle.term_model.specs.Marks.{bound_at, parts_at, parts_of, IsIn, unmarked_count, rank_at, IsTableOf, IsMarkedWell}
+use Rattle.term_model.specs.Ranks.{AreRanked, IsAbove}
 use Rattle.term_model.proofs.LinkLaws.{end_below, end_unbound, unbound_past, are_below, target_below}
 use Rattle.term_model.proofs.MarkLaws.{none_marked, child_below}
 use Rattle.term_model.proofs.CycleLaws.{weight, parts_fall, passes_to_end, graph_of_store, AllSolved, settle_rest, none_in}
@@ -25,22 +25,25 @@ table_of n links = map (target_of links) (range_with_len 0 n)
 
 table_reads : (nodes : List Term) (links : List Link) → IsStore nodes links → IsTableOf (table_of (length nodes) links) links
 unfolding table_of
-table_reads nodes links store = record { each = λ i.
-    let n = length nodes in
-    elim (cases_lt i n) [
-      inl h ↦
-        get_or-map (target_of links) (range_with_len 0 n) i 0 None (omega (arith, h, length-range_with_len 0 n))
-        ∙ ap (target_of links) (let same : 0 + i ≡ i = omega arith in get_or-range_with_len 0 n i 0 h ∙ same)
-    | inr past ↦
-        get_or_past (map (target_of links) (range_with_len 0 n)) i None (omega (arith, length-map-range_with_len (target_of links) 0 n))
-        ∙ sym (unbound_past n links i (are_below n links store.in_order) past) ] }
+table_reads nodes links store = record {
+  each = λ i.
+      let n = length nodes in
+      elim (cases_lt i n) [
+        | inl h ↦
+            get_or-map (target_of links) (range_with_len 0 n) i 0 None (omega (arith, h, length-range_with_len 0 n))
+            ∙ ap (target_of links) (let same : 0 + i ≡ i = omega arith in get_or-range_with_len 0 n i 0 h ∙ same)
+        | inr past ↦
+            get_or_past (map (target_of links) (range_with_len 0 n)) i None (omega (arith, length-map-range_with_len (target_of links) 0 n))
+            ∙ sym (unbound_past n links i (are_below n links store.in_order) past)
+      ];
+}
 
 all_solved : (nodes : List Term) (links : List Link) (bound : List (Option ℕ)) → IsStore nodes links → IsTableOf bound links → HasSolution nodes links → AllSolved nodes bound (length nodes)
 all_solved nodes links bound store table s =
     let marks : List Bool = replicate (length nodes) false in
     let n : length marks ≡ length nodes = length-replicate (length nodes) false in
     rw n at (settle_rest nodes bound (graph_of_store nodes links bound store table) (weight links s.0) (unmarked_count marks + 1) marks (omega arith) (omega (arith, n))
-      (λ i j below m h. parts_fall nodes links bound s.0 store.in_order s.1 i j below (table.each i) h) (none_marked nodes bound marks (none_in (length nodes))))
+    (λ i j below m h. parts_fall nodes links bound s.0 store.in_order s.1 i j below (table.each i) h) (none_marked nodes bound marks (none_in (length nodes))))
 
 module _ (nodes : List Term) (links : List Link) (bound : List (Option ℕ)) (store : IsStore nodes links) (table : IsTableOf bound links) (a : AllSolved nodes bound (length nodes)) where
   well : (i : ℕ) → i < length nodes → IsMarkedWell nodes bound a.marks a.solved.trees a.solved.ranks i
@@ -65,13 +68,13 @@ module _ (nodes : List Term) (links : List Link) (bound : List (Option ℕ)) (st
   ranked : AreRanked nodes links a.solved.ranks
   ranked = record {
     falls = λ i k child below e.
-      let r = end_of links i in
-      let r_below = end_below' i below in
-      let free : bound_at bound r ≡ None = table.each r ∙ end_unbound (length nodes) links i store.in_order in
-      let inside = child_in (children_of (term_at nodes r)) k child e in
-      let part : IsIn child.0 (parts_of nodes bound r) = subst (λ (p : Option ℕ). IsIn child.0 (parts_at p (term_at nodes r))) (sym free) inside in
-      let kid : child.0 < length nodes = omega (arith, r_below, child_below r child.0 (children_of (term_at nodes r)) (store.children r r_below) inside) in
-      omega (arith, (well r r_below).lower child.0 part, end_lower child.0 kid);
+        let r = end_of links i in
+        let r_below = end_below' i below in
+        let free : bound_at bound r ≡ None = table.each r ∙ end_unbound (length nodes) links i store.in_order in
+        let inside = child_in (children_of (term_at nodes r)) k child e in
+        let part : IsIn child.0 (parts_of nodes bound r) = subst (λ (p : Option ℕ). IsIn child.0 (parts_at p (term_at nodes r))) (sym free) inside in
+        let kid : child.0 < length nodes = omega (arith, r_below, child_below r child.0 (children_of (term_at nodes r)) (store.children r r_below) inside) in
+        omega (arith, (well r r_below).lower child.0 part, end_lower child.0 kid);
     few = λ i below. omega (arith, (well (end_of links i) (end_below' i below)).few, a.count);
   }
 

@@ -1,5 +1,5 @@
 -- The tokens of nodes, while they are counted and in the end.
-use Rattle.std.proofs.Common.{◌≡◌, ◌≢◌, ℕ, ◌+◌, ◌-◌, ◌^◌, ◌<◌, ◌≤◌, min, Bool, true, false, ◌&&◌, Option, Some, None, List, zero, suc, [], ◌∷◌, length, take, set, get_or, map, sum, refl, ap, sym, subst, ◌∙◌, inl, inr, arith}
+use Rattle.std.proofs.Common.{◌≡◌, ℕ, ◌+◌, ◌-◌, ◌^◌, ◌<◌, min, Bool, true, false, Option, Some, None, List, zero, suc, [], ◌∷◌, length, set, map, sum, refl, ap, sym, ◌∙◌, inl, inr, arith}
 use Rattle.std.specs.List.{sum_by}
 use Rattle.std.proofs.lemmas.Bool.{cases_eq, and_parts, both_ways}
 use Rattle.std.proofs.lemmas.List.{length-set, get_or-set_same, get_or-set_other}
@@ -14,8 +14,8 @@ use Rattle.mm_model.specs.Sizes.{nodes as size_of}
 use Rattle.term_model.specs.declared.shape.Id.{Id}
 use Rattle.term_model.specs.Terms.{Term, Var, Free, Node, term_at, is_free, children_of}
 use Rattle.term_model.specs.Links.{Link, target_of, end_of, InOrder}
-use Rattle.term_model.specs.Store.{tree_at, trees_at, Fits, Solution, IsStore}
-use Rattle.term_model.specs.Marks.{bound_at, parts_at, parts_of, IsIn, is_marked, are_marked, IsTableOf, IsPartlySolved}
+use Rattle.term_model.specs.Store.{tree_at, trees_at, Fits, IsStore}
+use Rattle.term_model.specs.Marks.{bound_at, parts_at, parts_of, IsIn, is_marked, are_marked, IsTableOf}
 use Rattle.term_model.specs.Sizes.{saturated, size_at, term_tokens, AreSizes, layer_tokens, tokens, HasConstants, HaveConstants, IsGeneral, AreTreeSizes, node_tokens, AreMeasured}
 use Rattle.term_model.proofs.LinkLaws.{end_unbound, end_below, target_below}
 use Rattle.term_model.proofs.SolutionLaws.{respects_end}
@@ -49,15 +49,17 @@ measured_more nodes bound marks sizes i below fresh can a =
     record {
       count = length-set sizes i v ∙ a.count;
       parts = λ k k_below m. elim (cases_eq k i) [
-          inl at ↦ rw at (all_marked_more marks i fresh (parts_of nodes bound i) can)
+        | inl at ↦ rw at (all_marked_more marks i fresh (parts_of nodes bound i) can)
         | inr past ↦
             let was : is_marked marks k ≡ true = sym (get_or-set_other marks i k true false past) ∙ m in
-            all_marked_more marks i fresh (parts_of nodes bound k) (a.parts k k_below was) ];
+            all_marked_more marks i fresh (parts_of nodes bound k) (a.parts k k_below was)
+      ];
       each = λ k k_below m. elim (cases_eq k i) [
-          inl at ↦ rw at (get_or-set_same sizes i v 0 (omega (arith, a.count)) ∙ sym (tokens_same marks sizes i v fresh (bound_at bound i) (term_at nodes i) can))
+        | inl at ↦ rw at (get_or-set_same sizes i v 0 (omega (arith, a.count)) ∙ sym (tokens_same marks sizes i v fresh (bound_at bound i) (term_at nodes i) can))
         | inr past ↦
             let was : is_marked marks k ≡ true = sym (get_or-set_other marks i k true false past) ∙ m in
-            get_or-set_other sizes i k v 0 past ∙ a.each k k_below was ∙ sym (tokens_same marks sizes i v fresh (bound_at bound k) (term_at nodes k) (a.parts k k_below was)) ];
+            get_or-set_other sizes i k v 0 past ∙ a.each k k_below was ∙ sym (tokens_same marks sizes i v fresh (bound_at bound k) (term_at nodes k) (a.parts k k_below was))
+      ];
     }
 
 pub none_measured : (nodes : List Term) (bound : List (Option ℕ)) (marks : List Bool) (sizes : List ℕ) → ((k : ℕ) → is_marked marks k ≡ false) → length sizes ≡ length nodes → AreMeasured nodes bound marks sizes
@@ -73,14 +75,14 @@ pub measured_all : (nodes : List Term) (links : List Link) (bound : List (Option
 measured_all nodes links bound marks sizes order table all a = record {
   count = a.count;
   each = λ i below.
-    let n = length nodes in
-    let r = end_of links i in
-    let r_below : r < n = end_below n links i order below in
-    let Q : ℕ → Type 0 = λ k. (k < n) × (size_at sizes i ≡ size_at sizes k) in
-    let along : Q r = passes_to_end n Q links i order (λ k j e q. at_target k j e i q) (below, refl) in
-    let free : bound_at bound r ≡ None = table.each r ∙ end_unbound n links i order in
-    let here : size_at sizes r ≡ node_tokens sizes None (term_at nodes r) = rw free at (a.each r r_below (all r r_below)) in
-    along.1 ∙ here;
+      let n = length nodes in
+      let r = end_of links i in
+      let r_below : r < n = end_below n links i order below in
+      let Q : ℕ → Type 0 = λ k. (k < n) × (size_at sizes i ≡ size_at sizes k) in
+      let along : Q r = passes_to_end n Q links i order (λ k j e q. at_target k j e i q) (below, refl) in
+      let free : bound_at bound r ≡ None = table.each r ∙ end_unbound n links i order in
+      let here : size_at sizes r ≡ node_tokens sizes None (term_at nodes r) = rw free at (a.each r r_below (all r r_below)) in
+      along.1 ∙ here;
 }
   where
     at_target : (k j : ℕ) → target_of links k ≡ Some j → (i : ℕ) → (k < length nodes) × (size_at sizes i ≡ size_at sizes k) → (j < length nodes) × (size_at sizes i ≡ size_at sizes j)
@@ -139,8 +141,8 @@ module _ (nodes : List Term) (links : List Link) (sizes : List ℕ) (store : IsS
       let e = term_at nodes r in
       let fit = g.solves.nodes_fit r r_below in
       let kids = λ (id : Id) (h' : IsIn id.0 (map (λ (id : Id). id.0) (children_of e))).
-        right_below n id.0 (omega (arith, r_below, child_below r id.0 (children_of e) (store.children r r_below) h'))
-          (omega (arith, child_smaller trees (tree_at trees r) e id.0 fit h', h, ap size_of same)) in
+      right_below n id.0 (omega (arith, r_below, child_below r id.0 (children_of e) (store.children r r_below) h'))
+      (omega (arith, child_smaller trees (tree_at trees r) e id.0 fit h', h, ap size_of same)) in
       s.each i below
       ∙ at_end r e (have r r_below) fit (g.leaves r r_below (end_unbound (length nodes) links i store.in_order)) kids
       ∙ ap (λ (t : Tree). saturated (tokens constants t)) (sym same)

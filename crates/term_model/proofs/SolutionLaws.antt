@@ -1,17 +1,15 @@
 -- What every solution of a store respects, and what a binding forces.
-use Rattle.std.proofs.Common.{◌≡◌, ◌≢◌, ℕ, ◌+◌, ◌<◌, ◌≤◌, eqb, cond, Option, Some, None, List, zero, suc, [], ◌∷◌, ◌++◌, length, take, map, refl, ap, sym, subst, ◌∙◌, inl, inr, arith}
+use Rattle.std.proofs.Common.{◌≡◌, ℕ, List, [], ◌∷◌, ◌++◌, refl, ap, sym, ◌∙◌, inl, inr}
 use Rattle.std.proofs.lemmas.Bool.{cases_eq, eq-eqb, ne_eqb}
 use Rattle.mm_base.specs.declared.symbols.Sym.{Sym}
 use Rattle.mm_base.specs.declared.symbols.Label.{Label}
 use Rattle.mm_base.specs.declared.symbols.Typecode.{Typecode}
 use Rattle.mm_base.specs.declared.tree.Tree.{Tree}
-use Rattle.mm_base.specs.declared.tree.Tree.TheVariants as tree
 use Rattle.mm_base.specs.Trees.{code_of}
 use Rattle.term_model.proofs.TreeLaws.{code_of-Var, code_of-Node, Node-parts, Var-parts, Var-no-Node}
 use Rattle.term_model.specs.declared.shape.Id.{Id}
-
-use Rattle.term_model.specs.Terms.{Term, Var, Free, Node, term_code, term_at}
-use Rattle.term_model.specs.Links.{Link, target_of, end_of}
+use Rattle.term_model.specs.Terms.{Term, Var, Free, Node, term_code}
+use Rattle.term_model.specs.Links.{Link, end_of}
 use Rattle.term_model.specs.Store.{tree_at, trees_at, Fits, Respects, Solution}
 
 -- a node has the tree of its end
@@ -19,8 +17,9 @@ pub respects_end : (trees : List Tree) (links : List Link) (i : ℕ) → Respect
 respects_end trees [] i r = refl
 respects_end trees (l ∷ links) i r =
     elim (cases_eq i l.from) [
-      inl at ↦ rw (eq-eqb i l.from at) (ap (tree_at trees) at ∙ r.0 ∙ respects_end trees links l.to r.1)
-    | inr past ↦ rw (ne_eqb i l.from past) (respects_end trees links i r.1) ]
+      | inl at ↦ rw (eq-eqb i l.from at) (ap (tree_at trees) at ∙ r.0 ∙ respects_end trees links l.to r.1)
+      | inr past ↦ rw (ne_eqb i l.from past) (respects_end trees links i r.1)
+    ]
 
 pub respects_push : (trees : List Tree) (links : List Link) (link : Link) → Respects trees links → tree_at trees link.from ≡ tree_at trees link.to → Respects trees (links ++ link ∷ [])
 respects_push trees [] link r e = (e, tt)

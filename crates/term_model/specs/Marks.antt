@@ -3,7 +3,7 @@ use Rattle.std.specs.Prelude.{◌≡◌, ℕ, ◌+◌, ◌<◌, Bool, true, fals
 use Rattle.std.specs.List.{AllByRecursion}
 use Rattle.mm_base.specs.declared.tree.Tree.{Tree}
 use Rattle.term_model.specs.declared.shape.Id.{Id}
-use Rattle.term_model.specs.Terms.{Term, Var, Free, Node, children_of, term_at}
+use Rattle.term_model.specs.Terms.{Term, children_of, term_at}
 use Rattle.term_model.specs.Links.{Link, target_of}
 use Rattle.term_model.specs.Store.{tree_at, Fits}
 

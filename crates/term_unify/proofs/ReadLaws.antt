@@ -1,5 +1,5 @@
 -- What the shape of a node says of its tree.
-use Rattle.std.proofs.Common.{◌≡◌, ℕ, ◌+◌, ◌<◌, ◌≤◌, Option, Some, None, List, [], ◌∷◌, ◌++◌, length, take, get_or, map, refl, ap, sym, ◌∙◌, subst, arith}
+use Rattle.std.proofs.Common.{◌≡◌, ℕ, ◌+◌, ◌<◌, ◌≤◌, Some, None, List, [], ◌∷◌, ◌++◌, length, take, get_or, map, refl, ap, sym, ◌∙◌, subst, arith}
 use Rattle.std.specs.Prelude.{slice_get}
 use Rattle.std.proofs.lemmas.List.{map_push, take_more, take_all, length-map}
 use Rattle.std.proofs.lemmas.Option.{get_or_from_slice_get}
@@ -15,7 +15,7 @@ use Rattle.mm_base.specs.Trees.{Each}
 use Rattle.mm_base.proofs.TreeFolds.{fold-Var, fold-Fresh, fold-Node}
 use Rattle.mm_base.proofs.TreeFacts.{every-Var, every-Node}
 use Rattle.term_model.specs.Links.{Link, target_of}
-use Rattle.term_model.specs.Ranks.{end_rank, AreRanked, IsAbove}
+use Rattle.term_model.specs.Ranks.{IsAbove}
 use Rattle.term_unify.specs.Read.{fill_step, filled, IsFreshOf, HasFreshOf}
 use Rattle.term_model.specs.declared.shape.Id.{Id}
 use Rattle.term_model.specs.declared.shape.Shape.{Shape}
@@ -65,7 +65,7 @@ module _ (nodes : List Term) (links : List Link) (i end : ℕ) (is : end ≡ end
       let at : Id → Tree = λ (id : Id). tree_at trees id.0 in
       let fit = fits_shape_Node trees (tree_at trees end) (term_at nodes end) l c n e (sol.nodes_fit end below) in
       let whole : take k (trees_at trees (children_of (term_at nodes end))) ≡ trees_at trees (children_of (term_at nodes end)) =
-        take_all k (trees_at trees (children_of (term_at nodes end))) (omega (arith, length-map (children_of (term_at nodes end)) at, fit.1)) in
+      take_all k (trees_at trees (children_of (term_at nodes end))) (omega (arith, length-map (children_of (term_at nodes end)) at, fit.1)) in
       filled-Node (tree_at trees) l c kids ∙ ap (tree.Node l c) (m ∙ whole) ∙ sym (tree_of_end ∙ fit.0)
 
 -- one more child has been read

@@ -15,7 +15,7 @@ use Rattle.term_model.specs.Terms.{Term, Var, Free, Node, children_of, term_code
 use Rattle.term_model.specs.Links.{Link, AreBelow, link_at, target_of, end_of}
 use Rattle.term_model.specs.Store.{Store, IsStore, IsClosed, cut_to, Fits, Respects, Agrees, with_link, tree_at, trees_at, ends_of, IsClosedUpTo, Solution}
 use Rattle.mm_base.specs.Trees.{code_of}
-use Rattle.term_model.proofs.LinkLaws.{are_below, end_of_unbound, end_of_append, end_of_push, hop, hop_at, hop_past}
+use Rattle.term_model.proofs.LinkLaws.{are_below, end_of_unbound, end_of_append, end_of_push, hop_at, hop_past}
 use Rattle.term_model.proofs.SolutionLaws.{respects_end, solution_push, solution_front, same_end, fits_code, fits_Var, fits_Node, fits_Var_Node}
 use Rattle.term_model.proofs.ClosureLaws.{closed_push, closed_step, closed_start}
 use Rattle.term_unify.specs.Steps.{IsOriented, Extends, Forces, Excludes, HaveSameTree, HaveSameChildren, HasNone, pairs_of}
@@ -130,9 +130,9 @@ pub ends_more : (s t : Store) (xs ys : List Id) (k : ℕ) (x y : Id) → Extends
 ends_more s t xs ys k x y p e f g hx hy same =
     let end : Id → ℕ = λ (id : Id). end_of t.links id.0 in
     let old : take k (ends_of t.links xs) ≡ take k (ends_of t.links ys) =
-      rw (p.links, ends_of_append s.links p.more xs, ends_of_append s.links p.more ys, take-map (end_of p.more) k (ends_of s.links xs), take-map (end_of p.more) k (ends_of s.links ys), e) refl in
+    rw (p.links, ends_of_append s.links p.more xs, ends_of_append s.links p.more ys, take-map (end_of p.more) k (ends_of s.links xs), take-map (end_of p.more) k (ends_of s.links ys), e) refl in
     take_more_same (ends_of t.links xs) (ends_of t.links ys) k 0 (omega (arith, length-map xs end)) (omega (arith, length-map ys end)) old
-      (get_or_from_slice_get (ends_of t.links xs) k (end x) 0 (slice_get-map end xs k x f) ∙ same ∙ sym (get_or_from_slice_get (ends_of t.links ys) k (end y) 0 (slice_get-map end ys k y g)))
+    (get_or_from_slice_get (ends_of t.links xs) k (end x) 0 (slice_get-map end xs k x f) ∙ same ∙ sym (get_or_from_slice_get (ends_of t.links ys) k (end y) 0 (slice_get-map end ys k y g)))
 
 -- the two nodes of a binding have one tree
 pub link_tree : (trees : List Tree) (links : List Link) (k : ℕ) → Respects trees links → k < length links → tree_at trees (link_at links k).from ≡ tree_at trees (link_at links k).to
@@ -173,9 +173,8 @@ pairs_none trees t (Node l c k xs) (Node m d h ys) p bound o a b =
     let impossible : ◌≡◌ {A = Option ℕ} (Some (length xs)) None = rw test at p in cc
 
 module _ (s : Store) (k from to : ℕ) (first second : Shape) (within : k < length s.links)
-  (from_is : from ≡ (link_at s.links k).from) (to_is : to ≡ (link_at s.links k).to) (from_below : from < length s.nodes) (to_below : to < length s.nodes)
-  (first_is : first ≡ shape_of (term_at s.nodes from)) (second_is : second ≡ shape_of (term_at s.nodes to)) where
-
+    (from_is : from ≡ (link_at s.links k).from) (to_is : to ≡ (link_at s.links k).to) (from_below : from < length s.nodes) (to_below : to < length s.nodes)
+    (first_is : first ≡ shape_of (term_at s.nodes from)) (second_is : second ≡ shape_of (term_at s.nodes to)) where
   both_fit : (trees : List Tree) → Solution s.nodes s.links trees → Fits trees (tree_at trees from) (term_at s.nodes from) × Fits trees (tree_at trees from) (term_at s.nodes to)
   both_fit trees sol =
       let same : tree_at trees from ≡ tree_at trees to = rw (from_is, to_is) (link_tree trees s.links k sol.links_fit within) in
@@ -239,8 +238,9 @@ start_oriented s t p = rw (p.nodes, p.links, drop_at s.links p.more (length s.li
 
 -- the solutions are exactly those before in which the two nodes have one tree
 pub exact : (s t : Store) (a b : ℕ) → Extends s t → end_of t.links a ≡ end_of t.links b → Forces s t (HaveSameTree a b) → (trees : List Tree) → Solution t.nodes t.links trees ↔ (Solution s.nodes s.links trees × HaveSameTree a b trees)
-exact s t a b p joined forced trees =
-    (λ sol.
-       let all : Solution s.nodes (s.links ++ p.more) trees = rw (p.nodes, p.links) at sol in
-       (solution_front s.nodes s.links p.more trees all, same_end trees t.links a b sol.links_fit joined),
-     λ both. forced trees both.0 both.1)
+exact s t a b p joined forced trees = (
+  λ sol.
+      let all : Solution s.nodes (s.links ++ p.more) trees = rw (p.nodes, p.links) at sol in
+      (solution_front s.nodes s.links p.more trees all, same_end trees t.links a b sol.links_fit joined),
+  λ both. forced trees both.0 both.1,
+)

@@ -1,10 +1,9 @@
 -- Bindings that one unification makes.
-use Rattle.std.specs.Prelude.{◌≡◌, ℕ, ◌<◌, ◌==◌, ◌&&◌, if◌then◌else◌, Option, Some, None, Bool, true, false, List, [], ◌∷◌, ◌++◌, length, ⊤}
+use Rattle.std.specs.Prelude.{◌≡◌, ℕ, ◌==◌, ◌&&◌, if◌then◌else◌, Option, Some, None, true, List, ◌++◌}
 use Rattle.std.specs.List.{AllByRecursion}
 use Rattle.mm_base.specs.declared.tree.Tree.{Tree}
-use Rattle.term_model.specs.declared.shape.Id.{Id}
 use Rattle.term_model.specs.declared.shape.Shape.{Shape}
-use Rattle.term_model.specs.Links.{Link, end_of}
+use Rattle.term_model.specs.Links.{Link}
 use Rattle.term_model.specs.Store.{Store, tree_at, trees_at, Solution}
 use Rattle.term_model.specs.Terms.{Term, term_at, children_of, is_free}
 

@@ -3,8 +3,6 @@
 
 mod reading;
 
-pub use reading::read_off;
-
 ghost use Rattle.std.specs.Prelude.{◌≡◌, ◌<◌, ◌≤◌, ◌++◌, length, drop, true, List, IsOk, OnOk, OnErr, ◌↔◌};
 ghost use Rattle.mm_base.specs.declared.tree.Tree.{Tree};
 ghost use Rattle.std.specs.Bool.{OnTrue, OnFalse};
@@ -14,6 +12,7 @@ ghost use Rattle.term_model.specs.Terms.{term_at, children_of};
 ghost use Rattle.std.specs.List.{AllByRecursion};
 ghost use Rattle.term_unify.specs.Steps.{Extends, Forces, Excludes, HaveSameTree, HaveSameChildren, IsOriented, KeepsSolutions, HasNone, pairs_of};
 
+pub use reading::read_off;
 use term_arena::{Arena, Id, Shape};
 
 /// No solution makes the two nodes equal.
@@ -108,13 +107,7 @@ fn pairs(first: Shape, second: Shape) -> Option<u32>
     ensures { result ≡ pairs_of first second }
 {
     match (first, second) {
-        (Shape::Var(x, c), Shape::Var(y, d)) => {
-            if x == y && c == d {
-                Some(0)
-            } else {
-                None
-            }
-        }
+        (Shape::Var(x, c), Shape::Var(y, d)) => { if x == y && c == d { Some(0) } else { None } }
         (Shape::Node(l, c, n), Shape::Node(m, d, h)) => {
             if l == m && c == d && n == h {
                 Some(n)
@@ -168,7 +161,6 @@ fn close_all(arena: &mut Arena, start: u32) -> bool
     }
     true
 }
-
 
 #[cfg(test)]
 mod tests;

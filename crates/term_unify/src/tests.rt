@@ -115,7 +115,11 @@ fn unbound_end(formulas: Formulas, id: Id) -> Option<Id> {
     let Formulas { mut arena } = formulas;
     let nodes = arena.count();
     arena.undo_to(Mark { nodes, trail: 0 });
-    if id.0 < nodes { Some(arena.follow(id)) } else { None }
+    if id.0 < nodes {
+        Some(arena.follow(id))
+    } else {
+        None
+    }
 }
 
 // Two free formulas x and y, two variables p and q, and x -> y, y -> p, q -> x.
@@ -164,7 +168,10 @@ fn refuses(rt: HostRuntime) -> Result<(), Fail> {
     let nodes = add_nodes(&mut formulas)?;
     assert_eq!(rt; misfits(&mut formulas, &nodes)?, [false, false, false]);
     assert_eq!(rt; formulas.mark(), Mark { nodes: 8, trail: 0 });
-    assert_eq!(rt; formulas.shape(nodes.xy), Some(Shape::Node(Label(1), WFF, 2)));
+    assert_eq!(rt;
+        formulas.shape(nodes.xy),
+        Some(Shape::Node(Label(1), WFF, 2))
+    );
     Ok(())
 }
 

@@ -1,4 +1,4 @@
-use Rattle.std.proofs.Common.{◌≡◌, true, sym, ◌∙◌, arith}
+use Rattle.std.proofs.Common.{sym, ◌∙◌}
 use Rattle.std.proofs.lemmas.Bool.{OnTrue_at, OnTrue_from, OnFalse_at, OnFalse_from}
 use Rattle.term_unify.proofs.StepLaws.{closing_children, closing_none}
 use Rattle.term_unify.proofs.close_link.Goals as goal
@@ -19,4 +19,4 @@ pub returns-in-None-clause-none : goal.returns-in-None-clause-none
 returns-in-None-clause-none c =
     let link = c.link.ensures in
     closing_none c.args.arena.now c.args.k c.link.result.0.0 c.link.result.1.0 c.look-first.result c.look-second.result c.requires.k link.from link.to link.from_below link.to_below c.look-first.ensures c.look-second.ensures
-      (sym c.pairs.ensures ∙ c.in-None.is) (sym c.is_free.ensures ∙ c.if-is_free.false) c.requires.oriented
+    (sym c.pairs.ensures ∙ c.in-None.is) (sym c.is_free.ensures ∙ c.if-is_free.false) c.requires.oriented

@@ -1,4 +1,4 @@
-use Rattle.std.proofs.Common.{◌≡◌, ◌<◌, List, length, Some, ap, sym, ◌∙◌, arith}
+use Rattle.std.proofs.Common.{◌≡◌, Some, arith}
 use Rattle.std.specs.Prelude.{slice_get}
 use Rattle.term_model.specs.Terms.{term_at, children_of}
 use Rattle.term_unify.proofs.StepLaws.{extends_trans, child_trees, ends_more}
@@ -13,7 +13,7 @@ returns-then-not-merge-clause-none c =
     let at_x : slice_get xs c.loop-k.k ≡ Some c.child-x.result = rw nodes at c.child-x.ensures.child in
     let at_y : slice_get ys c.loop-k.k ≡ Some c.child-y.result = rw nodes at c.child-y.ensures.child in
     λ trees sol same. c.if-not-merge.ensures.none trees (inv.forced trees sol same)
-      (child_trees trees xs ys c.loop-k.k c.child-x.result c.child-y.result same at_x at_y)
+    (child_trees trees xs ys c.loop-k.k c.child-x.result c.child-y.result same at_x at_y)
 
 pub loop-k-preserved : goal.loop-k-preserved
 loop-k-preserved c =
@@ -28,5 +28,5 @@ loop-k-preserved c =
       extends = extends_trans s c.loop-k.arena c.merge.new.arena inv.extends c.merge.ensures.extends;
       joined = ends_more c.loop-k.arena c.merge.new.arena xs ys c.loop-k.k c.child-x.result c.child-y.result c.merge.ensures.extends inv.joined at_x at_y (omega arith) (omega arith) c.if-not-merge.ensures.joined;
       forced = λ trees sol same. c.if-not-merge.ensures.forced trees (inv.forced trees sol same)
-        (child_trees trees xs ys c.loop-k.k c.child-x.result c.child-y.result same at_x at_y);
+          (child_trees trees xs ys c.loop-k.k c.child-x.result c.child-y.result same at_x at_y);
     }

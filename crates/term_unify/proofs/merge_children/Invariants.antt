@@ -1,4 +1,4 @@
-use Rattle.std.proofs.Common.{◌≡◌, List, take}
+use Rattle.std.proofs.Common.{◌≡◌, take}
 use Rattle.term_model.specs.Store.{ends_of}
 use Rattle.term_model.specs.Terms.{term_at, children_of}
 use Rattle.term_unify.specs.Steps.{Extends, Forces, HaveSameChildren}

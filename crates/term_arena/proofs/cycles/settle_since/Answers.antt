@@ -1,4 +1,4 @@
-use Rattle.std.proofs.Common.{◌≡◌, ◌<◌, ◌≤◌, ◌+◌, ℕ, List, Some, true, length, refl, sym, subst, ap, ◌∙◌, inl, inr, arith}
+use Rattle.std.proofs.Common.{◌≡◌, ℕ, Some, true, sym, subst, ap, ◌∙◌, inl, inr, arith}
 use Rattle.std.specs.List.{slice_get}
 use Rattle.std.proofs.lemmas.Bool.{cases_eq}
 use Rattle.std.proofs.lemmas.List.{length-map}
@@ -26,11 +26,12 @@ loop-k-preserved c =
       idle = done.idle;
       solved = done.solved;
       each = λ m i from below e. elim (cases_eq m c.loop-k.k) [
-          inl at ↦
+        | inl at ↦
             let both : Some c.entry.result ≡ Some i = sym c.entry.ensures ∙ subst (λ (n : ℕ). slice_get c.args.trail.now.entries n ≡ Some i) at e in
             let same : c.entry.result ≡ i = cc in
             subst (λ (n : ℕ). is_marked (marks_of c.settle.new.walk.states) n ≡ true) same done.settled
-        | inr past ↦ done.kept i (inv.each m i from (omega (arith, below)) e) ];
+        | inr past ↦ done.kept i (inv.each m i from (omega (arith, below)) e)
+      ];
     }
 
 pub returns-clause-settled : goal.returns-clause-settled

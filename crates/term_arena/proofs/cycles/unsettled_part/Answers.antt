@@ -1,7 +1,7 @@
-use Rattle.std.proofs.Common.{◌≡◌, None, length, refl, sym, ◌∙◌, inl, arith}
+use Rattle.std.proofs.Common.{◌≡◌, None, length, refl, sym, ◌∙◌, inl}
 use Rattle.term_model.specs.Marks.{bound_at}
 use Rattle.term_arena.specs.Walks.{marks_of}
-use Rattle.term_arena.proofs.StepLaws.{IsScanned, scan_ahead, scan_next, scanned_all}
+use Rattle.term_arena.proofs.StepLaws.{scan_ahead, scan_next, scanned_all}
 use Rattle.term_arena.proofs.cycles.unsettled_part.Goals as goal
 
 pub loop-child-init : goal.loop-child-init

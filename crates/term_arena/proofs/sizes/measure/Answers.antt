@@ -1,5 +1,4 @@
-use Rattle.std.proofs.Common.{◌≡◌, ◌<◌, length, sym, ap, ◌∙◌, arith}
-use Rattle.term_model.specs.Marks.{IsCyclic}
+use Rattle.std.proofs.Common.{sym, ap, ◌∙◌}
 use Rattle.term_arena.proofs.StepLaws.{GoesOn, goes_on, comes_back, walk_begins, head_split, last_below}
 use Rattle.term_arena.proofs.MeasureLaws.{measures_on, measure_begins}
 use Rattle.term_arena.proofs.sizes.measure.Goals as goal
@@ -10,7 +9,7 @@ loop-last-init c =
     let fresh = sym c.is_settled.ensures ∙ c.if-is_settled.false in
     record {
       walking = walk_begins terms.nodes terms.bound c.args.root c.args.walk.now c.open.new.self c.requires.root c.requires.room c.requires.idle c.requires.solved fresh
-        (ap (λ walk. walk.states) c.open.ensures) (ap (λ walk. walk.path) c.open.ensures);
+          (ap (λ walk. walk.states) c.open.ensures) (ap (λ walk. walk.path) c.open.ensures);
       measured = measure_begins terms.nodes terms.bound c.args.root c.args.walk.now c.open.new.self c.args.sizes.now.items fresh (ap (λ walk. walk.states) c.open.ensures) c.requires.measured;
     }
 
@@ -26,7 +25,7 @@ none c =
     let terms = c.args.terms.now in
     let split = head_split c.loop-last.walk.path c.in-Some.last c.in-Some.ensures.0 in
     c.requires.acyclic (comes_back terms.nodes terms.bound c.args.root c.args.walk.now c.loop-last.walk c.step-did.new.walk c.in-Some.last split.0 c.requires.graph c.requires.room
-      c.loop-last.invariant.walking split.1 c.in-Some.ensures.1 c.step-did.result c.step-did.ensures c.in-Cycle.is)
+    c.loop-last.invariant.walking split.1 c.in-Some.ensures.1 c.step-did.result c.step-did.ensures c.in-Cycle.is)
 
 pub returns-in-Cycle-clause-idle : goal.returns-in-Cycle-clause-idle
 returns-in-Cycle-clause-idle c = absurd (none c)
@@ -46,7 +45,7 @@ after_step c =
     let terms = c.args.terms.now in
     let split = head_split c.loop-last.walk.path c.in-Some.last c.in-Some.ensures.0 in
     goes_on terms.nodes terms.bound c.args.root c.args.walk.now c.loop-last.walk c.step-did.new.walk c.in-Some.last split.0 c.requires.graph c.requires.room
-      c.loop-last.invariant.walking split.1 c.in-Some.ensures.1 c.step-did.result c.step-did.ensures c.in_default-did.not-Cycle
+    c.loop-last.invariant.walking split.1 c.in-Some.ensures.1 c.step-did.result c.step-did.ensures c.in_default-did.not-Cycle
 
 pub loop-last-preserved : goal.loop-last-preserved
 loop-last-preserved c =
@@ -54,8 +53,8 @@ loop-last-preserved c =
     record {
       walking = (after_step c).walking;
       measured = measures_on terms.nodes terms.bound c.in-Some.last c.loop-last.walk c.step-did.new.walk c.loop-last.sizes.items c.count.new.sizes.items
-        (last_below terms.nodes terms.bound c.loop-last.walk.path c.in-Some.last c.in-Some.ensures.0 c.loop-last.invariant.walking.way) c.in-Some.ensures.1
-        c.step-did.result c.step-did.ensures c.in_default-did.not-Cycle c.count.ensures c.loop-last.invariant.measured;
+          (last_below terms.nodes terms.bound c.loop-last.walk.path c.in-Some.last c.in-Some.ensures.0 c.loop-last.invariant.walking.way) c.in-Some.ensures.1
+          c.step-did.result c.step-did.ensures c.in_default-did.not-Cycle c.count.ensures c.loop-last.invariant.measured;
     }
 
 pub loop-last-smaller : goal.loop-last-smaller

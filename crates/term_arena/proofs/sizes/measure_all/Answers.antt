@@ -1,5 +1,4 @@
-use Rattle.std.proofs.Common.{◌≡◌, ◌<◌, ◌≤◌, length, ap, ◌∙◌, arith}
-use Rattle.std.proofs.lemmas.List.{length-map}
+use Rattle.std.proofs.Common.{ap, ◌∙◌, arith}
 use Rattle.term_arena.specs.Walks.{is_settled}
 use Rattle.term_model.proofs.MarkLaws.{none_marked}
 use Rattle.term_arena.proofs.WalkLaws.{mark_of_state}
@@ -14,6 +13,6 @@ loop-root-init c =
       idle = c.clear.ensures.idle;
       solved = none_marked terms.nodes terms.bound _ (λ i. mark_of_state c.clear.new.self.states i ∙ ap is_settled (c.clear.ensures.fresh i));
       measured = none_measured terms.nodes terms.bound _ _ (λ i. mark_of_state c.clear.new.self.states i ∙ ap is_settled (c.clear.ensures.fresh i))
-        (omega (arith, c.in_ok-sizes.ensures.len, c.count-nodes.ensures.count));
+          (omega (arith, c.in_ok-sizes.ensures.len, c.count-nodes.ensures.count));
       each = λ i below. absurd (omega (arith, below));
     }

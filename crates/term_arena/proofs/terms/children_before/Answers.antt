@@ -1,4 +1,4 @@
-use Rattle.std.proofs.Common.{◌≡◌, ◌<◌, ◌≤◌, length, sym, arith}
+use Rattle.std.proofs.Common.{arith}
 use Rattle.std.proofs.lemmas.List.{take_all}
 use Rattle.term_arena.proofs.TermLaws.{packed_before}
 use Rattle.term_arena.proofs.terms.children_before.Goals as goal

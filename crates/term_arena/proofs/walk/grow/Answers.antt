@@ -1,4 +1,4 @@
-use Rattle.std.proofs.Common.{◌≡◌, ◌≤◌, length, sym, ◌∙◌, arith}
+use Rattle.std.proofs.Common.{◌∙◌, arith}
 use Rattle.std.proofs.lemmas.List.{length_push}
 use Rattle.term_arena.proofs.WalkLaws.{read_push_zero}
 use Rattle.term_arena.proofs.walk.grow.Goals as goal

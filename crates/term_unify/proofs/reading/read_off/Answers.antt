@@ -1,4 +1,3 @@
-use Rattle.std.proofs.Common.{◌≡◌}
 use Rattle.term_model.proofs.RankLaws.{numbered}
 use Rattle.term_unify.proofs.reading.read_off.Goals as goal
 

@@ -1,5 +1,3 @@
-use Rattle.std.proofs.Common.{◌≡◌}
-use Rattle.term_arena.specs.Inside.{links_of}
 use Rattle.term_arena.proofs.SinceLaws.{arena_graph, trail_below, since_exact}
 use Rattle.term_arena.proofs.arena.Arena.acyclic_since.Goals as goal
 
@@ -18,4 +16,4 @@ returns-clause-solvable c =
     let now = c.self.inside in
     let requires = rw (← c.self.view_is) at c.requires in
     rw (← c.self.view_is) (since_exact now.terms.nodes now.terms.bound now.trail now.walk.states now.ready c.self.invariant
-      c.args.trail c.settle_since.result requires.closed requires.solvable c.settle_since.ensures.settled c.settle_since.ensures.cycle)
+    c.args.trail c.settle_since.result requires.closed requires.solvable c.settle_since.ensures.settled c.settle_since.ensures.cycle)

@@ -1,8 +1,7 @@
-use Rattle.std.proofs.Common.{◌≡◌, ◌++◌, ◌∷◌, [], ◌<◌, List, length, None, Some, true, ap, sym, ◌∙◌, arith}
+use Rattle.std.proofs.Common.{◌≡◌, ◌<◌, List, length, None, true, ap, ◌∙◌, arith}
 use Rattle.term_model.specs.Links.{Link, target_of, end_of}
 use Rattle.term_model.specs.Store.{Store}
 use Rattle.term_arena.specs.Inside.{links_of}
-use Rattle.term_model.specs.Marks.{bound_at}
 use Rattle.term_model.proofs.LinkLaws.{end_unbound, end_below}
 use Rattle.term_arena.proofs.ArenaLaws.{arena_bind, count_below, links_of_bind}
 use Rattle.term_arena.proofs.arena.Arena.bind.Goals as goal
@@ -26,11 +25,11 @@ invariant_of-self c =
     let requires = rw (← c.self.view_is) at c.requires in
     let end : c.follow-end.result.0 ≡ end_of links c.args.to.0 = rw (← c.self.view_is) at c.follow-end.ensures.end in
     rw (c.bind.ensures, end) (arena_bind before.terms.nodes before.terms.bound before.trail c.note.new.self before.walk.states before.ready c.args.from.0 (end_of links c.args.to.0) a
-      (a.table.each c.args.from.0 ∙ requires.unbound)
-      (a.table.each (end_of links c.args.to.0) ∙ end_unbound n links c.args.to.0 a.store.in_order)
-      requires.from
-      (end_below n links c.args.to.0 a.store.in_order requires.to)
-      requires.apart requires.code c.note.ensures.entries c.note.ensures.spare)
+    (a.table.each c.args.from.0 ∙ requires.unbound)
+    (a.table.each (end_of links c.args.to.0) ∙ end_unbound n links c.args.to.0 a.store.in_order)
+    requires.from
+    (end_below n links c.args.to.0 a.store.in_order requires.to)
+    requires.apart requires.code c.note.ensures.entries c.note.ensures.spare)
 
 pub returns : goal.returns
 returns c =
@@ -41,5 +40,5 @@ returns c =
     let end : c.follow-end.result.0 ≡ end_of links c.args.to.0 = rw (← c.self.view_is) at c.follow-end.ensures.end in
     let whole : List Link → Store = λ (ls : List Link). record { nodes = before.terms.nodes; links = ls; ready = before.ready } in
     rw (← c.self.view_is, c.bind.ensures, end, c.note.ensures.entries)
-      (ap whole (links_of_bind before.trail.entries before.terms.bound c.args.from.0 (end_of links c.args.to.0)
-        (omega (arith, requires.from, a.same)) requires.unbound))
+    (ap whole (links_of_bind before.trail.entries before.terms.bound c.args.from.0 (end_of links c.args.to.0)
+    (omega (arith, requires.from, a.same)) requires.unbound))

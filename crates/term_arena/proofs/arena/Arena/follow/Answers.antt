@@ -1,6 +1,5 @@
-use Rattle.std.proofs.Common.{◌≡◌, ℕ, ◌<◌, length, Option, Some, None, get_or, refl, sym, ◌∙◌, arith}
-use Rattle.std.proofs.lemmas.List.{get_or_read}
-use Rattle.term_model.specs.Links.{target_of, end_of, hops_of}
+use Rattle.std.proofs.Common.{◌≡◌, length, Some, None, sym, ◌∙◌, arith}
+use Rattle.term_model.specs.Links.{target_of}
 use Rattle.term_arena.specs.Inside.{links_of}
 use Rattle.term_model.proofs.LinkLaws.{target_ends, target_hops, target_below, end_of_unbound}
 use Rattle.term_arena.proofs.arena.Arena.follow.Goals as goal
@@ -11,7 +10,7 @@ loop-to-smaller c =
     let links = links_of inside.trail.entries inside.terms.bound in
     let i = c.loop-to.at in
     let bound_to : target_of links i ≡ Some c.in-Some.to =
-      sym (c.self.invariant.table.each i) ∙ sym c.target.ensures ∙ c.in-Some.is in
+    sym (c.self.invariant.table.each i) ∙ sym c.target.ensures ∙ c.in-Some.is in
     omega (arith, target_hops (length inside.terms.nodes) links i c.in-Some.to c.self.invariant.store.in_order bound_to)
 
 pub loop-to-preserved : goal.loop-to-preserved
@@ -20,7 +19,7 @@ loop-to-preserved c =
     let links = links_of inside.trail.entries inside.terms.bound in
     let i = c.loop-to.at in
     let bound_to : target_of links i ≡ Some c.in-Some.to =
-      sym (c.self.invariant.table.each i) ∙ sym c.target.ensures ∙ c.in-Some.is in
+    sym (c.self.invariant.table.each i) ∙ sym c.target.ensures ∙ c.in-Some.is in
     record {
       leads = sym (target_ends (length inside.terms.nodes) links i c.in-Some.to c.self.invariant.store.in_order bound_to) ∙ c.loop-to.invariant.leads;
       below = target_below (length inside.terms.nodes) links i c.in-Some.to c.self.invariant.store.in_order bound_to;
@@ -32,7 +31,7 @@ returns-clause-end c =
     let links = links_of inside.trail.entries inside.terms.bound in
     let i = c.loop-to.at in
     let unbound : target_of links i ≡ None =
-      sym (c.self.invariant.table.each i) ∙ sym c.target.ensures ∙ c.in_default.is in
+    sym (c.self.invariant.table.each i) ∙ sym c.target.ensures ∙ c.in_default.is in
     rw (← c.self.view_is) (sym (end_of_unbound links i unbound) ∙ c.loop-to.invariant.leads)
 
 pub returns-clause-below : goal.returns-clause-below

@@ -1,5 +1,4 @@
-use Rattle.std.proofs.Common.{◌≡◌, ◌<◌, length, Option, None, Some, ap, sym, ◌∙◌, arith}
-use Rattle.std.proofs.lemmas.List.{get_or_read}
+use Rattle.std.proofs.Common.{◌≡◌, ◌<◌, length, None, Some, ap, sym, ◌∙◌, arith}
 use Rattle.term_model.specs.Links.{Link, link_at}
 use Rattle.term_model.specs.Marks.{bound_at}
 use Rattle.term_arena.specs.Inside.{links_of}
@@ -12,7 +11,7 @@ target-requires c =
     let now = c.self.inside in
     let k : c.args.k < length (links_of now.trail.entries now.terms.bound) = rw (← c.self.view_is) at c.requires in
     let within : c.entry-from.result < length now.terms.bound = (trail_bound now.terms.nodes now.terms.bound now.trail now.walk.states now.ready c.args.k c.entry-from.result c.self.invariant
-      (omega (arith, k, length-links_of now.trail.entries now.terms.bound)) c.entry-from.ensures).0 in
+    (omega (arith, k, length-links_of now.trail.entries now.terms.bound)) c.entry-from.ensures).0 in
     omega arith
 
 pub unreachable-requires : goal.unreachable-requires
@@ -20,7 +19,7 @@ unreachable-requires c =
     let now = c.self.inside in
     let k : c.args.k < length (links_of now.trail.entries now.terms.bound) = rw (← c.self.view_is) at c.requires in
     let bound = trail_bound now.terms.nodes now.terms.bound now.trail now.walk.states now.ready c.args.k c.entry-from.result c.self.invariant
-      (omega (arith, k, length-links_of now.trail.entries now.terms.bound)) c.entry-from.ensures in
+    (omega (arith, k, length-links_of now.trail.entries now.terms.bound)) c.entry-from.ensures in
     let read : c.target.result ≡ bound_at now.terms.bound c.entry-from.result = c.target.ensures in
     let impossible : None ≡ Some (link_at (links_of now.trail.entries now.terms.bound) c.args.k).to = sym c.in-None.is ∙ read ∙ bound.1 in
     cc
@@ -35,7 +34,7 @@ returns-clause-to c =
     let now = c.self.inside in
     let k : c.args.k < length (links_of now.trail.entries now.terms.bound) = rw (← c.self.view_is) at c.requires in
     let bound = trail_bound now.terms.nodes now.terms.bound now.trail now.walk.states now.ready c.args.k c.entry-from.result c.self.invariant
-      (omega (arith, k, length-links_of now.trail.entries now.terms.bound)) c.entry-from.ensures in
+    (omega (arith, k, length-links_of now.trail.entries now.terms.bound)) c.entry-from.ensures in
     let read : c.target.result ≡ bound_at now.terms.bound c.entry-from.result = c.target.ensures in
     let both : Some c.in-Some.to ≡ Some (link_at (links_of now.trail.entries now.terms.bound) c.args.k).to = sym c.in-Some.is ∙ read ∙ bound.1 in
     rw (← c.self.view_is) (cc)
@@ -45,7 +44,7 @@ returns-clause-from_below c =
     let now = c.self.inside in
     let k : c.args.k < length (links_of now.trail.entries now.terms.bound) = rw (← c.self.view_is) at c.requires in
     let bound = trail_bound now.terms.nodes now.terms.bound now.trail now.walk.states now.ready c.args.k c.entry-from.result c.self.invariant
-      (omega (arith, k, length-links_of now.trail.entries now.terms.bound)) c.entry-from.ensures in
+    (omega (arith, k, length-links_of now.trail.entries now.terms.bound)) c.entry-from.ensures in
     rw (← c.self.view_is) (omega (arith, bound.0, c.self.invariant.same))
 
 pub returns-clause-to_below : goal.returns-clause-to_below
@@ -53,8 +52,8 @@ returns-clause-to_below c =
     let now = c.self.inside in
     let k : c.args.k < length (links_of now.trail.entries now.terms.bound) = rw (← c.self.view_is) at c.requires in
     let bound = trail_bound now.terms.nodes now.terms.bound now.trail now.walk.states now.ready c.args.k c.entry-from.result c.self.invariant
-      (omega (arith, k, length-links_of now.trail.entries now.terms.bound)) c.entry-from.ensures in
+    (omega (arith, k, length-links_of now.trail.entries now.terms.bound)) c.entry-from.ensures in
     let read : c.target.result ≡ bound_at now.terms.bound c.entry-from.result = c.target.ensures in
     let is : bound_at now.terms.bound c.entry-from.result ≡ Some c.in-Some.to = sym read ∙ c.in-Some.is in
     rw (← c.self.view_is) (target_below (length now.terms.nodes) (links_of now.trail.entries now.terms.bound) c.entry-from.result c.in-Some.to c.self.invariant.store.in_order
-      (sym (c.self.invariant.table.each c.entry-from.result) ∙ is))
+    (sym (c.self.invariant.table.each c.entry-from.result) ∙ is))

@@ -7,4 +7,4 @@ invariant_of-self c =
     let before = c.self.inside in
     let a = c.self.invariant in
     arena_room before.terms.nodes before.terms.bound before.trail c.reserve.new.self before.walk.states before.walk.states before.ready before.ready c.reserve.ensures.entries
-      (λ (r : before.ready ≡ true). (omega (arith, a.room r, c.reserve.ensures.kept), a.walk_room r)) a
+    (λ (r : before.ready ≡ true). (omega (arith, a.room r, c.reserve.ensures.kept), a.walk_room r)) a

@@ -1,4 +1,3 @@
-use Rattle.std.proofs.Common.{◌≡◌}
 use Rattle.term_model.specs.Store.{IsStore}
 use Rattle.term_model.specs.Sizes.{AreSizes}
 use Rattle.term_arena.specs.Inside.{links_of}

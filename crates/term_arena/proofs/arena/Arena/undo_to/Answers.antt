@@ -1,16 +1,15 @@
-use Rattle.std.proofs.Common.{◌≡◌, ◌<◌, ◌≤◌, ℕ, List, length, take, refl, ap, sym, subst, ◌∙◌, arith, length-append, ◌+◌}
+use Rattle.std.proofs.Common.{◌≡◌, ◌<◌, ◌≤◌, ℕ, List, length, take, refl, ap, sym, subst, ◌∙◌, arith, ◌+◌}
 use Rattle.std.proofs.lemmas.List.{take-take, length_push}
 use Rattle.term_model.specs.Links.{Link, AreBelow}
-use Rattle.term_model.specs.Store.{Store}
 use Rattle.term_arena.specs.Inside.{links_of}
-use Rattle.term_arena.proofs.ArenaLaws.{arena_unbind, arena_cut, last_entry_below, length-links_of}
+use Rattle.term_arena.proofs.ArenaLaws.{arena_unbind, arena_cut, last_entry_below}
 use Rattle.term_arena.proofs.arena.Arena.undo_to.Goals as goal
 
 pub unbind-requires : goal.unbind-requires
 unbind-requires c =
     let now = c.loop-i.self-inside in
     let within : c.in-Some.i < length now.terms.bound =
-      last_entry_below now.terms.nodes now.terms.bound now.trail c.back_to.new.self now.walk.states now.ready c.in-Some.i c.loop-i.invariant.whole c.in-Some.ensures.0 in
+    last_entry_below now.terms.nodes now.terms.bound now.trail c.back_to.new.self now.walk.states now.ready c.in-Some.i c.loop-i.invariant.whole c.in-Some.ensures.0 in
     omega arith
 
 pub loop-i-preserved : goal.loop-i-preserved
@@ -40,7 +39,7 @@ invariant_of-self c =
     let kept : AreBelow c.args.mark.nodes (take c.args.mark.trail was) = rw (← c.self.view_is) at c.requires.kept in
     let within : c.args.mark.nodes ≤ length c.self.inside.terms.nodes = rw (← c.self.view_is) at c.requires.nodes in
     rw (c.cut.ensures, end.1)
-      (arena_cut now.terms.nodes now.terms.bound now.trail now.walk.states now.ready c.args.mark.nodes (omega (arith, within, ap length inv.nodes)) (subst (AreBelow c.args.mark.nodes) (sym links) kept) inv.whole).0
+    (arena_cut now.terms.nodes now.terms.bound now.trail now.walk.states now.ready c.args.mark.nodes (omega (arith, within, ap length inv.nodes)) (subst (AreBelow c.args.mark.nodes) (sym links) kept) inv.whole).0
 
 pub returns : goal.returns
 returns c =

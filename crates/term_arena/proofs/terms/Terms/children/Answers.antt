@@ -1,6 +1,4 @@
-use Rattle.std.proofs.Common.{◌≡◌, ◌<◌, ◌≤◌, ◌+◌, length, sym, ap, arith}
-use Rattle.std.proofs.lemmas.List.{length-map}
-use Rattle.term_model.specs.Terms.{shape_count}
+use Rattle.std.proofs.Common.{arith}
 use Rattle.term_arena.proofs.TermLaws.{entry_within}
 use Rattle.term_arena.proofs.terms.Terms.children.Goals as goal
 

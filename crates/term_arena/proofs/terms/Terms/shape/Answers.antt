@@ -1,4 +1,3 @@
-use Rattle.std.proofs.Common.{◌≡◌, sym}
 use Rattle.term_arena.proofs.TermLaws.{shape_at}
 use Rattle.term_arena.proofs.terms.Terms.shape.Goals as goal
 

@@ -1,4 +1,4 @@
-use Rattle.std.proofs.Common.{◌≡◌, ◌∙◌, ap, eqb, ◌+◌, length, ◌<◌, arith}
+use Rattle.std.proofs.Common.{◌∙◌, ap, eqb, ◌+◌, length, ◌<◌, arith}
 use Rattle.std.proofs.lemmas.List.{get_or_read, length-map}
 use Rattle.term_arena.specs.Walks.{state_of}
 use Rattle.term_arena.proofs.WalkLaws.{settled_read}

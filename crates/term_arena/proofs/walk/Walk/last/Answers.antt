@@ -1,5 +1,4 @@
-use Rattle.std.proofs.Common.{◌≡◌, ◌<◌, length, sym, arith}
-use Rattle.term_arena.specs.Walks.{state_at}
+use Rattle.std.proofs.Common.{arith}
 use Rattle.term_arena.proofs.WalkLaws.{last_first, head_open, open_below, no_entries, idle_when_empty}
 use Rattle.term_arena.proofs.walk.Walk.last.Goals as goal
 

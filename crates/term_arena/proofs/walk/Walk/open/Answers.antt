@@ -1,5 +1,4 @@
-use Rattle.std.proofs.Common.{◌≡◌, ap, refl}
-use Rattle.std.specs.Prelude.{reverse}
+use Rattle.std.proofs.Common.{refl}
 use Rattle.term_arena.proofs.WalkLaws.{room_for, walk_open, states_opened, reverse_push}
 use Rattle.term_arena.proofs.walk.Walk.open.Goals as goal
 

@@ -1,4 +1,4 @@
-use Rattle.std.proofs.Common.{◌≡◌, ◌≤◌, length, max, sym, ap, refl, ◌∙◌, arith}
+use Rattle.std.proofs.Common.{length, ap, ◌∙◌, arith}
 use Rattle.term_arena.proofs.WalkLaws.{walk_room, empty_reverse}
 use Rattle.term_arena.proofs.walk.Walk.reserve.Goals as goal
 
@@ -8,7 +8,7 @@ invariant_of-self-in_err-grow c =
     let cleared = rw (← c.self.view_is) at c.clear.ensures in
     let none = empty_reverse now.path.entries cleared.idle.path in
     walk_room now.stamps.items c.grow.new.stamps.items now.round now.path c.reserve.new.self c.self.invariant cleared.fresh c.in_err-grow.ensures.same
-      (c.in_ok-reserve.ensures.entries ∙ none) (omega (arith, ap length none, c.in_err-grow.ensures.limit, c.in_ok-reserve.ensures.spare, c.in_ok-reserve.ensures.kept, c.self.invariant.room))
+    (c.in_ok-reserve.ensures.entries ∙ none) (omega (arith, ap length none, c.in_err-grow.ensures.limit, c.in_ok-reserve.ensures.spare, c.in_ok-reserve.ensures.kept, c.self.invariant.room))
 
 pub invariant_of-self-2 : goal.invariant_of-self-2
 invariant_of-self-2 c =
@@ -16,4 +16,4 @@ invariant_of-self-2 c =
     let cleared = rw (← c.self.view_is) at c.clear.ensures in
     let none = empty_reverse now.path.entries cleared.idle.path in
     walk_room now.stamps.items c.grow.new.stamps.items now.round now.path c.reserve.new.self c.self.invariant cleared.fresh c.in_ok-grow.ensures.same
-      (c.in_ok-reserve.ensures.entries ∙ none) (omega (arith, ap length none, c.in_ok-grow.ensures.limit, c.in_ok-reserve.ensures.spare, c.in_ok-reserve.ensures.kept, c.self.invariant.room))
+    (c.in_ok-reserve.ensures.entries ∙ none) (omega (arith, ap length none, c.in_ok-grow.ensures.limit, c.in_ok-reserve.ensures.spare, c.in_ok-reserve.ensures.kept, c.self.invariant.room))

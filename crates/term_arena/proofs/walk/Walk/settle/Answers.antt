@@ -1,4 +1,4 @@
-use Rattle.std.proofs.Common.{◌≡◌, ap, refl, ◌∙◌}
+use Rattle.std.proofs.Common.{ap, ◌∙◌}
 use Rattle.std.specs.Prelude.{reverse}
 use Rattle.term_arena.proofs.WalkLaws.{walk_settle, states_settled, reverse_push}
 use Rattle.term_arena.proofs.walk.Walk.settle.Goals as goal
