@@ -141,7 +141,9 @@ fn needed_keys(alloc: Global, pairs: &[Pair], vars: &[Sym], trees: &[Tree]) -> R
 }
 
 /// The pairs that a use of an assertion needs, by lesser and then greater symbol number, each once: of each pair of its
-/// frame, each variable of the database in the one value with each other one in the other value.
+/// frame, each variable of the database in the one value with each other one in the other value. A variable without a
+/// tree has none. It takes memory for the pairs that it gives and for the variables of two values; a pair of the frame
+/// takes a walk over its two trees, and a look-up for each two of their different variables.
 pub fn needed(
     alloc: Global,
     pairs: &List<Pair>,
