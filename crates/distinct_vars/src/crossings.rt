@@ -141,16 +141,10 @@ fn needed_keys(alloc: Global, pairs: &[Pair], vars: &[Sym], trees: &[Tree]) -> R
 }
 
 /// The pairs that a use of an assertion needs, by lesser and then greater symbol number, each once: of each pair of its
-<<<<<<< HEAD
 /// frame, each variable of the database in the one value with each other one in the other value. Work variables and fresh
-/// leaves are in no pair, and a variable without a tree has no variables. It takes memory for the pairs and for the
-/// variables of two values, and time in proportion to the variables of the one times those of the other for each pair of
-/// the frame, but for a logarithm. `Memory`: there is no room for them.
-=======
-/// frame, each variable of the database in the one value with each other one in the other value. A variable without a
-/// tree has none. It takes memory for the pairs that it gives and for the variables of two values; a pair of the frame
-/// takes a walk over its two trees, and a look-up for each two of their different variables.
->>>>>>> 0dd2607306435c54de3cbac58976169b4fb9cb89
+/// leaves are in no pair, and a variable without a tree has no variables. It takes memory for the pairs that it gives and
+/// for the variables of two values; a pair of the frame takes a walk over its two trees, and a look-up for each two of
+/// their different variables. `Memory`: there is no room for them.
 pub fn needed(
     alloc: Global,
     pairs: &List<Pair>,

@@ -1,4 +1,4 @@
--- Laws: what a text without a fault says, and (not proved yet) that what is laid out reads back.
+-- Laws: what a text without a fault says, and that what is laid out reads back.
 use Rattle.std.specs.Prelude.{◌≡◌, ℕ, List, Option, Some, None, Contains}
 use Rattle.sheet_text.specs.declared.sheet.Sheet.{Sheet}
 use Rattle.sheet_text.specs.Layout.{layout}
