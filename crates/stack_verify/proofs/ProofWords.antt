@@ -98,7 +98,7 @@ stands : (r : List Word) (s : Statement) → In s (ended r) → Stands (reverse 
 stands [] s h = absurd h
 stands (w ∷ r) s h =
     elim (cases_Bool (ends_statement w)) [
-      | inl t ↦ ending t (subst (λ (l : List Statement). In s l) (cond_then (ends_statement w) ((unended r ++ w ∷ []) ∷ ended r) (ended r) t) h)
+      | inl t ↦ ending (λ (x : In s (ended r)). stands r s x) t (subst (λ (l : List Statement). In s l) (cond_then (ends_statement w) ((unended r ++ w ∷ []) ∷ ended r) (ended r) t) h)
       | inr t ↦ longer (stands r s (subst (λ (l : List Statement). In s l) (cond_else (ends_statement w) ((unended r ++ w ∷ []) ∷ ended r) (ended r) t) h))
     ]
   where
@@ -114,8 +114,8 @@ stands (w ∷ r) s h =
       clear = x.clear;
     }
 
-    ending : ends_statement w ≡ true → In s ((unended r ++ w ∷ []) ∷ ended r) → Stands (reverse (w ∷ r)) s
-    ending t (inl e) =
+    ending : (In s (ended r) → Stands (reverse r) s) → ends_statement w ≡ true → In s ((unended r ++ w ∷ []) ∷ ended r) → Stands (reverse (w ∷ r)) s
+    ending ih t (inl e) =
         let h = trails r in
         record {
           before = h.before;
@@ -127,7 +127,7 @@ stands (w ∷ r) s h =
           ender = t;
           clear = unended_clear r;
         }
-    ending t (inr h) = longer (stands r s h)
+    ending ih t (inr h) = longer (ih h)
 
 -- ---- a word of a statement
 
@@ -228,8 +228,8 @@ names_are false (w ∷ ws) =
       | inl t ↦ rw t (names_are true ws)
       | inr t ↦
           elim (cases_Bool (is_end w)) [
-            | inl s ↦ rw (t, s) (rw s refl)
-            | inr s ↦ rw (t, s, one) (rw (s, one) (ap (λ (l : List (List ℕ)). w.bytes ∷ l) (names_are false ws)))
+            | inl s ↦ rw (t, s) refl
+            | inr s ↦ rw (t, s, one) (ap (λ (l : List (List ℕ)). w.bytes ∷ l) (names_are false ws))
           ]
     ]
 
