@@ -61,8 +61,8 @@ same_bytes name = (bytes_eq-Decides name name).1 refl
 pub number_new : (names : List (List ℕ)) (name : List ℕ) → position (bytes_eq name) names ≡ None → number_in (names ++ name ∷ []) name ≡ length names
 number_new names name e =
     number_is (names ++ name ∷ []) name (length names) (
-      position_more (bytes_eq name) names name ∙ ap (λ (o : Option ℕ). or_at o (cond (bytes_eq name name) (Some (length names)) None)) e
-      ∙ cond_then (bytes_eq name name) (Some (length names)) None (same_bytes name))
+    position_more (bytes_eq name) names name ∙ ap (λ (o : Option ℕ). or_at o (cond (bytes_eq name name) (Some (length names)) None)) e
+    ∙ cond_then (bytes_eq name name) (Some (length names)) None (same_bytes name))
 
 -- ---- one label
 
@@ -85,8 +85,8 @@ hyp_step hyps others name k e q =
     let m = labels_of_hyps hyps in
     let p : position (bytes_eq name) m ≡ Some k = sym (names_place hyps name) ∙ e in
     sym (ap (λ (w : What). step w false) (
-      cond_else (bytes_eq name (codes "?")) what.Unknown (what_of m others name) q ∙ cond_then (contains m name) (what.Hyp (number_in m name)) (what.Listed (number_in others name)) (there (bytes_eq name) m k p)
-      ∙ ap (λ (n : ℕ). what.Hyp n) (number_is m name k p)))
+    cond_else (bytes_eq name (codes "?")) what.Unknown (what_of m others name) q ∙ cond_then (contains m name) (what.Hyp (number_in m name)) (what.Listed (number_in others name)) (there (bytes_eq name) m k p)
+    ∙ ap (λ (n : ℕ). what.Hyp n) (number_is m name k p)))
 
 pub other_passed : (hyps : List Hyp) (others new : List (List ℕ)) (name : List ℕ) → place_of hyps name ≡ None → bytes_eq name (codes "?") ≡ false → new ≡ with_name others name → new ≡ with_other (labels_of_hyps hyps) others name
 other_passed hyps others new name e q n =
@@ -97,8 +97,8 @@ pub other_step : (hyps : List Hyp) (others : List (List ℕ)) (name : List ℕ) 
 other_step hyps others name s e q is =
     let m = labels_of_hyps hyps in
     is ∙ sym (ap (λ (w : What). step w false) (
-      cond_else (bytes_eq name (codes "?")) what.Unknown (what_of m others name) q
-      ∙ cond_else (contains m name) (what.Hyp (number_in m name)) (what.Listed (number_in others name)) (none_there (bytes_eq name) m (sym (names_place hyps name) ∙ e))))
+    cond_else (bytes_eq name (codes "?")) what.Unknown (what_of m others name) q
+    ∙ cond_else (contains m name) (what.Hyp (number_in m name)) (what.Listed (number_in others name)) (none_there (bytes_eq name) m (sym (names_place hyps name) ∙ e))))
 
 -- ---- all labels
 
@@ -164,7 +164,7 @@ the_what m o w l h =
           elim (cases_Bool (contains m l)) [
             | inl s ↦
                 ap (λ (x : What). step (cond (bytes_eq l (codes "?")) what.Unknown x) false) (
-                  cond_then (contains m l) (what.Hyp (number_in m l)) (what.Listed (number_in (o ++ w ∷ []) l)) s ∙ sym (cond_then (contains m l) (what.Hyp (number_in m l)) (what.Listed (number_in o l)) s))
+                cond_then (contains m l) (what.Hyp (number_in m l)) (what.Listed (number_in (o ++ w ∷ []) l)) s ∙ sym (cond_then (contains m l) (what.Hyp (number_in m l)) (what.Listed (number_in o l)) s))
             | inr s ↦
                 let here : contains o l ≡ true = sym (ap (λ (a : Bool). (a || contains m l) || contains o l) t ∙ ap (λ (b : Bool). b || contains o l) s) ∙ h in
                 ap (λ (n : ℕ). step (cond (bytes_eq l (codes "?")) what.Unknown (cond (contains m l) (what.Hyp (number_in m l)) (what.Listed n))) false) (same_number o w l here)
@@ -196,7 +196,7 @@ pub one_step : (m ls others new : List (List ℕ)) (w : List ℕ) (s : Step) (st
 one_step m ls others new w s steps more n e p h =
     let is : new ≡ with_other m (other_labels m ls) w = n ∙ ap (λ (o : List (List ℕ)). with_other m o w) h.listed in
     let front : steps ≡ map (normal_step m new) ls =
-      h.taken ∙ ap (λ (o : List (List ℕ)). map (normal_step m o) ls) h.listed ∙ sym (steps_kept m ls w) ∙ ap (λ (o : List (List ℕ)). map (normal_step m o) ls) (sym is) in
+    h.taken ∙ ap (λ (o : List (List ℕ)). map (normal_step m o) ls) h.listed ∙ sym (steps_kept m ls w) ∙ ap (λ (o : List (List ℕ)). map (normal_step m o) ls) (sym is) in
     record {
       listed = is ∙ sym (repeats_more (codes "?" ∷ m) ls w);
       taken = p ∙ ap (λ (x : List Step). x ++ s ∷ []) front ∙ ap (λ (x : Step). map (normal_step m new) ls ++ x ∷ []) e ∙ sym (map-append (normal_step m new) ls (w ∷ []));
@@ -232,12 +232,12 @@ step_in_range m o l marks h =
       | inl t ↦ subst (IsInRange (length m) (length o) marks) (sym (cond_then (bytes_eq l (codes "?")) what.Unknown (what_of m o l) t)) tt
       | inr t ↦
           subst (IsInRange (length m) (length o) marks) (sym (cond_else (bytes_eq l (codes "?")) what.Unknown (what_of m o l) t)) (
-            elim (cases_Bool (contains m l)) [
-              | inl s ↦ subst (IsInRange (length m) (length o) marks) (sym (cond_then (contains m l) (what.Hyp (number_in m l)) (what.Listed (number_in o l)) s)) (some_place m l s)
-              | inr s ↦
-                  let here : contains o l ≡ true = sym (ap (λ (a : Bool). (a || contains m l) || contains o l) t ∙ ap (λ (b : Bool). b || contains o l) s) ∙ h in
-                  subst (IsInRange (length m) (length o) marks) (sym (cond_else (contains m l) (what.Hyp (number_in m l)) (what.Listed (number_in o l)) s)) (some_place o l here)
-            ])
+          elim (cases_Bool (contains m l)) [
+            | inl s ↦ subst (IsInRange (length m) (length o) marks) (sym (cond_then (contains m l) (what.Hyp (number_in m l)) (what.Listed (number_in o l)) s)) (some_place m l s)
+            | inr s ↦
+                let here : contains o l ≡ true = sym (ap (λ (a : Bool). (a || contains m l) || contains o l) t ∙ ap (λ (b : Bool). b || contains o l) s) ∙ h in
+                subst (IsInRange (length m) (length o) marks) (sym (cond_else (contains m l) (what.Hyp (number_in m l)) (what.Listed (number_in o l)) s)) (some_place o l here)
+          ])
     ]
 
 all_in_range : (m o ls : List (List ℕ)) → AllByRecursion (Covers (codes "?" ∷ m) o) ls → AreInRange (length m) (length o) 0 (map (normal_step m o) ls)

@@ -68,6 +68,7 @@ module _ (ss : List Statement) where
         where
           same_number : Some (at, s) ≡ Some p → at ≡ p.0
           same_number e = cc
+
           same_statement : Some (at, s) ≡ Some p → s ≡ p.1
           same_statement e = cc
 

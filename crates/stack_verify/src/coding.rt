@@ -84,7 +84,12 @@ fn code_of(alloc: Global, text: &[u8], spans: &[Span], hyps: &[Hyp]) -> Result<C
 /// The code of the proof of a `$p`: of a compressed one the code that its text spells, with one space between two words
 /// and comments as white space; of a normal one a step for each label. Of a label that is no `$p` it has no steps. It
 /// takes time and memory in proportion to the proof. More than 2^28 bytes or hypotheses count as want of memory.
-pub fn proof_code(alloc: Global, text: &[u8], frames: &Frames, label: Label) -> Result<Code, CodeFault>
+pub fn proof_code(
+    alloc: Global,
+    text: &[u8],
+    frames: &Frames,
+    label: Label,
+) -> Result<Code, CodeFault>
     requires { frames.now ≡ contents_of text.now }
     ensures sound { (f : Frame) (proof : List (List ℕ)) → IsProofOf (statements text.now) label f proof → OnOk result (proof_code_fault (labels_of_hyps f.hyps) proof ≡ None) }
     ensures code { (f : Frame) (proof : List (List ℕ)) → IsProofOf (statements text.now) label f proof → IfOk result (λ code. IsCodeOf (labels_of_hyps f.hyps) proof code) }

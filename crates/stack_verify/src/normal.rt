@@ -82,12 +82,7 @@ fn list_of(alloc: Global, names: &Names) -> Result<List<Name>, Memory>
 }
 
 /// The code of a normal proof with these words: one unmarked step for each.
-fn steps_of(
-    alloc: Global,
-    text: &[u8],
-    spans: &[Span],
-    hyps: &[Hyp],
-) -> Result<Code, Memory>
+fn steps_of(alloc: Global, text: &[u8], spans: &[Span], hyps: &[Hyp]) -> Result<Code, Memory>
     requires spans { length spans.now < 2 ^ 32 - 1 }
     requires within { All (IsWithin (length text.now)) spans.now }
     requires hyps { length hyps.now < 2 ^ 32 - 1 }
