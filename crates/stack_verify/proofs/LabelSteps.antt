@@ -15,12 +15,14 @@ use Rattle.mm_model.specs.Frames.{without_repeats}
 use Rattle.proof_model.specs.declared.code.What.{What}
 use Rattle.proof_model.specs.declared.code.What.TheVariants as what
 use Rattle.proof_model.specs.declared.code.Step.{Step}
-use Rattle.proof_model.specs.Codes.{normal_step, number_in, other_labels, step, what_of}
+use Rattle.proof_model.specs.Codes.{normal_code, normal_step, number_in, other_labels, step, what_of}
+use Rattle.proof_model.specs.declared.code.Code.{Code}
+use Rattle.proof_model.specs.ProofCode.{AreInRange, IsInRange}
 use Rattle.stack_verify.specs.Lookups.{place_of}
 use Rattle.stack_verify.specs.Normals.{StepsSoFar, with_name, with_other}
 use Rattle.stack_verify.specs.Theorems.{labels_of_hyps}
 use Rattle.stack_verify.proofs.Lookup.{none_there, or_at, position_more}
-use Rattle.stack_verify.proofs.Substitutes.{cond_then, cond_else, position-cons}
+use Rattle.stack_verify.proofs.Substitutes.{cond_then, cond_else, position-cons, position_within}
 
 -- ---- numbers
 
@@ -59,8 +61,8 @@ same_bytes name = (bytes_eq-Decides name name).1 refl
 pub number_new : (names : List (List ℕ)) (name : List ℕ) → position (bytes_eq name) names ≡ None → number_in (names ++ name ∷ []) name ≡ length names
 number_new names name e =
     number_is (names ++ name ∷ []) name (length names) (
-      position_more (bytes_eq name) names name ∙ ap (λ (o : Option ℕ). or_at o (cond (bytes_eq name name) (Some (length names)) None)) e
-      ∙ cond_then (bytes_eq name name) (Some (length names)) None (same_bytes name))
+    position_more (bytes_eq name) names name ∙ ap (λ (o : Option ℕ). or_at o (cond (bytes_eq name name) (Some (length names)) None)) e
+    ∙ cond_then (bytes_eq name name) (Some (length names)) None (same_bytes name))
 
 -- ---- one label
 
@@ -83,8 +85,8 @@ hyp_step hyps others name k e q =
     let m = labels_of_hyps hyps in
     let p : position (bytes_eq name) m ≡ Some k = sym (names_place hyps name) ∙ e in
     sym (ap (λ (w : What). step w false) (
-      cond_else (bytes_eq name (codes "?")) what.Unknown (what_of m others name) q ∙ cond_then (contains m name) (what.Hyp (number_in m name)) (what.Listed (number_in others name)) (there (bytes_eq name) m k p)
-      ∙ ap (λ (n : ℕ). what.Hyp n) (number_is m name k p)))
+    cond_else (bytes_eq name (codes "?")) what.Unknown (what_of m others name) q ∙ cond_then (contains m name) (what.Hyp (number_in m name)) (what.Listed (number_in others name)) (there (bytes_eq name) m k p)
+    ∙ ap (λ (n : ℕ). what.Hyp n) (number_is m name k p)))
 
 pub other_passed : (hyps : List Hyp) (others new : List (List ℕ)) (name : List ℕ) → place_of hyps name ≡ None → bytes_eq name (codes "?") ≡ false → new ≡ with_name others name → new ≡ with_other (labels_of_hyps hyps) others name
 other_passed hyps others new name e q n =
@@ -95,8 +97,8 @@ pub other_step : (hyps : List Hyp) (others : List (List ℕ)) (name : List ℕ) 
 other_step hyps others name s e q is =
     let m = labels_of_hyps hyps in
     is ∙ sym (ap (λ (w : What). step w false) (
-      cond_else (bytes_eq name (codes "?")) what.Unknown (what_of m others name) q
-      ∙ cond_else (contains m name) (what.Hyp (number_in m name)) (what.Listed (number_in others name)) (none_there (bytes_eq name) m (sym (names_place hyps name) ∙ e))))
+    cond_else (bytes_eq name (codes "?")) what.Unknown (what_of m others name) q
+    ∙ cond_else (contains m name) (what.Hyp (number_in m name)) (what.Listed (number_in others name)) (none_there (bytes_eq name) m (sym (names_place hyps name) ∙ e))))
 
 -- ---- all labels
 
@@ -162,7 +164,7 @@ the_what m o w l h =
           elim (cases_Bool (contains m l)) [
             | inl s ↦
                 ap (λ (x : What). step (cond (bytes_eq l (codes "?")) what.Unknown x) false) (
-                  cond_then (contains m l) (what.Hyp (number_in m l)) (what.Listed (number_in (o ++ w ∷ []) l)) s ∙ sym (cond_then (contains m l) (what.Hyp (number_in m l)) (what.Listed (number_in o l)) s))
+                cond_then (contains m l) (what.Hyp (number_in m l)) (what.Listed (number_in (o ++ w ∷ []) l)) s ∙ sym (cond_then (contains m l) (what.Hyp (number_in m l)) (what.Listed (number_in o l)) s))
             | inr s ↦
                 let here : contains o l ≡ true = sym (ap (λ (a : Bool). (a || contains m l) || contains o l) t ∙ ap (λ (b : Bool). b || contains o l) s) ∙ h in
                 ap (λ (n : ℕ). step (cond (bytes_eq l (codes "?")) what.Unknown (cond (contains m l) (what.Hyp (number_in m l)) (what.Listed n))) false) (same_number o w l here)
@@ -194,7 +196,7 @@ pub one_step : (m ls others new : List (List ℕ)) (w : List ℕ) (s : Step) (st
 one_step m ls others new w s steps more n e p h =
     let is : new ≡ with_other m (other_labels m ls) w = n ∙ ap (λ (o : List (List ℕ)). with_other m o w) h.listed in
     let front : steps ≡ map (normal_step m new) ls =
-      h.taken ∙ ap (λ (o : List (List ℕ)). map (normal_step m o) ls) h.listed ∙ sym (steps_kept m ls w) ∙ ap (λ (o : List (List ℕ)). map (normal_step m o) ls) (sym is) in
+    h.taken ∙ ap (λ (o : List (List ℕ)). map (normal_step m o) ls) h.listed ∙ sym (steps_kept m ls w) ∙ ap (λ (o : List (List ℕ)). map (normal_step m o) ls) (sym is) in
     record {
       listed = is ∙ sym (repeats_more (codes "?" ∷ m) ls w);
       taken = p ∙ ap (λ (x : List Step). x ++ s ∷ []) front ∙ ap (λ (x : Step). map (normal_step m new) ls ++ x ∷ []) e ∙ sym (map-append (normal_step m new) ls (w ∷ []));
@@ -211,3 +213,36 @@ pub one_word : (m others new : List (List ℕ)) (text : List ℕ) (spans : List 
     → s ≡ normal_step m new (name_in text (get_or spans i d)) → more ≡ steps ++ s ∷ [] → StepsSoFar m (names_in text (take i spans)) others steps → StepsSoFar m (names_in text (take (i + 1) spans)) new more
 one_word m others new text spans i d s steps more low n e p h =
     subst (λ (l : List (List ℕ)). StepsSoFar m l new more) (names_more text spans i d low) (one_step m (names_in text (take i spans)) others new (name_in text (get_or spans i d)) s steps more n e p h)
+
+-- ---- numbers in range
+
+some_place : (names : List (List ℕ)) (l : List ℕ) → contains names l ≡ true → number_in names l < length names
+some_place names l e = at (position (bytes_eq l) names) refl
+  where
+    at : (p : Option ℕ) → position (bytes_eq l) names ≡ p → number_in names l < length names
+    at (Some k) h = let n = number_is names l k h in let w = position_within (bytes_eq l) names k h in omega arith
+    at None h = let both : true ≡ false = sym e ∙ none_there (bytes_eq l) names h in absurd (no both)
+      where
+        no : true ≡ false → ⊥
+        no e = cc
+
+step_in_range : (m o : List (List ℕ)) (l : List ℕ) (marks : ℕ) → Covers (codes "?" ∷ m) o l → IsInRange (length m) (length o) marks (normal_step m o l).what
+step_in_range m o l marks h =
+    elim (cases_Bool (bytes_eq l (codes "?"))) [
+      | inl t ↦ subst (IsInRange (length m) (length o) marks) (sym (cond_then (bytes_eq l (codes "?")) what.Unknown (what_of m o l) t)) tt
+      | inr t ↦
+          subst (IsInRange (length m) (length o) marks) (sym (cond_else (bytes_eq l (codes "?")) what.Unknown (what_of m o l) t)) (
+          elim (cases_Bool (contains m l)) [
+            | inl s ↦ subst (IsInRange (length m) (length o) marks) (sym (cond_then (contains m l) (what.Hyp (number_in m l)) (what.Listed (number_in o l)) s)) (some_place m l s)
+            | inr s ↦
+                let here : contains o l ≡ true = sym (ap (λ (a : Bool). (a || contains m l) || contains o l) t ∙ ap (λ (b : Bool). b || contains o l) s) ∙ h in
+                subst (IsInRange (length m) (length o) marks) (sym (cond_else (contains m l) (what.Hyp (number_in m l)) (what.Listed (number_in o l)) s)) (some_place o l here)
+          ])
+    ]
+
+all_in_range : (m o ls : List (List ℕ)) → AllByRecursion (Covers (codes "?" ∷ m) o) ls → AreInRange (length m) (length o) 0 (map (normal_step m o) ls)
+all_in_range m o [] h = tt
+all_in_range m o (l ∷ ls) h = (step_in_range m o l 0 h.0, all_in_range m o ls h.1)
+
+pub normal_in_range : (m ls : List (List ℕ)) (code : Code) → code ≡ normal_code m ls → AreInRange (length m) (length code.labels) 0 code.steps
+normal_in_range m ls code e = subst (λ (c : Code). AreInRange (length m) (length c.labels) 0 c.steps) (sym e) (all_in_range m (other_labels m ls) ls (covered (codes "?" ∷ m) ls))

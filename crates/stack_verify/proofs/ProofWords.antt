@@ -98,7 +98,7 @@ stands : (r : List Word) (s : Statement) → In s (ended r) → Stands (reverse 
 stands [] s h = absurd h
 stands (w ∷ r) s h =
     elim (cases_Bool (ends_statement w)) [
-      | inl t ↦ ending t (subst (λ (l : List Statement). In s l) (cond_then (ends_statement w) ((unended r ++ w ∷ []) ∷ ended r) (ended r) t) h)
+      | inl t ↦ ending (λ (x : In s (ended r)). stands r s x) t (subst (λ (l : List Statement). In s l) (cond_then (ends_statement w) ((unended r ++ w ∷ []) ∷ ended r) (ended r) t) h)
       | inr t ↦ longer (stands r s (subst (λ (l : List Statement). In s l) (cond_else (ends_statement w) ((unended r ++ w ∷ []) ∷ ended r) (ended r) t) h))
     ]
   where
@@ -114,8 +114,8 @@ stands (w ∷ r) s h =
       clear = x.clear;
     }
 
-    ending : ends_statement w ≡ true → In s ((unended r ++ w ∷ []) ∷ ended r) → Stands (reverse (w ∷ r)) s
-    ending t (inl e) =
+    ending : (In s (ended r) → Stands (reverse r) s) → ends_statement w ≡ true → In s ((unended r ++ w ∷ []) ∷ ended r) → Stands (reverse (w ∷ r)) s
+    ending ih t (inl e) =
         let h = trails r in
         record {
           before = h.before;
@@ -127,7 +127,7 @@ stands (w ∷ r) s h =
           ender = t;
           clear = unended_clear r;
         }
-    ending t (inr h) = longer (stands r s h)
+    ending ih t (inr h) = longer (ih h)
 
 -- ---- a word of a statement
 
@@ -228,15 +228,14 @@ names_are false (w ∷ ws) =
       | inl t ↦ rw t (names_are true ws)
       | inr t ↦
           elim (cases_Bool (is_end w)) [
-            | inl s ↦ rw (t, s) (rw s refl)
-            | inr s ↦ rw (t, s, one) (rw (s, one) (ap (λ (l : List (List ℕ)). w.bytes ∷ l) (names_are false ws)))
+            | inl s ↦ rw (t, s) refl
+            | inr s ↦ rw (t, s, one) (ap (λ (l : List (List ℕ)). w.bytes ∷ l) (names_are false ws))
           ]
     ]
 
 equals_ends_nothing : (w : Word) → is (codes "$=") w ≡ true → (ends_statement w ≡ false) × (is_end w ≡ false) × (length w.bytes ≡ 2)
 equals_ends_nothing w e =
-    let b : w.bytes ≡ codes "$=" = (bytes_eq-Decides w.bytes (codes "$=")).0 e in
-    (
+    let b : w.bytes ≡ codes "$=" = (bytes_eq-Decides w.bytes (codes "$=")).0 e in (
       ap (λ (x : List ℕ). list_any (bytes_eq x) (codes "$." ∷ codes "${" ∷ codes "$}" ∷ [])) b,
       ap (λ (x : List ℕ). bytes_eq x (codes "$.")) b,
       ap length b,
@@ -264,11 +263,11 @@ words_are text at s w e there hw he =
     let no = equals_ends_nothing w eq.passes in
     let c = cut eq.pre w eq.post st.front st.last no.0 st.ender (sym eq.whole ∙ st.ends) in
     let clear : list_any ends_statement eq.pre ≡ false =
-      (or_parts (list_any ends_statement eq.pre) (list_any ends_statement (w ∷ c.middle)) (sym (any_append ends_statement eq.pre (w ∷ c.middle)) ∙ ap (list_any ends_statement) (sym c.front_is) ∙ st.clear)).0 in
+    (or_parts (list_any ends_statement eq.pre) (list_any ends_statement (w ∷ c.middle)) (sym (any_append ends_statement eq.pre (w ∷ c.middle)) ∙ ap (list_any ends_statement) (sym c.front_is) ∙ st.clear)).0 in
     let ended_post : list_any is_end eq.post ≡ true = ended_there eq.pre w eq.post (no_end eq.pre clear) no.1 (ap (list_any is_end) (sym eq.whole) ∙ has_end s e he) in
     let whole : tokens_where false (words text) ≡ (st.before ++ eq.pre) ++ w ∷ (eq.post ++ st.after) =
-      sym (reverse-reverse ts) ∙ st.whole ∙ ap (λ (l : List Word). st.before ++ (l ++ st.after)) eq.whole ∙ ap (λ (l : List Word). st.before ++ l) (append_assoc eq.pre (w ∷ eq.post) st.after)
-      ∙ sym (append_assoc st.before eq.pre (w ∷ (eq.post ++ st.after))) in
+    sym (reverse-reverse ts) ∙ st.whole ∙ ap (λ (l : List Word). st.before ++ (l ++ st.after)) eq.whole ∙ ap (λ (l : List Word). st.before ++ l) (append_assoc eq.pre (w ∷ eq.post) st.after)
+    ∙ sym (append_assoc st.before eq.pre (w ∷ (eq.post ++ st.after))) in
     let t = token_split false (words text) (st.before ++ eq.pre) w (eq.post ++ st.after) whole in
     let b = behind 0 text t.pre w t.post t.whole in
     let place : 0 + b.past ≡ w.start + 2 = omega (arith, b.place, no.2) in

@@ -8,7 +8,7 @@ ghost use Rattle.mm_model.specs.Frames.{proof_range};
 ghost use Rattle.mm_model.specs.Statements.{statements};
 ghost use Rattle.mm_frames.specs.Contents.{contents_of};
 ghost use Rattle.proof_model.specs.DatabaseProofs.{IsCodeOf, proof_code_fault};
-ghost use Rattle.proof_model.specs.ProofCode.{Spells, code_fault};
+ghost use Rattle.proof_model.specs.ProofCode.{AreInRange, Spells, code_fault};
 ghost use Rattle.compressed_proof.specs.Decoded.{IsFault};
 ghost use Rattle.stack_verify.specs.Proofs.{IsProofCodeFault, IsProofOf, name_in, names_in};
 ghost use Rattle.stack_verify.specs.Stacks.{IsWithin};
@@ -66,6 +66,7 @@ fn code_of(alloc: Global, text: &[u8], spans: &[Span], hyps: &[Hyp]) -> Result<C
     requires { All (IsWithin (length text.now)) spans.now }
     ensures sound { OnOk result (proof_code_fault (labels_of_hyps hyps.now) (names_in text.now spans.now) ≡ None) }
     ensures code { IfOk result (λ code. IsCodeOf (labels_of_hyps hyps.now) (names_in text.now spans.now) code) }
+    ensures in_range { IfOk result (λ code. AreInRange (length (labels_of_hyps hyps.now)) (length code.labels) 0 code.steps) }
     ensures fault { IfErr result (λ e. IsProofCodeFault (labels_of_hyps hyps.now) (names_in text.now spans.now) e) }
 {
     if spans.len() > LIMIT || hyps.len() > LIMIT {
@@ -83,10 +84,17 @@ fn code_of(alloc: Global, text: &[u8], spans: &[Span], hyps: &[Hyp]) -> Result<C
 /// The code of the proof of a `$p`: of a compressed one the code that its text spells, with one space between two words
 /// and comments as white space; of a normal one a step for each label. Of a label that is no `$p` it has no steps. It
 /// takes time and memory in proportion to the proof. More than 2^28 bytes or hypotheses count as want of memory.
-pub fn proof_code(alloc: Global, text: &[u8], frames: &Frames, label: Label) -> Result<Code, CodeFault>
+pub fn proof_code(
+    alloc: Global,
+    text: &[u8],
+    frames: &Frames,
+    label: Label,
+) -> Result<Code, CodeFault>
     requires { frames.now ≡ contents_of text.now }
     ensures sound { (f : Frame) (proof : List (List ℕ)) → IsProofOf (statements text.now) label f proof → OnOk result (proof_code_fault (labels_of_hyps f.hyps) proof ≡ None) }
     ensures code { (f : Frame) (proof : List (List ℕ)) → IsProofOf (statements text.now) label f proof → IfOk result (λ code. IsCodeOf (labels_of_hyps f.hyps) proof code) }
+
+    ensures in_range { (f : Frame) (proof : List (List ℕ)) → IsProofOf (statements text.now) label f proof → IfOk result (λ code. AreInRange (length (labels_of_hyps f.hyps)) (length code.labels) 0 code.steps) }
 
     // The fault is the first one of the code, unless memory runs out; a normal proof has none.
     ensures fault { (f : Frame) (proof : List (List ℕ)) → IsProofOf (statements text.now) label f proof → IfErr result (λ e. IsProofCodeFault (labels_of_hyps f.hyps) proof e) }

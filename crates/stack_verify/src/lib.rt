@@ -17,6 +17,10 @@ mod theorems;
 mod words;
 
 pub use accepting::verify;
+pub use coding::proof_code;
 pub use fault::ProofFault;
 pub use proof_model::Theorem;
 pub use theorems::theorem_of;
+
+#[cfg(test)]
+mod tests;

@@ -4,6 +4,7 @@ ghost use Rattle.std.specs.Prelude.{◌≡◌, ℕ, ◌+◌, ◌-◌, ◌≤◌,
 ghost use Rattle.mm_model.specs.declared.frames.Hyp.{Hyp};
 ghost use Rattle.std.specs.Str.{bytes_eq};
 ghost use Rattle.proof_model.specs.Codes.{normal_code, normal_step, number_in, step};
+ghost use Rattle.proof_model.specs.ProofCode.{AreInRange};
 ghost use Rattle.stack_verify.specs.Lookups.{IsIndexOf};
 ghost use Rattle.stack_verify.specs.Normals.{with_name, with_other};
 ghost use Rattle.stack_verify.specs.Proofs.{names_in};
@@ -81,12 +82,7 @@ fn list_of(alloc: Global, names: &Names) -> Result<List<Name>, Memory>
 }
 
 /// The code of a normal proof with these words: one unmarked step for each.
-pub(crate) fn normal(
-    alloc: Global,
-    text: &[u8],
-    spans: &[Span],
-    hyps: &[Hyp],
-) -> Result<Code, Memory>
+fn steps_of(alloc: Global, text: &[u8], spans: &[Span], hyps: &[Hyp]) -> Result<Code, Memory>
     requires spans { length spans.now < 2 ^ 32 - 1 }
     requires within { All (IsWithin (length text.now)) spans.now }
     requires hyps { length hyps.now < 2 ^ 32 - 1 }
@@ -103,4 +99,21 @@ pub(crate) fn normal(
         labels: list_of(alloc, &others)?,
         steps: List::from_vec(steps),
     })
+}
+
+/// The same; each number of the code is in range.
+pub(crate) fn normal(
+    alloc: Global,
+    text: &[u8],
+    spans: &[Span],
+    hyps: &[Hyp],
+) -> Result<Code, Memory>
+    requires spans { length spans.now < 2 ^ 32 - 1 }
+    requires within { All (IsWithin (length text.now)) spans.now }
+    requires hyps { length hyps.now < 2 ^ 32 - 1 }
+    ensures code { IfOk result (λ code. code ≡ normal_code (labels_of_hyps hyps.now) (names_in text.now spans.now)) }
+    ensures in_range { IfOk result (λ code. AreInRange (length (labels_of_hyps hyps.now)) (length code.labels) 0 code.steps) }
+{
+    let code = steps_of(alloc, text, spans, hyps)?;
+    Ok(code)
 }

@@ -21,5 +21,5 @@ returns-in_ok-number-in-None-clause-others c = name_new c.args.others.now c.add.
 pub returns-in_ok-number-in-None-clause-step : goal.returns-in_ok-number-in-None-clause-step
 returns-in_ok-number-in-None-clause-step c =
     c.unmarked-in-None.ensures ∙ ap (λ (n : ℕ). step (what.Listed n) false) (
-      c.in_ok-number-in-None.ensures.number ∙ sym (number_new c.args.others.now c.args.name.now (sym c.number.ensures ∙ c.in-None.is))
-      ∙ ap (λ (l : List (List ℕ)). number_in l c.args.name.now) (sym c.in_ok-number-in-None.ensures.added))
+    c.in_ok-number-in-None.ensures.number ∙ sym (number_new c.args.others.now c.args.name.now (sym c.number.ensures ∙ c.in-None.is))
+    ∙ ap (λ (l : List (List ℕ)). number_in l c.args.name.now) (sym c.in_ok-number-in-None.ensures.added))
