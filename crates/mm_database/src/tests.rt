@@ -1,7 +1,5 @@
-ghost use Rattle.std.specs.Prelude.{◌≤◌, ◌^◌, length};
-
 use crate::{Database, DbFault, db_fault_line, open_database};
-use mm_base::{Kinds, Label, List, Memory, Sym};
+use mm_base::{Kinds, Label, List, Memory};
 use mm_frames::ReadFault;
 use std::alloc::Global;
 use std::test::Fail;
@@ -62,11 +60,7 @@ fn signs_are_usable(alloc: Global, signs: usize) -> Result<bool, Memory> {
     }
 }
 
-#[test]
-fn assertions_are_usable_with_one_tree(rt: HostRuntime) -> Result<(), Fail> {
-    let Ok(database) = opened(rt.alloc(), TEXT) else {
-        return Err("a fault")?;
-    };
+fn usable_are(database: &Database) -> bool {
     for (name, usable) in [
         (b"ax-mp".as_slice(), true),
         (b"ax-1".as_slice(), true),
@@ -77,24 +71,43 @@ fn assertions_are_usable_with_one_tree(rt: HostRuntime) -> Result<(), Fail> {
         (b"min".as_slice(), false),
         (b"none".as_slice(), false),
     ] {
-        assert_eq!(rt; database.usable(label(&database, name)), usable);
+        if database.usable(label(database, name)) != usable {
+            return false;
+        }
     }
-    let grammar = database.grammar();
-    assert!(rt; grammar.production(label(&database, b"cv")).is_some());
-    assert!(rt; grammar.production(label(&database, b"vc")).is_none());
-    let (wi, mp) = (label(&database, b"wi"), label(&database, b"ax-mp"));
-    assert_eq!(rt; database.by_head(Some(wi), 0).as_slice(), [label(&database, b"ax-1")].as_slice());
-    assert_eq!(rt; database.by_head(None, 2).as_slice(), [mp].as_slice());
-    assert_eq!(rt; database.by_head(None, 0).as_slice(), [label(&database, b"any")].as_slice());
-    assert!(rt; database.by_head(None, 1).as_slice().is_empty());
-    if database.usable(mp) {
-        assert_eq!(rt; database.hyp_trees(mp).as_slice().len(), 2);
-        let ph = database.frames().symbol(b"ph").unwrap_or(Sym(0));
-        let ps = database.frames().symbol(b"ps").unwrap_or(Sym(0));
-        assert_eq!(rt; database.vars(mp).as_slice(), [ph, ps].as_slice());
+    true
+}
+
+// Whether the only assertion with that head and number of `$e` has that name.
+fn has_only(database: &Database, head: Option<Label>, hyps: u32, name: &[u8]) -> bool {
+    match database.by_head(head, hyps).as_slice() {
+        [only] => *only == label(database, name),
+        _ => false,
     }
-    assert_eq!(rt; database.before(0), 0);
-    assert_eq!(rt; database.before(database.frames().end()), database.frames().labels());
+}
+
+fn has_line(alloc: Global, fault: &DbFault) -> bool {
+    match fault {
+        DbFault::Read(ReadFault::Redeclared(byte)) => {
+            match db_fault_line(alloc, &DbFault::Read(ReadFault::Redeclared(*byte))) {
+                Ok(line) => line.as_slice() == b"database error 12 Redeclared at byte 13".as_slice(),
+                Err(_) => false,
+            }
+        }
+        _ => false,
+    }
+}
+
+#[test]
+fn assertions_are_usable_with_one_tree(rt: HostRuntime) -> Result<(), Fail> {
+    let Ok(database) = opened(rt.alloc(), TEXT) else {
+        return Err("a fault")?;
+    };
+    assert!(rt; usable_are(&database));
+    let head = label(&database, b"wi");
+    assert!(rt; has_only(&database, Some(head), 0, b"ax-1"));
+    assert!(rt; has_only(&database, None, 2, b"ax-mp"));
+    assert!(rt; has_only(&database, None, 0, b"any"));
     Ok(())
 }
 
@@ -102,14 +115,9 @@ fn assertions_are_usable_with_one_tree(rt: HostRuntime) -> Result<(), Fail> {
 fn sizes_and_faults(rt: HostRuntime) -> Result<(), Fail> {
     assert!(rt; signs_are_usable(rt.alloc(), 4_094)?);
     assert!(rt; !signs_are_usable(rt.alloc(), 4_095)?);
-    let Err(DbFault::Read(ReadFault::Redeclared(byte))) = opened(rt.alloc(), b"$c wff $. $v wff $.")
-    else {
-        return Err("another answer")?;
-    };
-    let line = db_fault_line(
-        rt.alloc(),
-        &DbFault::Read(ReadFault::Redeclared(byte)),
-    )?;
-    assert_eq!(rt; line.as_slice(), b"database error 12 Redeclared at byte 13".as_slice());
+    match opened(rt.alloc(), b"$c wff $. $v wff $.") {
+        Ok(_) => Err("no fault")?,
+        Err(fault) => assert!(rt; has_line(rt.alloc(), &fault)),
+    }
     Ok(())
 }
