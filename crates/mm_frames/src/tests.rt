@@ -1,7 +1,7 @@
 ghost use Rattle.std.specs.Prelude.{◌≤◌, ◌^◌, length};
 
 use super::*;
-use mm_base::{Label, Pair, Sym};
+use mm_base::{Label, Memory, Pair, Sym};
 use mm_tokens::tokens;
 use std::alloc::{AllocError, Global};
 use std::test::Fail;
@@ -153,7 +153,7 @@ fn frame_line(alloc: Global, frames: &Frames, name: &[u8]) -> Result<Vec<u8>, Al
 }
 
 /// The variables, the hypotheses and the pairs that are active at a place.
-fn active_line(alloc: Global, frames: &Frames, place: u32) -> Result<Vec<u8>, Fail> {
+fn active_line(alloc: Global, frames: &Frames, place: u32) -> Result<Vec<u8>, Memory> {
     let mut line = Vec::new(alloc);
     if place <= frames.end() {
         let active = frames.active_at(place)?;
@@ -175,38 +175,74 @@ fn opened(alloc: Global, text: &[u8]) -> Option<Frames>
     }
 }
 
-#[test]
-fn frames_and_places(rt: HostRuntime) -> Result<(), Fail> {
-    let alloc = rt.alloc();
-    assert!(rt; LOGIC.len() <= 268435456);
-    let frames = opened(alloc, LOGIC).ok_or("a fault")?;
-    let ax_mp = frame_line(alloc, &frames, b"ax-mp")?;
-    assert!(rt; ax_mp.as_slice() == b"|- ps ; wph wps min maj ; ".as_slice());
-    let ax_5 = frame_line(alloc, &frames, b"ax-5")?;
-    assert!(rt; ax_5.as_slice() == b"|- ( ph -> A. x ph ) ; wph vx ; ph x ".as_slice());
-    let drop_ = frame_line(alloc, &frames, b"drop")?;
-    assert!(rt; drop_.as_slice() == b"|- ( ph -> ph ) ; wph vx drop.1 ; ".as_slice());
-    let min = frame_line(alloc, &frames, b"min")?;
-    assert!(rt; min.is_empty());
-    let inside = active_line(alloc, &frames, 10)?;
-    assert!(rt; inside.as_slice() == b"ph ps ch ; wph wps wch min maj ; ".as_slice());
-    let later = active_line(alloc, &frames, 34)?;
-    assert!(rt;
-        later.as_slice() == b"ph ps ch x y A B ; wph wps wch vx vy cA cB ; ph x ".as_slice()
-    );
-    let class = frames.symbol(b"class").ok_or("no symbol")?;
-    let label = frames.label(b"min").ok_or("no label")?;
-    if label.0 < frames.labels() && 15 <= frames.end() {
-        assert!(rt; !frames.constant_at(class, 14) && frames.constant_at(class, 15));
-        assert_eq!(rt; frames.place_after(label), 12);
-        assert_eq!(rt; frames.float_codes(5)?.as_slice().len(), 3);
+fn has_frame(alloc: Global, frames: &Frames, name: &[u8], line: &[u8]) -> bool {
+    match frame_line(alloc, frames, name) {
+        Err(_) => false,
+        Ok(found) => found.as_slice() == line,
     }
-    assert!(rt; frames.frame(label).is_none());
-    let two = frames.label(b"two").ok_or("no label")?;
-    assert!(rt;
-        frames
-            .frame(two)
-            .is_some_and(|frame| !frame.is_axiom && frame.label == two)
-    );
-    Ok(())
+}
+
+fn has_active(alloc: Global, frames: &Frames, place: u32, line: &[u8]) -> bool {
+    match active_line(alloc, frames, place) {
+        Err(_) => false,
+        Ok(found) => found.as_slice() == line,
+    }
+}
+
+/// Where a constant begins to be one, and the place behind a block.
+fn has_places(frames: &Frames, class: Sym, label: Label) -> bool {
+    if label.0 >= frames.labels() || frames.end() < 15 {
+        return false;
+    }
+    !frames.constant_at(class, 14)
+        && frames.constant_at(class, 15)
+        && frames.place_after(label) == 12
+}
+
+fn has_codes(frames: &Frames, place: u32, count: usize) -> bool {
+    if frames.end() < place {
+        return false;
+    }
+    match frames.float_codes(place) {
+        Err(_) => false,
+        Ok(codes) => codes.as_slice().len() == count,
+    }
+}
+
+fn shows_logic(alloc: Global, frames: &Frames) -> bool {
+    let class = frames.symbol(b"class").unwrap_or(Sym(u32::MAX));
+    let label = frames.label(b"min").unwrap_or(Label(u32::MAX));
+    has_frame(alloc, frames, b"ax-mp", b"|- ps ; wph wps min maj ; ")
+        && has_frame(
+            alloc,
+            frames,
+            b"ax-5",
+            b"|- ( ph -> A. x ph ) ; wph vx ; ph x ",
+        )
+        && has_frame(
+            alloc,
+            frames,
+            b"drop",
+            b"|- ( ph -> ph ) ; wph vx drop.1 ; ",
+        )
+        && has_frame(alloc, frames, b"min", b"")
+        && has_active(alloc, frames, 10, b"ph ps ch ; wph wps wch min maj ; ")
+        && has_active(
+            alloc,
+            frames,
+            34,
+            b"ph ps ch x y A B ; wph wps wch vx vy cA cB ; ph x ",
+        )
+        && has_places(frames, class, label)
+        && has_codes(frames, 5, 3)
+}
+
+#[test]
+fn frames_and_places(rt: HostRuntime) {
+    assert!(rt; LOGIC.len() <= 268435456);
+    let shown = match opened(rt.alloc(), LOGIC) {
+        None => false,
+        Some(frames) => shows_logic(rt.alloc(), &frames),
+    };
+    assert!(rt; shown);
 }
