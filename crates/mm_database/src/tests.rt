@@ -21,8 +21,10 @@ any $a |- ph $.
 ";
 
 fn opened(alloc: Global, text: &[u8]) -> Result<Database, DbFault> {
-    let (Ok(provable), Ok(logic)) = (Vec::from_slice(alloc, b"|-"), Vec::from_slice(alloc, b"wff"))
-    else {
+    let (Ok(provable), Ok(logic)) = (
+        Vec::from_slice(alloc, b"|-"),
+        Vec::from_slice(alloc, b"wff"),
+    ) else {
         return Err(DbFault::Memory);
     };
     if text.len() > 1_000_000 {
@@ -83,9 +85,15 @@ fn assertions_are_usable_with_one_tree(rt: HostRuntime) -> Result<(), Fail> {
     assert!(rt; grammar.production(label(&database, b"cv")).is_some());
     assert!(rt; grammar.production(label(&database, b"vc")).is_none());
     let (wi, mp) = (label(&database, b"wi"), label(&database, b"ax-mp"));
-    assert_eq!(rt; database.by_head(Some(wi), 0).as_slice(), [label(&database, b"ax-1")].as_slice());
+    assert_eq!(rt;
+        database.by_head(Some(wi), 0).as_slice(),
+        [label(&database, b"ax-1")].as_slice()
+    );
     assert_eq!(rt; database.by_head(None, 2).as_slice(), [mp].as_slice());
-    assert_eq!(rt; database.by_head(None, 0).as_slice(), [label(&database, b"any")].as_slice());
+    assert_eq!(rt;
+        database.by_head(None, 0).as_slice(),
+        [label(&database, b"any")].as_slice()
+    );
     assert!(rt; database.by_head(None, 1).as_slice().is_empty());
     if database.usable(mp) {
         assert_eq!(rt; database.hyp_trees(mp).as_slice().len(), 2);
@@ -94,7 +102,10 @@ fn assertions_are_usable_with_one_tree(rt: HostRuntime) -> Result<(), Fail> {
         assert_eq!(rt; database.vars(mp).as_slice(), [ph, ps].as_slice());
     }
     assert_eq!(rt; database.before(0), 0);
-    assert_eq!(rt; database.before(database.frames().end()), database.frames().labels());
+    assert_eq!(rt;
+        database.before(database.frames().end()),
+        database.frames().labels()
+    );
     Ok(())
 }
 
@@ -106,10 +117,10 @@ fn sizes_and_faults(rt: HostRuntime) -> Result<(), Fail> {
     else {
         return Err("another answer")?;
     };
-    let line = db_fault_line(
-        rt.alloc(),
-        &DbFault::Read(ReadFault::Redeclared(byte)),
-    )?;
-    assert_eq!(rt; line.as_slice(), b"database error 12 Redeclared at byte 13".as_slice());
+    let line = db_fault_line(rt.alloc(), &DbFault::Read(ReadFault::Redeclared(byte)))?;
+    assert_eq!(rt;
+        line.as_slice(),
+        b"database error 12 Redeclared at byte 13".as_slice()
+    );
     Ok(())
 }
