@@ -3,7 +3,7 @@ use Rattle.std.specs.Prelude.{◌≡◌, ◌<◌, ◌≤◌, ◌+◌, ◌^◌, �
 use Rattle.std.specs.List.{AllZip, AllByRecursion, filter_map, cons_option, range_with_len}
 use Rattle.std.proofs.Common.{arith, sym, ap, ◌∙◌, subst, cond, get_or}
 use Rattle.std.proofs.lemmas.Bool.{and_parts, and_from, eqb-true, eq-eqb, leb-true, le-leb}
-use Rattle.std.proofs.lemmas.Option.{slice_get-get_or}
+use Rattle.std.proofs.lemmas.Option.{slice_get-get_or, slice_get_within}
 use Rattle.std.proofs.lemmas.List.FromFn.{get_or-map-range_with_len, length-map-range_with_len}
 use Rattle.mm_base.specs.declared.symbols.Sym.{Sym}
 use Rattle.mm_base.specs.declared.symbols.Label.{Label}
@@ -28,10 +28,11 @@ use Rattle.mm_database.specs.Variables.{frame_variables, code_of}
 use Rattle.mm_database.specs.Formulas.{IsAnswer, IsReadBy, IsOneTree, is_assertion, is_constant, leaf_of}
 use Rattle.mm_database.specs.Assertions.{IsParsed, IsKept, AreParsed}
 use Rattle.mm_database.specs.Books.{kinds_in, parsed_at, assertion_of, usable_with, database_of}
+use Rattle.mm_database.specs.Opened.{IsKeptOf}
 use Rattle.frame_lists.specs.Listings.{constant_places}
 use Rattle.mm_database.proofs.Constants.{constants_same}
 use Rattle.mm_database.proofs.Typed.{typed_as, typed_are, find_map, map_map}
-use Rattle.mm_database.proofs.Zips.{Beside, zip_at}
+use Rattle.mm_database.proofs.Zips.{Beside, zip_at, Before, zip_back}
 
 -- ---- a frame's variables
 
@@ -216,6 +217,24 @@ module _ (kinds : Kinds) (text : List ℕ) (ok : database_fault text ≡ None) (
   usable_frame : (l : Label) (o : Option Frame) → frame_of ss l ≡ o → (a : Assertion) → usable_with parsed l o ≡ Some a → IsUsable db l a
   usable_frame l None is a e = absurd (cc)
   usable_frame l (Some f) is a e = from_some l f is (parsed_at parsed l) refl a e
+
+  -- what is kept is kept of an assertion
+  kept_of : (l : Label) (p : Parsed) (o : Option Frame) → frame_of ss l ≡ o → IsKept (kinds_in (symbols ss) kinds) rows (constant_places ss) o (Some p) → IsKeptOf text l p
+  kept_of l p None is h = absurd (cc)
+  kept_of l p (Some f) is h = record { frame = f; frame_is = is; vars = h.0.vars ∙ sym (syms_are f.hyps) }
+
+  at_number : (o : Option (Option Parsed)) (p : Parsed) → option_and_then (λ (x : Option Parsed). x) o ≡ Some p → o ≡ Some (Some p)
+  at_number None p e = absurd (cc)
+  at_number (Some o) p e = ap (λ x. Some x) e
+
+  pub is_kept : (l : Label) (p : Parsed) → parsed_at parsed l ≡ Some p → IsKeptOf text l p
+  is_kept l p e =
+      let z = zip_back (IsKept (kinds_in (symbols ss) kinds) rows (constant_places ss)) frames parsed are l.0 (Some p) (at_number (slice_get parsed l.0) p e) in
+      let below = slice_get_within frames l.0 z.other z.stands in
+      let long = length-map-range_with_len (λ n. frame_of ss (label n)) 0 (length (labels ss)) in
+      let there = frame_stands l (omega (arith, below, long)) in
+      let same : frame_of ss l ≡ z.other = cc in
+      kept_of l p z.other same z.belongs
 
   pub is_database : IsDatabaseOf kinds text db
   is_database = record {

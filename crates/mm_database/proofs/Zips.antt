@@ -34,6 +34,18 @@ module _ {A B : Type 0} (R : A → B → Type 0) where
   zip_at (a ∷ xs) (b ∷ ys) h zero x e = let same : a ≡ x = cc in record { other = b; stands = refl; belongs = subst (λ y. R y b) same h.0 }
   zip_at (a ∷ xs) (b ∷ ys) h (suc k) x e = let z = zip_at xs ys h.1 k x e in record { other = z.other; stands = z.stands; belongs = z.belongs }
 
+  -- what stands beside a value of the second list
+  pub record Before (xs : List A) (k : ℕ) (y : B) : Type 0 where
+    pub other : A
+    pub stands : slice_get xs k ≡ Some other
+    pub belongs : R other y
+
+  pub zip_back : (xs : List A) (ys : List B) → AllZip R xs ys → (k : ℕ) (y : B) → slice_get ys k ≡ Some y → Before xs k y
+  zip_back xs [] h k y e = absurd (cc)
+  zip_back [] (b ∷ ys) h k y e = absurd h
+  zip_back (a ∷ xs) (b ∷ ys) h zero y e = let same : b ≡ y = cc in record { other = a; stands = refl; belongs = subst (λ z. R a z) same h.0 }
+  zip_back (a ∷ xs) (b ∷ ys) h (suc k) y e = let z = zip_back xs ys h.1 k y e in record { other = z.other; stands = z.stands; belongs = z.belongs }
+
   zip_parts_more : (x : A) (xs zs : List A) (y : B) (ys : List B) → R x y → Parted xs zs ys → Parted (x ∷ xs) zs (y ∷ ys)
   zip_parts_more x xs zs y ys r p = record { front = y ∷ p.front; back = p.back; is = ap (λ l. y ∷ l) p.is; first = (r, p.first); rest = p.rest }
 

@@ -51,3 +51,9 @@ abbrev pub IsDbFault : DbFault → Option Fault → Type 0
 IsDbFault (Token e) first = IsTokenFault e first
 IsDbFault (Read e) first = IsReadFault e first
 IsDbFault Memory first = Unit {0}
+
+-- want of memory is told in one way
+abbrev pub IsTold : DbFault → Type 0
+IsTold (Token token.Memory) = ⊥
+IsTold (Read read.Memory) = ⊥
+IsTold e = Unit {0}

@@ -5,7 +5,7 @@ ghost use Rattle.mm_model.specs.Names.{sym, typecode, symbol_named};
 ghost use Rattle.mm_model.specs.Productions.{kept_rows};
 ghost use Rattle.mm_model.specs.Statements.{statements, database_fault};
 ghost use Rattle.mm_frames.specs.Contents.{contents_of};
-ghost use Rattle.mm_database.specs.Faults.{IsDbFault};
+ghost use Rattle.mm_database.specs.Faults.{IsDbFault, IsTold};
 ghost use Rattle.mm_database.specs.Opened.{IsOpened, labels_below};
 ghost use Rattle.mm_database.specs.Assertions.{AreParsed};
 ghost use Rattle.mm_database.specs.Books.{kinds_in};
@@ -55,6 +55,7 @@ fn read_text(alloc: Global, text: &[u8]) -> Result<Frames, DbFault>
     ensures contents { IfOk result (λ frames. frames ≡ contents_of text.now) }
     ensures no_fault { OnOk result (database_fault text.now ≡ None) }
     ensures fault { IfErr result (λ e. IsDbFault e (database_fault text.now)) }
+    ensures memory { IfErr result (λ e. IsTold e) }
 {
     match tokens(alloc, text) {
         Err(TokenFault::Memory) => Err(DbFault::Memory),
@@ -88,12 +89,7 @@ fn kind_codes(frames: &Frames, kinds: &Kinds) -> KindCodes
 }
 
 /// The productions that are kept.
-fn grammar_of(
-    alloc: Global,
-    text: &[u8],
-    frames: &Frames,
-    kinds: &Kinds,
-) -> Result<Grammar, Memory>
+fn grammar_of(alloc: Global, text: &[u8], frames: &Frames, kinds: &Kinds) -> Result<Grammar, Memory>
     requires contents { frames.now ≡ contents_of text.now }
     requires no_fault { database_fault text.now ≡ None }
     ensures { IfOk result (λ g. g ≡ kept_rows kinds.now.provable (statements text.now)) }
@@ -145,13 +141,7 @@ fn open_frames(
     has_few_statements(&frames);
     let grammar = grammar_of(alloc, text, &frames, kinds)?;
     let codes = kind_codes(&frames, kinds);
-    let parsed = parse_all(
-        alloc,
-        &grammar,
-        frames.constants(),
-        codes,
-        frames.frames(),
-    )?;
+    let parsed = parse_all(alloc, &grammar, frames.constants(), codes, frames.frames())?;
     let heads = Heads::of(alloc, &parsed)?;
     Ok(Database {
         frames,
@@ -170,6 +160,7 @@ pub fn open_database(alloc: Global, text: &[u8], kinds: &Kinds) -> Result<Databa
     requires { length text.now ≤ 2 ^ 28 }
     ensures opened { IfOk result (IsOpened kinds.now text.now) }
     ensures fault { IfErr result (λ e. IsDbFault e (database_fault text.now)) }
+    ensures memory { IfErr result (λ e. IsTold e) }
 {
     let frames = read_text(alloc, text)?;
     match open_frames(alloc, text, frames, kinds) {

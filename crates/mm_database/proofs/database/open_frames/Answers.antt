@@ -9,7 +9,7 @@ use Rattle.mm_database.specs.declared.formulas.KindCodes.{KindCodes}
 use Rattle.mm_database.specs.Assertions.{AreParsed}
 use Rattle.mm_database.specs.Books.{kinds_in}
 use Rattle.mm_database.proofs.Typed.{length_map}
-use Rattle.mm_database.proofs.Usable.{is_database}
+use Rattle.mm_database.proofs.Usable.{is_database, is_kept}
 use Rattle.mm_database.proofs.database.open_frames.Goals as goal
 
 pub returns : goal.returns
@@ -33,4 +33,5 @@ returns c =
       no_fault = c.requires.no_fault;
       contents = is;
       database = is_database kinds text c.requires.no_fault c.frames_have_own_expressions.ensures small rows parsed c.in_ok-grammar.ensures three;
+      kept = is_kept kinds text c.requires.no_fault c.frames_have_own_expressions.ensures small rows parsed c.in_ok-grammar.ensures three;
     }
