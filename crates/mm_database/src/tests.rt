@@ -19,10 +19,8 @@ any $a |- ph $.
 ";
 
 fn opened(alloc: Global, text: &[u8]) -> Result<Database, DbFault> {
-    let (Ok(provable), Ok(logic)) = (
-        Vec::from_slice(alloc, b"|-"),
-        Vec::from_slice(alloc, b"wff"),
-    ) else {
+    let (Ok(provable), Ok(logic)) = (Vec::from_slice(alloc, b"|-"), Vec::from_slice(alloc, b"wff"))
+    else {
         return Err(DbFault::Memory);
     };
     if text.len() > 1_000_000 {
@@ -77,7 +75,6 @@ fn usable_are(database: &Database) -> bool {
             return false;
         }
     }
-<<<<<<< HEAD
     true
 }
 
@@ -111,33 +108,6 @@ fn assertions_are_usable_with_one_tree(rt: HostRuntime) -> Result<(), Fail> {
     assert!(rt; has_only(&database, Some(head), 0, b"ax-1"));
     assert!(rt; has_only(&database, None, 2, b"ax-mp"));
     assert!(rt; has_only(&database, None, 0, b"any"));
-=======
-    let grammar = database.grammar();
-    assert!(rt; grammar.production(label(&database, b"cv")).is_some());
-    assert!(rt; grammar.production(label(&database, b"vc")).is_none());
-    let (wi, mp) = (label(&database, b"wi"), label(&database, b"ax-mp"));
-    assert_eq!(rt;
-        database.by_head(Some(wi), 0).as_slice(),
-        [label(&database, b"ax-1")].as_slice()
-    );
-    assert_eq!(rt; database.by_head(None, 2).as_slice(), [mp].as_slice());
-    assert_eq!(rt;
-        database.by_head(None, 0).as_slice(),
-        [label(&database, b"any")].as_slice()
-    );
-    assert!(rt; database.by_head(None, 1).as_slice().is_empty());
-    if database.usable(mp) {
-        assert_eq!(rt; database.hyp_trees(mp).as_slice().len(), 2);
-        let ph = database.frames().symbol(b"ph").unwrap_or(Sym(0));
-        let ps = database.frames().symbol(b"ps").unwrap_or(Sym(0));
-        assert_eq!(rt; database.vars(mp).as_slice(), [ph, ps].as_slice());
-    }
-    assert_eq!(rt; database.before(0), 0);
-    assert_eq!(rt;
-        database.before(database.frames().end()),
-        database.frames().labels()
-    );
->>>>>>> 1d904bb7c3e492251a1eb94cac97958397f1c9ad
     Ok(())
 }
 
@@ -145,21 +115,9 @@ fn assertions_are_usable_with_one_tree(rt: HostRuntime) -> Result<(), Fail> {
 fn sizes_and_faults(rt: HostRuntime) -> Result<(), Fail> {
     assert!(rt; signs_are_usable(rt.alloc(), 4_094)?);
     assert!(rt; !signs_are_usable(rt.alloc(), 4_095)?);
-<<<<<<< HEAD
     match opened(rt.alloc(), b"$c wff $. $v wff $.") {
         Ok(_) => Err("no fault")?,
         Err(fault) => assert!(rt; has_line(rt.alloc(), &fault)),
     }
-=======
-    let Err(DbFault::Read(ReadFault::Redeclared(byte))) = opened(rt.alloc(), b"$c wff $. $v wff $.")
-    else {
-        return Err("another answer")?;
-    };
-    let line = db_fault_line(rt.alloc(), &DbFault::Read(ReadFault::Redeclared(byte)))?;
-    assert_eq!(rt;
-        line.as_slice(),
-        b"database error 12 Redeclared at byte 13".as_slice()
-    );
->>>>>>> 1d904bb7c3e492251a1eb94cac97958397f1c9ad
     Ok(())
 }

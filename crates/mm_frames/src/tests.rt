@@ -86,6 +86,7 @@ fn contents(rt: HostRuntime) {
         assert_eq!(rt; frames.labels(), 2);
         assert!(rt; frames.symbol(b"x") == Some(Sym(1)));
         assert!(rt; frames.label(b"x").is_none());
+        assert!(rt; frames.label(b"t").is_some());
         if let Some(label) = frames.label(b"t") {
             if label.0 < frames.labels() {
                 assert!(rt; frames.label_name(label) == b"t".as_slice());
