@@ -10,7 +10,7 @@ use Rattle.mm_tokens.specs.declared.token.TokenKind.TheVariants as token
 use Rattle.mm_frames.specs.declared.reader.Reader.{Reader}
 use Rattle.mm_frames.specs.declared.reader.Stage.{Stage}
 use Rattle.mm_frames.specs.declared.reader.Stage.TheVariants as stage
-use Rattle.mm_frames.specs.declared.reader.StatementKind.TheVariants as kind
+use Rattle.frame_lists.specs.declared.entry.StatementKind.TheVariants as kind
 use Rattle.mm_frames.specs.declared.scopes.Scope.{Scope}
 use Rattle.mm_frames.specs.Kinds.{is_extra}
 use Rattle.mm_frames.specs.Reading.{word_code, between_code_at, labelled_code_at, equals_code_at, end_code_at, close_code_at, step_code}

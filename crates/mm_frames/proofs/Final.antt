@@ -12,13 +12,14 @@ use Rattle.mm_model.specs.Tokens.{tokens}
 use Rattle.mm_model.specs.Statements.{Statement, is, is_one_of, body, unended, ended, statements, labels, labels_in, symbols_in, has_one_of}
 use Rattle.mm_model.specs.Frames.{symbols, positions, positions_from, symbol_in, formula_of, without_repeats}
 use Rattle.mm_frames.specs.declared.reader.Reader.{Reader}
-use Rattle.mm_frames.specs.declared.reader.Entry.{Entry}
-use Rattle.mm_frames.specs.declared.reader.EntryKind.{EntryKind}
+use Rattle.frame_lists.specs.declared.entry.Entry.{Entry}
+use Rattle.frame_lists.specs.declared.entry.EntryKind.{EntryKind}
 use Rattle.mm_frames.specs.declared.reader.Stage.{Stage}
 use Rattle.mm_frames.specs.declared.reader.Stage.TheVariants as stage
 use Rattle.mm_frames.specs.Reading.{last_code, last_code_at}
-use Rattle.mm_frames.specs.Contents.{Contents, contents_of, entry_in}
-use Rattle.mm_frames.specs.Kept.{contents_in}
+use Rattle.frame_lists.specs.Entries.{entry_in}
+use Rattle.mm_frames.specs.Contents.{Contents, contents_of}
+use Rattle.mm_frames.specs.Kept.{IsKept}
 use Rattle.mm_frames.proofs.Numbers.{name_of, Injective, Within}
 use Rattle.mm_frames.proofs.State.{adds, label_names, flat-last}
 use Rattle.mm_frames.proofs.SoFar.{StageIs, IsReader}
@@ -129,10 +130,7 @@ between-at-end u r stage.Labelled h none = absurd (some-none 21 none)
 between-at-end u r (stage.Symbols k) h none = absurd (some-none 21 none)
 between-at-end u r (stage.Proof from) h none = absurd (some-none 21 none)
 
-abbrev some-contents : List (List ℕ) → List (List ℕ) → List ℕ → List Entry → ℕ → Contents
-some-contents a b c d n = record { symbols = a; labels = b; positions = c; entries = d; size = n }
-
-pub contents-are : (text : List ℕ) (i : ℕ) (r : Reader) → length (tokens text) ≤ i → GoesTo text i r → last_code r ≡ None → contents_in r (length text) ≡ contents_of text
+pub contents-are : (text : List ℕ) (i : ℕ) (r : Reader) → length (tokens text) ≤ i → GoesTo text i r → last_code r ≡ None → IsKept (statements text) r
 contents-are text i r h g none =
     let empty : g.after ≡ [] = sym g.behind ∙ no-more (tokens text) i h in
     let all : g.before ≡ reverse (tokens text) = ap (λ ws. reverse_aux ws g.before) (sym empty) ∙ g.turned in
@@ -146,7 +144,4 @@ contents-are text i r h g none =
     let labels_ : r.labels ≡ labels (statements text) = reads.state.are_ordered ∙ label_last ∙ labels-are (reverse e) ∙ ap labels ss in
     let places : r.positions ≡ positions (statements text) = g.more.positions_are ∙ ap (λ (v : Statement). positions_from 0 (reverse (v ∷ e))) u ∙ positions-empty e ∙ ap (λ xs. positions_from 0 xs) ss in
     let entries_ : r.entries ≡ map (entry_in (symbols (statements text))) (statements text) = entries-are r.symbols r.entries (reverse e) reads.state.one g.more.known g.more.entries_are ∙ ap (λ xs. map (entry_in r.symbols) xs) ss ∙ ap (λ ns. map (entry_in ns) (statements text)) names in
-    ap (λ a. some-contents a r.labels r.positions r.entries (length text)) names
-    ∙ ap (λ b. some-contents (symbols (statements text)) b r.positions r.entries (length text)) labels_
-    ∙ ap (λ c. some-contents (symbols (statements text)) (labels (statements text)) c r.entries (length text)) places
-    ∙ ap (λ d. some-contents (symbols (statements text)) (labels (statements text)) (positions (statements text)) d (length text)) entries_
+    record { symbols_are = names; labels_are = labels_; positions_are = places; entries_are = entries_ }

@@ -13,11 +13,11 @@ use Rattle.mm_tokens.specs.declared.token.TokenKind.TheVariants as token
 use Rattle.mm_tokens.specs.Tokens.{token_of}
 use Rattle.mm_frames.specs.declared.fault.ReadFault.{ReadFault}
 use Rattle.mm_frames.specs.declared.reader.Reader.{Reader}
-use Rattle.mm_frames.specs.declared.reader.Entry.{Entry}
+use Rattle.frame_lists.specs.declared.entry.Entry.{Entry}
 use Rattle.mm_frames.specs.declared.reader.Stage.{Stage}
 use Rattle.mm_frames.specs.declared.reader.Stage.TheVariants as stage
-use Rattle.mm_frames.specs.declared.reader.StatementKind.{StatementKind}
-use Rattle.mm_frames.specs.declared.reader.StatementKind.TheVariants as kind
+use Rattle.frame_lists.specs.declared.entry.StatementKind.{StatementKind}
+use Rattle.frame_lists.specs.declared.entry.StatementKind.TheVariants as kind
 use Rattle.mm_frames.specs.declared.reader.Meaning.{Meaning}
 use Rattle.mm_frames.specs.declared.reader.Meaning.TheVariants as meant
 use Rattle.mm_frames.specs.declared.scopes.Scope.{Scope}
@@ -31,7 +31,7 @@ use Rattle.mm_frames.proofs.Agrees.{outside}
 use Rattle.mm_frames.proofs.Agreement.{agrees}
 use Rattle.mm_frames.proofs.Goes.{goes}
 use Rattle.mm_frames.proofs.FaultAt.{fault-at}
-use Rattle.mm_frames.specs.Contents.{first_byte}
+use Rattle.frame_lists.specs.Entries.{first_byte}
 use Rattle.mm_frames.proofs.More.{More, Doubled}
 use Rattle.mm_frames.proofs.MoreGoes.{more-goes}
 use Rattle.mm_frames.proofs.TokenFacts.{Stands, Each, IsGood, stands-within, stands-bytes, tokens-stand, tokens-length, tokens-good, token-kind}

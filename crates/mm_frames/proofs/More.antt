@@ -10,12 +10,12 @@ use Rattle.mm_model.specs.Words.{Word}
 use Rattle.mm_model.specs.Statements.{Statement, is, is_empty, ends_statement, unended, labels_in, symbols_in}
 use Rattle.mm_model.specs.Frames.{positions_from}
 use Rattle.mm_frames.specs.declared.reader.Reader.{Reader}
-use Rattle.mm_frames.specs.declared.reader.Entry.{Entry}
-use Rattle.mm_frames.specs.declared.reader.EntryKind.{EntryKind}
+use Rattle.frame_lists.specs.declared.entry.Entry.{Entry}
+use Rattle.frame_lists.specs.declared.entry.EntryKind.{EntryKind}
 use Rattle.mm_frames.specs.declared.reader.Stage.{Stage}
 use Rattle.mm_frames.specs.declared.reader.Stage.TheVariants as stage
-use Rattle.mm_frames.specs.declared.reader.StatementKind.TheVariants as kind
-use Rattle.mm_frames.specs.Contents.{kind_in, first_byte, proof_of}
+use Rattle.frame_lists.specs.declared.entry.StatementKind.TheVariants as kind
+use Rattle.frame_lists.specs.Entries.{kind_in, first_byte, proof_of}
 use Rattle.mm_model.proofs.Scopes.{cond_then, cond_else}
 use Rattle.mm_frames.proofs.Numbers.{name_of, Within}
 use Rattle.mm_frames.proofs.Names.{within-more}

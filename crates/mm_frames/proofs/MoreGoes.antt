@@ -10,17 +10,17 @@ use Rattle.mm_model.specs.Frames.{positions_from, proof_in}
 use Rattle.mm_tokens.specs.declared.token.TokenKind.{TokenKind}
 use Rattle.mm_tokens.specs.declared.token.TokenKind.TheVariants as token
 use Rattle.mm_frames.specs.declared.reader.Reader.{Reader}
-use Rattle.mm_frames.specs.declared.reader.Entry.{Entry}
-use Rattle.mm_frames.specs.declared.reader.EntryKind.{EntryKind}
-use Rattle.mm_frames.specs.declared.reader.EntryKind.TheVariants as entry
+use Rattle.frame_lists.specs.declared.entry.Entry.{Entry}
+use Rattle.frame_lists.specs.declared.entry.EntryKind.{EntryKind}
+use Rattle.frame_lists.specs.declared.entry.EntryKind.TheVariants as entry
 use Rattle.mm_frames.specs.declared.reader.Stage.{Stage}
 use Rattle.mm_frames.specs.declared.reader.Stage.TheVariants as stage
-use Rattle.mm_frames.specs.declared.reader.StatementKind.{StatementKind}
-use Rattle.mm_frames.specs.declared.reader.StatementKind.TheVariants as kind
+use Rattle.frame_lists.specs.declared.entry.StatementKind.{StatementKind}
+use Rattle.frame_lists.specs.declared.entry.StatementKind.TheVariants as kind
 use Rattle.mm_frames.specs.declared.reader.Meaning.{Meaning}
 use Rattle.mm_frames.specs.declared.reader.Meaning.TheVariants as meant
 use Rattle.mm_frames.specs.declared.scopes.Scope.{Scope}
-use Rattle.mm_frames.specs.Contents.{kind_in, first_byte, proof_of}
+use Rattle.frame_lists.specs.Entries.{kind_in, first_byte, proof_of}
 use Rattle.mm_frames.specs.Reading.{meaning_of, with_distinct, with_floating, with_symbol, with_variable_at, with_symbol_of, with_word_at, with_stage, with_proof, with_end, with_open, with_close_at, with_token, step_code, word_code_at, between_code_at, labelled_code_at, equals_code_at, end_code_at, close_code_at, ended_entry_at, entry_of}
 use Rattle.mm_model.proofs.Scopes.{cond_then, cond_else}
 use Rattle.mm_frames.proofs.Numbers.{name_of, Within}

@@ -10,8 +10,8 @@ use Rattle.mm_tokens.specs.declared.token.TokenKind.TheVariants as token
 use Rattle.mm_frames.specs.declared.reader.Reader.{Reader}
 use Rattle.mm_frames.specs.declared.reader.Stage.{Stage}
 use Rattle.mm_frames.specs.declared.reader.Stage.TheVariants as stage
-use Rattle.mm_frames.specs.declared.reader.StatementKind.{StatementKind}
-use Rattle.mm_frames.specs.declared.reader.StatementKind.TheVariants as kind
+use Rattle.frame_lists.specs.declared.entry.StatementKind.{StatementKind}
+use Rattle.frame_lists.specs.declared.entry.StatementKind.TheVariants as kind
 use Rattle.mm_frames.specs.declared.reader.Meaning.{Meaning}
 use Rattle.mm_frames.specs.declared.reader.Meaning.TheVariants as meant
 use Rattle.mm_frames.specs.declared.scopes.Scope.{Scope}

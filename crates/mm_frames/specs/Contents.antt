@@ -1,39 +1,13 @@
--- What a database without a fault has, as lists: symbols and labels by number, and its statements in order.
-use Rattle.std.specs.Prelude.{ℕ, List, [], ◌∷◌, length, map, Option, None, if◌then◌else◌, codes, unwrap_or, option_map, option_and_then, slice_get}
+-- What a database without a fault has, as lists: symbols and labels by number, its statements in order, and its frames.
+use Rattle.std.specs.Prelude.{ℕ, List, map, Option, unwrap_or, option_map, option_and_then, slice_get, length}
 use Rattle.mm_base.specs.declared.symbols.Label.{Label}
 use Rattle.mm_model.specs.Names.{Name}
-use Rattle.mm_model.specs.Statements.{Statement, statements, labels, has_keyword}
-use Rattle.mm_model.specs.Frames.{symbols, positions, formula_of, proof_in}
-use Rattle.mm_frames.specs.declared.reader.Entry.{Entry}
-use Rattle.mm_frames.specs.declared.reader.EntryKind.{EntryKind}
-use Rattle.mm_frames.specs.declared.reader.EntryKind.TheVariants as entry
-use Rattle.mm_frames.specs.declared.reader.StatementKind.{StatementKind}
-use Rattle.mm_frames.specs.declared.reader.StatementKind.TheVariants as kind
-
--- the kind of a statement that is no block's
-abbrev pub statement_kind : Statement → StatementKind
-statement_kind s =
-    if has_keyword (codes "$c") s then kind.Constants else (if has_keyword (codes "$v") s then kind.Variables
-    else (if has_keyword (codes "$d") s then kind.Distinct else (if has_keyword (codes "$f") s then kind.Floating
-    else (if has_keyword (codes "$e") s then kind.Essential else (if has_keyword (codes "$a") s then kind.Axiom else kind.Provable)))))
-
-abbrev pub kind_in : Statement → EntryKind
-kind_in s =
-    if has_keyword (codes "${") s then entry.OpenBlock else (if has_keyword (codes "$}") s then entry.CloseBlock
-    else entry.Statement (statement_kind s))
-
--- the byte where a statement begins
-abbrev pub first_byte : Statement → ℕ
-first_byte [] = 0
-first_byte (w ∷ ws) = w.start
-
--- the bytes of the proof of a `$p`
-abbrev pub proof_of : Statement → Option (ℕ × ℕ)
-proof_of s = if has_keyword (codes "$p") s then proof_in s else None
-
--- a statement by numbers
-abbrev pub entry_in : List Name → Statement → Entry
-entry_in names s = record { kind = kind_in s; start = first_byte s; symbols = formula_of names s; proof = proof_of s }
+use Rattle.mm_model.specs.Statements.{statements, labels}
+use Rattle.mm_model.specs.Frames.{symbols, positions}
+use Rattle.mm_model.specs.declared.frames.Frame.{Frame}
+use Rattle.frame_lists.specs.declared.entry.Entry.{Entry}
+use Rattle.frame_lists.specs.Entries.{entry_in}
+use Rattle.frame_lists.specs.Listings.{frames_of, constant_places}
 
 pub record Contents : Type 0 where
   -- the symbols by number, and the labels by number
@@ -43,6 +17,10 @@ pub record Contents : Type 0 where
   pub positions : List ℕ
   -- the statements in order
   pub entries : List Entry
+  -- the frames by label; none where it is no label of an assertion
+  pub frames : List (Option Frame)
+  -- by symbol the number of the `$c` that declares it; 2^32 - 1 where there is none
+  pub constants : List ℕ
   -- the bytes of the text
   pub size : ℕ
 
@@ -52,8 +30,14 @@ contents_of text = record {
   labels = labels (statements text);
   positions = positions (statements text);
   entries = map (entry_in (symbols (statements text))) (statements text);
+  frames = frames_of (statements text);
+  constants = constant_places (statements text);
   size = length text;
 }
+
+-- the frame of a label
+abbrev pub frame_at : Contents → Label → Option Frame
+frame_at c l = option_and_then (λ (f : Option Frame). f) (slice_get c.frames l.0)
 
 -- the byte where the statement of a place begins; at the last place the end of the text
 abbrev pub place_byte : Contents → ℕ → ℕ

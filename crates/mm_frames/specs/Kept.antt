@@ -1,7 +1,13 @@
--- What a reader keeps, as the contents of a database.
-use Rattle.std.specs.Prelude.{ℕ}
+-- What a reader keeps of the statements of a text.
+use Rattle.std.specs.Prelude.{◌≡◌, List, map}
+use Rattle.mm_model.specs.Statements.{Statement, labels}
+use Rattle.mm_model.specs.Frames.{symbols, positions}
+use Rattle.frame_lists.specs.Entries.{entry_in}
 use Rattle.mm_frames.specs.declared.reader.Reader.{Reader}
-use Rattle.mm_frames.specs.Contents.{Contents}
 
-abbrev pub contents_in : Reader → ℕ → Contents
-contents_in r size = record { symbols = r.symbols; labels = r.labels; positions = r.positions; entries = r.entries; size = size }
+-- its lists are those of these statements
+pub record IsKept (ss : List Statement) (r : Reader) : Type 0 where
+  pub symbols_are : r.symbols ≡ symbols ss
+  pub labels_are : r.labels ≡ labels ss
+  pub positions_are : r.positions ≡ positions ss
+  pub entries_are : r.entries ≡ map (entry_in (symbols ss)) ss

@@ -14,12 +14,12 @@ use Rattle.mm_frames.specs.declared.reader.Meaning.{Meaning}
 use Rattle.mm_frames.specs.declared.reader.Meaning.TheVariants as meant
 use Rattle.mm_frames.specs.declared.reader.Stage.{Stage}
 use Rattle.mm_frames.specs.declared.reader.Stage.TheVariants as stage
-use Rattle.mm_frames.specs.declared.reader.Entry.{Entry}
-use Rattle.mm_frames.specs.declared.reader.EntryKind.{EntryKind}
-use Rattle.mm_frames.specs.declared.reader.EntryKind.TheVariants as entry
+use Rattle.frame_lists.specs.declared.entry.Entry.{Entry}
+use Rattle.frame_lists.specs.declared.entry.EntryKind.{EntryKind}
+use Rattle.frame_lists.specs.declared.entry.EntryKind.TheVariants as entry
 use Rattle.mm_frames.specs.declared.scopes.Scope.{Scope}
-use Rattle.mm_frames.specs.declared.reader.StatementKind.{StatementKind}
-use Rattle.mm_frames.specs.declared.reader.StatementKind.TheVariants as kind
+use Rattle.frame_lists.specs.declared.entry.StatementKind.{StatementKind}
+use Rattle.frame_lists.specs.declared.entry.StatementKind.TheVariants as kind
 use Rattle.mm_frames.specs.Kinds.{is_extra}
 
 abbrev pub first_reader : Reader

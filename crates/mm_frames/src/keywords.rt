@@ -4,8 +4,9 @@ ghost use Rattle.std.specs.Prelude.{◌≡◌};
 ghost use Rattle.mm_frames.specs.Reading.{is_constants, is_provable, needs_symbol};
 
 use crate::fault::ReadFault;
-use crate::reader::{Entry, EntryKind, Reader, Stage, StatementKind};
+use crate::reader::{Reader, Stage};
 use crate::scopes::Scope;
+use frame_lists::{Entry, EntryKind, StatementKind};
 use mm_base::{List, Memory};
 
 fn is_constants(kind: StatementKind) -> bool

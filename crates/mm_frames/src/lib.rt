@@ -8,13 +8,12 @@ mod keywords;
 mod reader;
 mod reading;
 mod scopes;
-mod stack;
 mod step;
 mod words;
 
 pub use fault::ReadFault;
+pub use frame_lists::{Active, Frame, Hyp};
 pub use frames::Frames;
-pub use mm_model::{Active, Frame, Hyp};
 pub use reading::read;
 
 #[cfg(test)]

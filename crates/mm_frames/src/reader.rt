@@ -1,46 +1,11 @@
 //! What the reader keeps of the tokens before: everything by number.
 
 use crate::scopes::Scopes;
-use crate::stack::Stack;
-use mm_base::{List, Sym};
+use frame_lists::{Entry, Stack, StatementKind};
+use mm_base::Sym;
 use names::Names;
 use number_set::NumberSet;
 use std::alloc::Global;
-
-/// A keyword that a statement with symbols begins with.
-#[derive(Clone, Copy, Debug)]
-pub enum StatementKind {
-    Constants,
-    Variables,
-    Distinct,
-    Floating,
-    Essential,
-    Axiom,
-    Provable,
-}
-
-/// What a statement is.
-#[derive(Clone, Copy, Debug)]
-pub enum EntryKind {
-    /// It has this keyword.
-    Statement(StatementKind),
-    /// `${`
-    OpenBlock,
-    /// `$}`
-    CloseBlock,
-}
-
-/// A statement of a database, by numbers.
-#[derive(Debug, Drop)]
-pub struct Entry {
-    pub kind: EntryKind,
-    /// The byte where it begins, from 0.
-    pub start: u32,
-    /// Its symbols in order; those of a proof are none.
-    pub symbols: List<Sym>,
-    /// Where its proof begins and ends; none where it is no `$p`.
-    pub proof: Option<(u32, u32)>,
-}
 
 /// How far the statement that is not ended has come.
 #[derive(Clone, Copy, Debug)]

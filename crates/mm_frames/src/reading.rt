@@ -2,15 +2,16 @@
 
 ghost use Rattle.std.specs.Prelude.{◌≡◌, ◌≤◌, ◌<◌, ◌+◌, ◌^◌, length, map, IfOk, IfErr, OnOk, None, slice_get, option_map};
 ghost use Rattle.mm_model.specs.Tokens.{token_fault, tokens as tokens_of};
-ghost use Rattle.mm_model.specs.Statements.{statement_fault};
+ghost use Rattle.mm_model.specs.Statements.{statements, statement_fault};
 ghost use Rattle.mm_tokens.specs.Tokens.{token_of};
 ghost use Rattle.mm_frames.specs.Faults.{IsFault};
 ghost use Rattle.mm_frames.specs.Contents.{contents_of};
-ghost use Rattle.mm_frames.specs.Kept.{contents_in};
+ghost use Rattle.mm_frames.specs.Kept.{IsKept};
 
 use crate::fault::ReadFault;
 use crate::frames::Frames;
 use crate::reader::Reader;
+use frame_lists::Listed;
 use mm_base::List;
 use mm_tokens::{Token, TokenKind};
 use std::alloc::Global;
@@ -33,7 +34,7 @@ fn read_statements(alloc: Global, text: &[u8], tokens: &[Token]) -> Result<Reade
     requires tokens { tokens.now ≡ map token_of (tokens_of text.now) }
     ensures no_fault { OnOk result (statement_fault text.now ≡ None) }
     ensures few { IfOk result (λ r. length r.entries ≤ 2 ^ 28) }
-    ensures contents { IfOk result (λ r. contents_in r (length text.now) ≡ contents_of text.now) }
+    ensures kept { IfOk result (IsKept (statements text.now)) }
     ensures first_fault { IfErr result (λ e. IsFault e (statement_fault text.now)) }
 {
     let mut reader = Reader::new(alloc);
@@ -65,11 +66,10 @@ pub fn read(alloc: Global, text: &[u8], tokens: &List<Token>) -> Result<Frames, 
         entries,
         ..
     } = read_statements(alloc, text, tokens.as_slice())?;
-    Ok(Frames {
-        symbols,
+    let listed = Listed {
         labels,
         positions,
         entries,
-        size: text.len() as u32,
-    })
+    };
+    Ok(Frames::of(alloc, symbols, listed, text.len() as u32)?)
 }

@@ -1,7 +1,8 @@
 //! Reading a token.
 
 use crate::fault::ReadFault;
-use crate::reader::{Reader, Stage, StatementKind};
+use crate::reader::{Reader, Stage};
+use frame_lists::StatementKind;
 use mm_tokens::{Token, TokenKind};
 
 impl Reader {

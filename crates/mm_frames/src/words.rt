@@ -6,7 +6,8 @@ ghost use Rattle.mm_model.specs.Labels.{is_label_byte};
 ghost use Rattle.mm_frames.specs.Kinds.{wants_label, is_extra};
 
 use crate::fault::ReadFault;
-use crate::reader::{Meaning, Reader, Stage, StatementKind};
+use crate::reader::{Meaning, Reader, Stage};
+use frame_lists::StatementKind;
 use mm_base::Sym;
 use mm_tokens::TokenKind;
 

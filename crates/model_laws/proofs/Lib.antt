@@ -10,4 +10,5 @@ mod Passing
 pub mod PathLaws
 mod RowFacts
 mod Shapes
+mod StatementFacts
 mod Symbols

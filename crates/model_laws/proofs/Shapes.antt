@@ -57,7 +57,7 @@ parts p (x ∷ xs) = elim (cases_Bool (p x)) [
 ]
 
 -- and where the parts are known
-taken-front : {X : Type 0} (p : X → Bool) (front rest : List X) → AllByRecursion (λ x. p x ≡ true) front → Stops p rest → take_while p (front ++ rest) ≡ front
+pub taken-front : {X : Type 0} (p : X → Bool) (front rest : List X) → AllByRecursion (λ x. p x ≡ true) front → Stops p rest → take_while p (front ++ rest) ≡ front
 taken-front p [] [] h k = refl
 taken-front p [] (x ∷ rest) h k = ap (λ (n : ℕ). take n (x ∷ rest)) (prefix-no p x rest k)
 taken-front p (x ∷ front) rest h k = ap (λ (n : ℕ). take n (x ∷ (front ++ rest))) (prefix-yes p x (front ++ rest) h.0) ∙ ap (λ ys. x ∷ ys) (taken-front p front rest h.1 k)

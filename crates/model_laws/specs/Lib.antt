@@ -1,3 +1,4 @@
 pub mod DatabaseLaws
 pub mod Paths
+pub mod StatementLaws
 pub mod SubstitutedTrees

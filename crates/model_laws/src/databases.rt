@@ -1,4 +1,5 @@
 ghost use Rattle.model_laws.specs.DatabaseLaws.{FramesAreWhole, HasDatabaseFacts, LabelsAreDistinct, PositionsRise, RowsAreAGrammar, RowsAreFrames, SymbolsAreDistinct, DatabasesOfATextAgree};
+ghost use Rattle.model_laws.specs.StatementLaws.{StatementsAreSound};
 
 /// No two labels of a database without a fault are one.
 pub fn labels_are_distinct()
@@ -39,4 +40,10 @@ pub fn has_database_facts()
 /// Two databases of one text, under given kinds, answer alike.
 pub fn databases_of_a_text_agree()
     ensures { DatabasesOfATextAgree }
+{}
+
+/// What the faults say of each statement of a text without one: its label, its keyword, and that the variable of a `$f` has
+/// no other active `$f`.
+pub fn statements_are_sound()
+    ensures { StatementsAreSound }
 {}

@@ -8,6 +8,7 @@ mod trees;
 pub use chains::{kept_rows_are_a_grammar, kept_rows_have_no_cycle, leads_by_paths};
 pub use databases::{
     databases_of_a_text_agree, frames_are_whole, has_database_facts, labels_are_distinct,
-    positions_rise, rows_are_a_grammar, rows_are_frames, symbols_are_distinct,
+    positions_rise, rows_are_a_grammar, rows_are_frames, statements_are_sound,
+    symbols_are_distinct,
 };
 pub use trees::{substituted_is_typed, text_of_substituted};

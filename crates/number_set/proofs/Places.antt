@@ -1,6 +1,6 @@
 -- Where a number stands in a list, and where it is noted.
-use Rattle.std.proofs.Common.{◌≡◌, ℕ, zero, suc, ◌<◌, true, false, eqb, List, [], ◌∷◌, ◌++◌, length, Some, None, refl, sym, ap, ◌∙◌, arith, subst, inl, inr, ◌⊎◌, nat_eq, slice_get, slice_set}
-use Rattle.std.specs.List.{list_any}
+use Rattle.std.proofs.Common.{◌≡◌, ℕ, zero, suc, ◌+◌, ◌<◌, Bool, true, false, eqb, ltb, cond, option_map, List, [], ◌∷◌, ◌++◌, length, Some, None, refl, sym, ap, ◌∙◌, arith, subst, inl, inr, ◌⊎◌, nat_eq, slice_get, slice_set, position}
+use Rattle.std.specs.List.{list_any, position_or_len}
 use Rattle.std.proofs.lemmas.Bool.{cases_Bool}
 use Rattle.std.proofs.lemmas.Bool.Decides.{nat_tests}
 use Rattle.number_set.specs.Noted.{Noted}
@@ -71,3 +71,46 @@ noted_new items places k noted absent inside i n e =
       | inl h ↦ noted_elsewhere items places k (length items) noted absent i n h
       | inr h ↦ ap (λ (m : ℕ). slice_get (slice_set places k (length items)) m) h.1 ∙ set_there places k (length items) inside ∙ ap (λ (m : ℕ). Some m) (sym h.0)
     ]
+
+-- ---- the place of a number
+
+position-cons : (p : ℕ → Bool) (x : ℕ) (xs : List ℕ) → position p (x ∷ xs) ≡ cond (p x) (Some 0) (option_map (λ n. suc n) (position p xs))
+position-cons p x xs =
+    let one : 1 + position_or_len p xs ≡ suc (position_or_len p xs) = omega arith in
+    elim (cases_Bool (p x)) [
+      | inl h ↦ let z : ltb 0 (suc (length xs)) ≡ true = grind (arith, nat_tests) in rw (h, z) refl
+      | inr h ↦ elim (cases_Bool (ltb (position_or_len p xs) (length xs))) [
+        | inl l ↦ let m : ltb (suc (position_or_len p xs)) (suc (length xs)) ≡ true = grind (arith, nat_tests) in rw (h, one, m, l) refl
+        | inr l ↦ let m : ltb (suc (position_or_len p xs)) (suc (length xs)) ≡ false = grind (arith, nat_tests) in rw (h, one, m, l) refl
+      ]
+    ]
+
+pub nowhere_placed : (n : ℕ) (xs : List ℕ) → list_any (nat_eq n) xs ≡ false → None ≡ position (nat_eq n) xs
+nowhere_placed n [] e = refl
+nowhere_placed n (x ∷ xs) e =
+    elim (cases_Bool (eqb n x)) [
+      | inl h ↦ let bad : true ≡ false = rw h at e in absurd cc
+      | inr h ↦ let rest : list_any (nat_eq n) xs ≡ false = rw h at e in let later = nowhere_placed n xs rest in rw position-cons (rw (h, sym later) refl)
+    ]
+
+-- the only place where a number stands
+pub placed : (n : ℕ) (xs : List ℕ) (p : ℕ) → slice_get xs p ≡ Some n → ((i : ℕ) → slice_get xs i ≡ Some n → i ≡ p) → Some p ≡ position (nat_eq n) xs
+placed n [] p e one = absurd cc
+placed n (x ∷ xs) zero e one = let same : x ≡ n = some_is x n e in let t : eqb n x ≡ true = grind (arith, nat_tests) in rw position-cons (rw t refl)
+placed n (x ∷ xs) (suc p) e one =
+    let later = placed n xs p e (λ i h. let up = one (suc i) h in omega (arith, up)) in
+    elim (cases_Bool (eqb n x)) [
+      | inl h ↦ let same : x ≡ n = grind (arith, nat_tests) in let up : 0 ≡ suc p = one 0 (ap (λ (k : ℕ). Some k) same) in let bad : ⊥ = omega (arith, up) in absurd bad
+      | inr h ↦ rw position-cons (rw (h, sym later) refl)
+    ]
+
+pub noted_place : (items places : List ℕ) (n p m : ℕ) → Noted items places → slice_get places n ≡ Some p → slice_get items p ≡ Some m → m ≡ n → Some p ≡ position (nat_eq n) items
+noted_place items places n p m noted e there same =
+    placed n items p (there ∙ ap (λ (k : ℕ). Some k) same) (λ i h. some_is i p (sym (noted i n h) ∙ e))
+
+pub noted_other : (items places : List ℕ) (n p m : ℕ) → Noted items places → slice_get places n ≡ Some p → slice_get items p ≡ Some m → (m ≡ n → ⊥) → None ≡ position (nat_eq n) items
+noted_other items places n p m noted e there differ =
+    nowhere_placed n items (sym (noted_there items places n p m noted e there) ∙ unequal m n differ)
+  where
+    unequal : (m n : ℕ) → (m ≡ n → ⊥) → nat_eq m n ≡ false
+    unequal m n d = elim (cases_Bool (eqb m n)) [ inl h ↦ let same : m ≡ n = grind (arith, nat_tests) in absurd (d same) | inr h ↦ h ]

@@ -1,7 +1,7 @@
 //! A set of numbers, in the order in which they were put in, that can be cut back.
 #![tactic(auto)]
 
-ghost use Rattle.std.specs.Prelude.{◌≡◌, ℕ, ◌+◌, ◌<◌, ◌≤◌, List, [], ◌∷◌, ◌++◌, length, take, false, nat_eq, slice_get, OnOk, OnErr, vec_len};
+ghost use Rattle.std.specs.Prelude.{◌≡◌, ℕ, ◌+◌, ◌<◌, ◌≤◌, List, [], ◌∷◌, ◌++◌, length, take, false, nat_eq, position, slice_get, OnOk, OnErr, vec_len};
 ghost use Rattle.std.specs.List.{list_any};
 ghost use Rattle.number_set.specs.Noted.{Noted, Keeps};
 
@@ -84,6 +84,24 @@ impl NumberSet {
             Some(place) => match item(self.items.as_slice(), place) {
                 None => false,
                 Some(item) => item == number,
+            },
+        }
+    }
+
+    /// Where a number stands, counted from 0. None where it is not among them.
+    pub fn place(&self, number: u32) -> Option<usize>
+        ensures { result ≡ position (nat_eq number) self.now }
+    {
+        match place(self.places.as_slice(), number) {
+            None => None,
+            Some(place) => match item(self.items.as_slice(), place) {
+                None => None,
+                Some(item) => {
+                    if item == number {
+                        return Some(place);
+                    }
+                    None
+                }
             },
         }
     }

@@ -74,8 +74,8 @@ returns-clause-no_fault c =
     let len = count-is c.args.text.now c.args.tokens.now c.requires.tokens in
     ends-well c.args.text.now c.loop-number.number c.loop-number.reader (omega (arith, len)) c.loop-number.invariant c.in_ok-finish.ensures.no_fault
 
-pub returns-clause-contents : goal.returns-clause-contents
-returns-clause-contents c =
+pub returns-clause-kept : goal.returns-clause-kept
+returns-clause-kept c =
     let len = count-is c.args.text.now c.args.tokens.now c.requires.tokens in
     contents-are c.args.text.now c.loop-number.number c.loop-number.reader (omega (arith, len)) c.loop-number.invariant c.in_ok-finish.ensures.no_fault
 

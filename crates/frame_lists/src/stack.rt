@@ -1,4 +1,4 @@
-ghost use Rattle.std.specs.Prelude.{◌≡◌, [], ◌∷◌, ◌++◌, length, take, OnOk, OnErr, IfOk};
+ghost use Rattle.std.specs.Prelude.{◌≡◌, [], ◌∷◌, ◌++◌, length, take, OnOk, OnErr, IfOk, slice_get, ◌-◌};
 ghost use Rattle.mm_model.specs.Statements.{is_empty};
 
 use mm_base::{List, Memory};
@@ -49,6 +49,11 @@ impl<T> Stack<T> {
         self.items.is_empty()
     }
 
+    /// The allocator that it took its memory from.
+    pub fn allocator(&self) -> Global {
+        *self.items.allocator()
+    }
+
     /// A list without items.
     pub fn none(&self) -> List<T>
         ensures { result ≡ [] }
@@ -64,6 +69,14 @@ impl<T: Drop> Stack<T> {
     {
         self.items.push(item)?;
         Ok(())
+    }
+
+    /// Takes the last item off. None where there is none.
+    pub fn pop(&mut self) -> Option<T>
+        ensures last { result ≡ slice_get self.old (length self.old - 1) }
+        ensures rest { self.new ≡ take (length self.old - 1) self.old }
+    {
+        self.items.pop()
     }
 
     /// Takes off all but the first so many.

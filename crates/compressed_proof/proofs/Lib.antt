@@ -1,0 +1,11 @@
+pub mod Digits
+pub mod FaultLaw
+pub mod FaultLemmas
+pub mod Fronts
+pub mod Labelling
+pub mod LetterFaults
+pub mod Listing
+pub mod Reverses
+pub mod StepsLaw
+pub mod ToldLaw
+pub mod Written

@@ -1,0 +1,72 @@
+//! The faults of the labels in the brackets.
+
+ghost use Rattle.std.specs.Prelude.{◌≡◌, ℕ, ◌≤◌, ◌<◌, ◌^◌, List, length, None, false, IfOk, IfErr, OnOk};
+ghost use Rattle.mm_model.specs.Names.{contains};
+ghost use Rattle.proof_model.specs.ProofCode.{label_fault};
+ghost use Rattle.compressed_proof.specs.Parts.{IsLabelFault, IsFaultAt};
+
+use crate::fault::CodeFault;
+use mm_base::{List, Memory, Name};
+use names::Names;
+use std::alloc::{AllocError, Global};
+
+/// The names of a list, for look-ups.
+fn names_of(alloc: Global, list: &[Name]) -> Result<Names, Memory>
+    requires { length list.now ≤ 2 ^ 28 }
+    ensures { IfOk result (λ names. (name : List ℕ) → contains names name ≡ contains list.now name) }
+{
+    let mut names = Names::new(alloc);
+    for name in list {
+        if !names.contains(name.as_slice()) {
+            names.add(name.as_slice())?;
+        }
+    }
+    Ok(names)
+}
+
+fn copy_of(alloc: Global, name: &[u8]) -> Result<Name, AllocError>
+    ensures { IfOk result (λ copy. copy ≡ name.now) }
+{
+    Ok(List::from_vec(Vec::from_slice(alloc, name)?))
+}
+
+/// Looks at one label, with the labels before it.
+fn check_label(
+    alloc: Global,
+    mandatory: &Names,
+    before: &Names,
+    place: u32,
+    label: &[u8],
+) -> Result<(), CodeFault>
+    ensures fresh { OnOk result ((contains mandatory.now label.now ≡ false) × (contains before.now label.now ≡ false)) }
+    ensures fault { IfErr result (λ e. IsFaultAt mandatory.now before.now place label.now e) }
+{
+    if mandatory.contains(label) {
+        return Err(CodeFault::MandatoryListed(place, copy_of(alloc, label)?));
+    }
+    if before.contains(label) {
+        return Err(CodeFault::LabelTwice(place, copy_of(alloc, label)?));
+    }
+    Ok(())
+}
+
+/// Looks at the labels in order: none is a mandatory hypothesis, and none stands before.
+pub(crate) fn check_labels(
+    alloc: Global,
+    labels: &[Name],
+    mandatory: &[Name],
+) -> Result<(), CodeFault>
+    requires labels { length labels.now ≤ 2 ^ 28 }
+    requires mandatory { length mandatory.now ≤ 2 ^ 28 }
+    ensures sound { OnOk result (label_fault mandatory.now labels.now ≡ None) }
+    ensures fault { IfErr result (λ e. IsLabelFault mandatory.now labels.now e) }
+{
+    let listed = names_of(alloc, mandatory)?;
+    let mut before = Names::new(alloc);
+    for (place, label) in labels.iter().enumerate() {
+        let label = label.as_slice();
+        check_label(alloc, &listed, &before, place as u32, label)?;
+        before.add(label)?;
+    }
+    Ok(())
+}

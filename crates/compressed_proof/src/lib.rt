@@ -1,0 +1,20 @@
+//! The proof code: compressed proofs as texts (Metamath book, appendix B). A text is `(`, labels, `)` and letters; it is
+//! read as a list of steps, and a list of steps has one text that is written.
+#![tactic(auto)]
+
+mod brackets;
+mod fault;
+mod labels;
+mod laws;
+mod reader;
+mod steps;
+mod writer;
+
+pub use fault::CodeFault;
+pub use laws::decode_undoes_encode;
+pub use proof_model::{Code, Step, What};
+pub use reader::decode;
+pub use writer::{encode, letters};
+
+#[cfg(test)]
+mod tests;

@@ -1,0 +1,6 @@
+pub mod Entries
+pub mod Listings
+pub mod Lists
+pub mod Orders
+pub mod Steps
+pub mod Places

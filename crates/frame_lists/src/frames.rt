@@ -1,0 +1,111 @@
+//! The frames of all assertions.
+
+ghost use Rattle.std.specs.Prelude.{◌≡◌, ◌<◌, ◌^◌, ℕ, List, length, None, IfOk, OnOk};
+ghost use Rattle.mm_model.specs.Statements.{statements, statement_fault};
+ghost use Rattle.frame_lists.specs.Lists.{AreOf};
+ghost use Rattle.frame_lists.specs.Listings.{frames_of};
+ghost use Rattle.frame_lists.specs.Orders.{IsAdded, IsFrameIf, IsFrameOf};
+ghost use Rattle.frame_lists.specs.Steps as step;
+
+use crate::entry::{Entry, is_assertion, is_axiom};
+use crate::hypotheses::mandatory_hypotheses;
+use crate::listed::Listed;
+use crate::mandatory::mark_mandatory;
+use crate::pairs::pairs_among;
+use crate::scope::Scope;
+use crate::stack::Stack;
+use mm_base::{Label, List, Memory};
+use mm_model::Frame;
+use model_laws::statements_are_sound;
+use number_set::NumberSet;
+use std::alloc::Global;
+
+/// The frame of an assertion. The set is used for its mandatory variables.
+fn assertion(
+    alloc: Global,
+    listed: &Listed,
+    scope: &Scope,
+    marked: &mut NumberSet,
+    entry: &Entry,
+    number: u32,
+    label: u32,
+) -> Result<Frame, Memory>
+    ensures { IfOk result (IsFrameOf listed.now scope.now entry.now number label) }
+{
+    mark_mandatory(marked, scope, listed, entry.symbols.as_slice())?;
+    Ok(Frame {
+        label: Label(label),
+        is_axiom: is_axiom(entry.kind),
+        at: number,
+        formula: List::from_vec(Vec::from_slice(alloc, entry.symbols.as_slice())?),
+        hyps: mandatory_hypotheses(alloc, listed, scope, marked)?,
+        pairs: pairs_among(alloc, listed, scope.distinct.as_slice(), marked)?,
+    })
+}
+
+/// The frame of the label of a statement, if that is an assertion.
+fn of_label(
+    alloc: Global,
+    listed: &Listed,
+    scope: &Scope,
+    marked: &mut NumberSet,
+    entry: &Entry,
+    number: u32,
+    label: u32,
+) -> Result<Option<Frame>, Memory>
+    ensures { IfOk result (IsFrameIf (step.is_assertion entry.now.kind) listed.now scope.now entry.now number label) }
+{
+    if is_assertion(entry.kind) {
+        return Ok(Some(assertion(alloc, listed, scope, marked, entry, number, label)?));
+    }
+    Ok(None)
+}
+
+/// Adds what the label of a statement has, if it has one.
+fn add_frame(
+    alloc: Global,
+    listed: &Listed,
+    scope: &Scope,
+    marked: &mut NumberSet,
+    frames: &mut Stack<Option<Frame>>,
+    entry: &Entry,
+    number: u32,
+    label: u32,
+) -> Result<(), Memory>
+    ensures { OnOk result (IsAdded (step.is_label_of listed.now label number) listed.now scope.now entry.now number label frames.old frames.new) }
+{
+    if listed.is_label_of(label, number) {
+        let frame = of_label(alloc, listed, scope, marked, entry, number, label)?;
+        frames.push(frame)?;
+    }
+    Ok(())
+}
+
+/// The frames by label; none where it is no label of an assertion. It takes one pass over the statements; at each assertion
+/// only its frame, the active `$e` and the active `$d` are looked at.
+pub fn frames_by_label(alloc: Global, listed: &Listed) -> Result<Stack<Option<Frame>>, Memory>
+    requires { length listed.now.entries < 2 ^ 32 }
+    ensures { (text : List ℕ) → statement_fault text ≡ None → AreOf listed.now (statements text) → IfOk result (λ fs. fs ≡ frames_of (statements text)) }
+{
+    statements_are_sound();
+    let mut scope = Scope::new(alloc);
+    let mut marked = NumberSet::new(alloc);
+    let mut frames = Stack::new(alloc);
+    let entries = listed.entries.as_slice();
+    for number in 0..entries.len() {
+        let entry = &entries[number];
+        let label = frames.len() as u32;
+        add_frame(
+            alloc,
+            listed,
+            &scope,
+            &mut marked,
+            &mut frames,
+            entry,
+            number as u32,
+            label,
+        )?;
+        scope.pass(entry, number as u32, label)?;
+    }
+    Ok(frames)
+}

@@ -1,0 +1,12 @@
+pub mod Applying
+pub mod Entering
+pub mod FoundLaw
+pub mod Knowing
+pub mod Leasts
+pub mod Lookup
+pub mod Parts
+pub mod ProofWords
+pub mod Reading
+pub mod Rules
+pub mod Substitutes
+pub mod WordsBehind

@@ -1,0 +1,10 @@
+pub mod Contexts
+pub mod Faults
+pub mod Founds
+pub mod Lookups
+pub mod Pairs
+pub mod Proofs
+pub mod Stacked
+pub mod Stacks
+pub mod Steps
+pub mod Theorems
