@@ -63,7 +63,7 @@ pub fails_at : (thm : Theorem) (frame : Frame) (xs ys : List Sym) (es fs ks span
 fails_at thm frame xs ys es fs ks spans b fault ex ef eb e h =
     let top : spans ≡ drop b es = eb ∙ ap (drop b) ef in
     fails thm frame xs es ks b fault e (
-      subst (λ (zs : List Sym). FailsAs fault (entries_fault thm frame (entries_of frame.hyps zs (drop b es)))) ex (subst (λ (l : List Span). FailsAs fault (entries_fault thm frame (entries_of frame.hyps ys l))) top h))
+    subst (λ (zs : List Sym). FailsAs fault (entries_fault thm frame (entries_of frame.hyps zs (drop b es)))) ex (subst (λ (l : List Span). FailsAs fault (entries_fault thm frame (entries_of frame.hyps ys l))) top h))
 
 pub fits_at : (thm : Theorem) (frame : Frame) (xs ys : List Sym) (es fs ks ls spans : List Span) (hs : List Hyp) (b : ℕ) (new : State) (f g cleared formula : List Sym)
     → ys ≡ xs → fs ≡ es → spans ≡ drop b fs → b + length frame.hyps ≡ length es → hs ≡ frame.hyps → formula ≡ frame.formula → cleared ≡ []
@@ -73,9 +73,9 @@ fits_at thm frame xs ys es fs ks ls spans hs b new f g cleared formula ex ef eb 
     let top : spans ≡ drop b es = eb ∙ ap (drop b) ef in
     let result : Formula = substituted (entries_of frame.hyps xs (drop b es)) frame.formula in
     let fine : entries_fault thm frame (entries_of frame.hyps xs (drop b es)) ≡ None =
-      subst (λ (zs : List Sym). entries_fault thm frame (entries_of frame.hyps zs (drop b es)) ≡ None) ex (subst (λ (l : List Span). entries_fault thm frame (entries_of frame.hyps ys l) ≡ None) top none) in
+    subst (λ (zs : List Sym). entries_fault thm frame (entries_of frame.hyps zs (drop b es)) ≡ None) ex (subst (λ (l : List Span). entries_fault thm frame (entries_of frame.hyps ys l) ≡ None) top none) in
     let is : f ≡ result =
-      fg ∙ eg ∙ ap (λ (c : List Sym). c ++ substituted (entries_of hs ys spans) formula) ec ∙ ap (λ (h : List Hyp). substituted (entries_of h ys spans) formula) eh
-      ∙ ap (λ (z : List Sym). substituted (entries_of frame.hyps z spans) formula) ex ∙ ap (λ (l : List Span). substituted (entries_of frame.hyps xs l) formula) top
-      ∙ ap (substituted (entries_of frame.hyps xs (drop b es))) ek in
+    fg ∙ eg ∙ ap (λ (c : List Sym). c ++ substituted (entries_of hs ys spans) formula) ec ∙ ap (λ (h : List Hyp). substituted (entries_of h ys spans) formula) eh
+    ∙ ap (λ (z : List Sym). substituted (entries_of frame.hyps z spans) formula) ex ∙ ap (λ (l : List Span). substituted (entries_of frame.hyps xs l) formula) top
+    ∙ ap (substituted (entries_of frame.hyps xs (drop b es))) ek in
     fits thm frame xs es ks b e fine ∙ sym (ap (λ (s : State). Ok s) (en ∙ ap (λ (x : Formula). push x (state_of xs ls ks)) is ∙ ap (λ (l : List Span). push result (state_of xs l ks)) el))

@@ -33,9 +33,9 @@ pub entry_here : (hyps : List Hyp) (symbols : List Sym) (spans : List Span) (k :
 entry_here hyps symbols spans k h d e low is =
     let es = entries_of hyps symbols spans in
     let item : get_or es k (h, formula_in symbols d) ≡ (h, formula_in symbols (get_or spans k d)) =
-      zip_at hyps (formulas_in symbols spans) k h (formula_in symbols d) (length-map spans (formula_in symbols) ∙ e)
-      ∙ ap (λ (x : Hyp). (x, get_or (formulas_in symbols spans) k (formula_in symbols d))) (sym is)
-      ∙ ap (λ (f : Formula). (h, f)) (get_or-map (formula_in symbols) spans k d (formula_in symbols d) (omega arith)) in
+    zip_at hyps (formulas_in symbols spans) k h (formula_in symbols d) (length-map spans (formula_in symbols) ∙ e)
+    ∙ ap (λ (x : Hyp). (x, get_or (formulas_in symbols spans) k (formula_in symbols d))) (sym is)
+    ∙ ap (λ (f : Formula). (h, f)) (get_or-map (formula_in symbols) spans k d (formula_in symbols d) (omega arith)) in
     record { rest = drop-cons es k (h, formula_in symbols d) (omega (arith, entries_count hyps symbols spans e)) ∙ ap (λ (x : Entry). x ∷ drop (suc k) es) item }
 
 -- the first that passes is not among those before this number

@@ -2,7 +2,9 @@
 use Rattle.std.proofs.Common.{◌≡◌, ◌≤◌, ◌<◌, ℕ, zero, suc, ◌+◌, Bool, true, false, cond, ltb, List, [], ◌∷◌, length, position, Option, Some, None, option_map, Result, Ok, Err, refl, sym, ap, ◌∙◌, arith, subst, inl, inr, Bor}
 use Rattle.std.specs.Prelude.{find, option_and_then, slice_get, slice_index_or}
 use Rattle.std.specs.Str.{bytes_eq}
-use Rattle.std.proofs.lemmas.Bool.{cases_Bool, le-ltb, lt-ltb}
+use Rattle.std.proofs.lemmas.Bool.{cases_Bool, le-ltb, lt-ltb, ltb-false, ltb-true}
+use Rattle.std.proofs.lemmas.List.{get_or_default}
+use Rattle.std.proofs.Math.ListN.{get_or-eq_default}
 use Rattle.std.proofs.lemmas.Slice.Eq.{bytes_eq-Decides}
 use Rattle.mm_model.specs.declared.frames.Hyp.{Hyp}
 use Rattle.mm_model.specs.declared.frames.Frame.{Frame}
@@ -11,7 +13,6 @@ use Rattle.proof_model.specs.declared.code.What.TheVariants as what
 use Rattle.proof_model.specs.declared.code.Step.{Step}
 use Rattle.proof_model.specs.declared.code.Code.{Code}
 use Rattle.proof_model.specs.declared.theorem.Theorem.{Theorem}
-use Rattle.proof_model.specs.ProofCode.{AreInRange, IsInRange}
 use Rattle.proof_model.specs.Machine.{Frames, MachineFault, State, and_then, apply_frame, ended_fault, keep_top, not_earlier, numbered, proof_fault, push, run_steps, start, use_frame, use_hyp, use_label, use_step, use_what}
 use Rattle.stack_verify.specs.declared.run.Found.{Found}
 use Rattle.stack_verify.specs.declared.run.Found.TheVariants as found
@@ -70,12 +71,12 @@ no_frame frames thm label e f = record { same = λ st. no_hyp frames thm label N
 
 pub frame_found : (frames : Frames) (thm : Theorem) (label : List ℕ) (b : Bor Frame) → None ≡ place_of thm.hyps label → Some b.now ≡ frames label → b.now.at < thm.at → IsFound frames thm label (found.Assertion b)
 frame_found frames thm label b e f low = record {
-  same = λ st. sym (cond_then (ltb b.now.at thm.at) (apply_frame thm b.now st) (Err not_earlier) (lt-ltb b.now.at thm.at low)) ∙ no_hyp frames thm label (Some b.now) st e f
+  same = λ st. sym (cond_then (ltb b.now.at thm.at) (apply_frame thm b.now st) (Err not_earlier) (lt-ltb b.now.at thm.at low)) ∙ no_hyp frames thm label (Some b.now) st e f;
 }
 
 pub late_frame : (frames : Frames) (thm : Theorem) (label : List ℕ) (frame : Frame) → None ≡ place_of thm.hyps label → Some frame ≡ frames label → thm.at ≤ frame.at → IsFound frames thm label found.Nothing
 late_frame frames thm label frame e f high = record {
-  same = λ st. sym (cond_else (ltb frame.at thm.at) (apply_frame thm frame st) (Err not_earlier) (le-ltb frame.at thm.at high)) ∙ no_hyp frames thm label (Some frame) st e f
+  same = λ st. sym (cond_else (ltb frame.at thm.at) (apply_frame thm frame st) (Err not_earlier) (le-ltb frame.at thm.at high)) ∙ no_hyp frames thm label (Some frame) st e f;
 }
 
 -- ---- the run
@@ -84,27 +85,41 @@ same_and_then : {X Y : Type 0} (f g : X → Result Y (ℕ × MachineFault)) (r :
 same_and_then f g (Ok x) h = h x
 same_and_then f g (Err e) h = refl
 
-what_same : (frames : Frames) (thm : Theorem) (mandatory table : List Found) (labels : List (List ℕ)) (marks : ℕ) (w : What) (st : State) → AreFound frames thm thm.mandatory mandatory → AreFound frames thm labels table
-    → IsInRange (length thm.mandatory) (length labels) marks w → use_found_what thm mandatory table w st ≡ use_what frames thm labels w st
-what_same frames thm mandatory table labels marks (what.Hyp k) st m t low = (m.each k low).same st
-what_same frames thm mandatory table labels marks (what.Listed k) st m t low = (t.each k low).same st
-what_same frames thm mandatory table labels marks (what.Again k) st m t low = refl
-what_same frames thm mandatory table labels marks what.Unknown st m t low = refl
+-- what is found for a number
+entry_same : (frames : Frames) (thm : Theorem) (labels : List (List ℕ)) (table : List Found) (absent : Found) (k : ℕ) → AreFound frames thm labels table → IsFound frames thm [] absent
+    → IsFound frames thm (slice_index_or labels k []) (slice_index_or table k absent)
+entry_same frames thm labels table absent k t a =
+    elim (cases_Bool (ltb k (length labels))) [
+      | inl s ↦
+          let low = ltb-true k (length labels) s in
+          subst (λ (f : Found). IsFound frames thm (slice_index_or labels k []) f) (get_or_default table k found.Nothing absent (omega (arith, t.count))) (t.each k low)
+      | inr s ↦
+          let high = ltb-false k (length labels) s in
+          subst (λ (f : Found). IsFound frames thm (slice_index_or labels k []) f) (sym (get_or-eq_default table absent (omega (arith, t.count))))
+          (subst (λ (l : List ℕ). IsFound frames thm l absent) (sym (get_or-eq_default labels [] high)) a)
+    ]
 
-pub run_same : (frames : Frames) (thm : Theorem) (mandatory table : List Found) (labels : List (List ℕ)) (n marks : ℕ) (steps : List Step) (st : State) → AreFound frames thm thm.mandatory mandatory → AreFound frames thm labels table
-    → AreInRange (length thm.mandatory) (length labels) marks steps → run_found thm mandatory table n steps st ≡ run_steps frames thm labels n steps st
-run_same frames thm mandatory table labels n marks [] st m t r = refl
-run_same frames thm mandatory table labels n marks (s ∷ ss) st m t r =
-    let one : use_found_step thm mandatory table s st ≡ use_step frames thm labels s st =
-      ap (and_then (λ (next : State). Ok (keep_top s.marked next))) (what_same frames thm mandatory table labels marks s.what st m t r.0) in
-    ap (λ (o : Result State MachineFault). and_then (run_found thm mandatory table (suc n) ss) (numbered n o)) one
-    ∙ same_and_then (run_found thm mandatory table (suc n) ss) (run_steps frames thm labels (suc n) ss) (numbered n (use_step frames thm labels s st))
-    (λ (x : State). run_same frames thm mandatory table labels (suc n) (cond s.marked (suc marks) marks) ss x m t r.1)
+what_same : (frames : Frames) (thm : Theorem) (absent : Found) (mandatory table : List Found) (labels : List (List ℕ)) (w : What) (st : State) → IsFound frames thm [] absent → AreFound frames thm thm.mandatory mandatory → AreFound frames thm labels table
+    → use_found_what thm absent mandatory table w st ≡ use_what frames thm labels w st
+what_same frames thm absent mandatory table labels (what.Hyp k) st a m t = (entry_same frames thm thm.mandatory mandatory absent k m a).same st
+what_same frames thm absent mandatory table labels (what.Listed k) st a m t = (entry_same frames thm labels table absent k t a).same st
+what_same frames thm absent mandatory table labels (what.Again k) st a m t = refl
+what_same frames thm absent mandatory table labels what.Unknown st a m t = refl
 
-pub fault_same : (frames : Frames) (thm : Theorem) (code : Code) (ms ls : List (List ℕ)) (mandatory table us vs : List Found) (steps : List Step) → ms ≡ thm.mandatory → ls ≡ code.labels → us ≡ mandatory → vs ≡ table → steps ≡ code.steps
-    → AreFound frames thm ms mandatory → AreFound frames thm ls table → AreInRange (length thm.mandatory) (length code.labels) 0 code.steps → found_fault thm us vs steps ≡ proof_fault frames thm code
-fault_same frames thm code ms ls mandatory table us vs steps em el eu ev es m t r =
+pub run_same : (frames : Frames) (thm : Theorem) (absent : Found) (mandatory table : List Found) (labels : List (List ℕ)) (n : ℕ) (steps : List Step) (st : State) → IsFound frames thm [] absent → AreFound frames thm thm.mandatory mandatory → AreFound frames thm labels table
+    → run_found thm absent mandatory table n steps st ≡ run_steps frames thm labels n steps st
+run_same frames thm absent mandatory table labels n [] st a m t = refl
+run_same frames thm absent mandatory table labels n (s ∷ ss) st a m t =
+    let one : use_found_step thm absent mandatory table s st ≡ use_step frames thm labels s st =
+    ap (and_then (λ (next : State). Ok (keep_top s.marked next))) (what_same frames thm absent mandatory table labels s.what st a m t) in
+    ap (λ (o : Result State MachineFault). and_then (run_found thm absent mandatory table (suc n) ss) (numbered n o)) one
+    ∙ same_and_then (run_found thm absent mandatory table (suc n) ss) (run_steps frames thm labels (suc n) ss) (numbered n (use_step frames thm labels s st))
+    (λ (x : State). run_same frames thm absent mandatory table labels (suc n) ss x a m t)
+
+pub fault_same : (frames : Frames) (thm : Theorem) (code : Code) (absent : Found) (ms ls : List (List ℕ)) (mandatory table us vs : List Found) (steps : List Step) → ms ≡ thm.mandatory → ls ≡ code.labels → us ≡ mandatory → vs ≡ table → steps ≡ code.steps
+    → IsFound frames thm [] absent → AreFound frames thm ms mandatory → AreFound frames thm ls table → found_fault thm absent us vs steps ≡ proof_fault frames thm code
+fault_same frames thm code absent ms ls mandatory table us vs steps em el eu ev es a m t =
     let m' : AreFound frames thm thm.mandatory mandatory = subst (λ (x : List (List ℕ)). AreFound frames thm x mandatory) em m in
     let t' : AreFound frames thm code.labels table = subst (λ (x : List (List ℕ)). AreFound frames thm x table) el t in
-    ap (λ (x : List Found). found_fault thm x vs steps) eu ∙ ap (λ (x : List Found). found_fault thm mandatory x steps) ev ∙ ap (found_fault thm mandatory table) es
-    ∙ ap (ended_fault thm (length code.steps)) (run_same frames thm mandatory table code.labels 0 0 code.steps start m' t' r)
+    ap (λ (x : List Found). found_fault thm absent x vs steps) eu ∙ ap (λ (x : List Found). found_fault thm absent mandatory x steps) ev ∙ ap (found_fault thm absent mandatory table) es
+    ∙ ap (ended_fault thm (length code.steps)) (run_same frames thm absent mandatory table code.labels 0 code.steps start a m' t')

@@ -21,11 +21,11 @@ with_pair old new a b v w e =
     elim (cases_Bool (list_any (is_pair a b) old)) [
       | inl t ↦
           let there : is_pair v w (a, b) ≡ true → list_any (is_pair v w) old ≡ true =
-            λ (q : is_pair v w (a, b) ≡ true).
-              let parts = and_parts (eqb v a) (eqb w b) q in
-              let first : v ≡ a = eqb-true v a parts.0 in
-              let second : w ≡ b = eqb-true w b parts.1 in
-              subst (λ (x : ℕ). list_any (is_pair x w) old ≡ true) (sym first) (subst (λ (y : ℕ). list_any (is_pair a y) old ≡ true) (sym second) t) in
+          λ (q : is_pair v w (a, b) ≡ true).
+          let parts = and_parts (eqb v a) (eqb w b) q in
+          let first : v ≡ a = eqb-true v a parts.0 in
+          let second : w ≡ b = eqb-true w b parts.1 in
+          subst (λ (x : ℕ). list_any (is_pair x w) old ≡ true) (sym first) (subst (λ (y : ℕ). list_any (is_pair a y) old ≡ true) (sym second) t) in
           ap (list_any (is_pair v w)) (e ∙ cond_then (list_any (is_pair a b) old) old (old ++ (a, b) ∷ []) t) ∙ or_same (list_any (is_pair v w) old) (is_pair v w (a, b)) there
       | inr t ↦ ap (list_any (is_pair v w)) (e ∙ cond_else (list_any (is_pair a b) old) old (old ++ (a, b) ∷ []) t) ∙ list_any-append (is_pair v w) old ((a, b) ∷ [])
     ]
@@ -34,9 +34,9 @@ pub pair_put : (old new : List (ℕ × ℕ)) (pairs : List Pair) (i : ℕ) (d : 
     → new ≡ cond (list_any (is_pair (get_or pairs i d).a.0 (get_or pairs i d).b.0) old) old (old ++ ((get_or pairs i d).a.0, (get_or pairs i d).b.0) ∷ []) → SamePairs (take i pairs) old → SamePairs (take (i + 1) pairs) new
 pair_put old new pairs i d low e h = record {
   same = λ v w.
-    let test : Pair → Bool = λ (p : Pair). is_pair v w (p.a.0, p.b.0) in
-    let p : Pair = get_or pairs i d in
-    let one : suc i ≡ i + 1 = omega arith in
-    with_pair old new p.a.0 p.b.0 v w e ∙ ap (λ (t : Bool). t || (test p || false)) (h.same v w)
-    ∙ sym (list_any-append test (take i pairs) (p ∷ [])) ∙ ap (list_any test) (sym (take-suc pairs i d low) ∙ ap (λ (j : ℕ). take j pairs) one);
+      let test : Pair → Bool = λ (p : Pair). is_pair v w (p.a.0, p.b.0) in
+      let p : Pair = get_or pairs i d in
+      let one : suc i ≡ i + 1 = omega arith in
+      with_pair old new p.a.0 p.b.0 v w e ∙ ap (λ (t : Bool). t || (test p || false)) (h.same v w)
+      ∙ sym (list_any-append test (take i pairs) (p ∷ [])) ∙ ap (list_any test) (sym (take-suc pairs i d low) ∙ ap (λ (j : ℕ). take j pairs) one);
 }

@@ -43,7 +43,7 @@ one_more known rule vs ws i j d best new k low n h =
     let old : best ≡ least (filter (fails known rule) (products (drop (suc i) vs) ws)) = h.is ∙ ap (λ (m : ℕ). least (filter (fails known rule) (products (drop m vs) ws))) step in
     record {
       is = n ∙ ap (least_onto (those_with known rule v ws)) old
-        ∙ sym (least_append (those_with known rule v ws) (filter (fails known rule) (products (drop (suc i) vs) ws)))
-        ∙ ap least (sym (filter_append (fails known rule) (map (λ w. (v, w)) ws) (products (drop (suc i) vs) ws)))
-        ∙ ap (λ (l : List Sym). least (filter (fails known rule) (products l ws))) (sym (drop-cons vs i d low));
+          ∙ sym (least_append (those_with known rule v ws) (filter (fails known rule) (products (drop (suc i) vs) ws)))
+          ∙ ap least (sym (filter_append (fails known rule) (map (λ w. (v, w)) ws) (products (drop (suc i) vs) ws)))
+          ∙ ap (λ (l : List Sym). least (filter (fails known rule) (products l ws))) (sym (drop-cons vs i d low));
     }

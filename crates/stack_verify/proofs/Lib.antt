@@ -1,10 +1,13 @@
 pub mod Applying
 pub mod Entering
 pub mod FoundLaw
+pub mod Joins
 pub mod Knowing
+pub mod LabelSteps
 pub mod Leasts
 pub mod Lookup
 pub mod Parts
+pub mod ProofRanges
 pub mod ProofWords
 pub mod Reading
 pub mod Rules

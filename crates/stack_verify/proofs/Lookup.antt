@@ -12,7 +12,7 @@ use Rattle.stack_verify.specs.Lookups.{IsIndexOf, look, place_of}
 use Rattle.stack_verify.proofs.Substitutes.{cond_then, cond_else, position-cons, position_within}
 
 -- the first, or else the second
-abbrev or_at : Option ℕ → Option ℕ → Option ℕ
+abbrev pub or_at : Option ℕ → Option ℕ → Option ℕ
 or_at (Some k) o = Some k
 or_at None o = o
 
@@ -24,13 +24,13 @@ chosen : (t : Bool) (n : ℕ) → option_map (λ (n : ℕ). suc n) (cond t (Some
 chosen true n = refl
 chosen false n = refl
 
-position_more : {X : Type 0} (p : X → Bool) (xs : List X) (x : X) → position p (xs ++ x ∷ []) ≡ or_at (position p xs) (cond (p x) (Some (length xs)) None)
+pub position_more : {X : Type 0} (p : X → Bool) (xs : List X) (x : X) → position p (xs ++ x ∷ []) ≡ or_at (position p xs) (cond (p x) (Some (length xs)) None)
 position_more p [] x = position-cons p x []
 position_more p (y ∷ xs) x =
     let next : Option ℕ → Option ℕ = option_map (λ (n : ℕ). suc n) in
     let end : Option ℕ = cond (p x) (Some (length xs)) None in
     let on : next (position p (xs ++ x ∷ [])) ≡ or_at (next (position p xs)) (cond (p x) (Some (suc (length xs))) None) =
-      ap next (position_more p xs x) ∙ mapped (position p xs) end ∙ ap (or_at (next (position p xs))) (chosen (p x) (length xs)) in
+    ap next (position_more p xs x) ∙ mapped (position p xs) end ∙ ap (or_at (next (position p xs))) (chosen (p x) (length xs)) in
     elim (cases_Bool (p y)) [
       | inl t ↦
           position-cons p y (xs ++ x ∷ []) ∙ cond_then (p y) (Some 0) (next (position p (xs ++ x ∷ []))) t
@@ -76,7 +76,7 @@ label_put labels places hyps h i label n m e =
 clash : (n : ℕ) → Some n ≡ None → ⊥
 clash n e = cc
 
-none_there : {X : Type 0} (p : X → Bool) (xs : List X) → position p xs ≡ None → list_any p xs ≡ false
+pub none_there : {X : Type 0} (p : X → Bool) (xs : List X) → position p xs ≡ None → list_any p xs ≡ false
 none_there p [] e = refl
 none_there p (x ∷ xs) e =
     elim (cases_Bool (p x)) [
@@ -100,14 +100,14 @@ label_there labels places hyps h label n there e =
     let t = bytes_eq label h.name in
     let low : (k : ℕ) → position (bytes_eq label) labels ≡ Some k → k < length places = λ (k : ℕ) (q : position (bytes_eq label) labels ≡ Some k). let w = position_within (bytes_eq label) labels k q in omega arith in
     let other : position (bytes_eq label) labels ≡ None → t ≡ false =
-      λ (q : position (bytes_eq label) labels ≡ None).
-        elim (cases_Bool t) [
-          | inl s ↦
-              let is : label ≡ h.name = (bytes_eq-Decides label h.name).0 s in
-              let both : true ≡ false = sym there ∙ ap (λ (x : List ℕ). list_any (bytes_eq x) labels) (sym is) ∙ none_there (bytes_eq label) labels q in
-              absurd cc
-          | inr s ↦ s
-        ] in
+    λ (q : position (bytes_eq label) labels ≡ None).
+    elim (cases_Bool t) [
+      | inl s ↦
+          let is : label ≡ h.name = (bytes_eq-Decides label h.name).0 s in
+          let both : true ≡ false = sym there ∙ ap (λ (x : List ℕ). list_any (bytes_eq x) labels) (sym is) ∙ none_there (bytes_eq label) labels q in
+          absurd cc
+      | inr s ↦ s
+    ] in
     same_look places (position (bytes_eq label) labels) t (length hyps) low other ∙ ap (λ (o : Option ℕ). or_at o (cond t (Some (length hyps)) None)) e
     ∙ sym (position_more (λ (x : Hyp). bytes_eq label x.name) hyps h)
 
@@ -119,7 +119,7 @@ index_put old new hyps h name i en el ep m x =
     record {
       count = omega (arith, ap length labels, ap length ep, x.count, length-append old.labels (h.name ∷ []), length-append old.places.items (i ∷ []));
       each = λ label. ap (λ (l : List (List ℕ)). look new.places.items (position (bytes_eq label) l)) labels
-        ∙ ap (λ (p : List ℕ). look p (position (bytes_eq label) (old.labels ++ h.name ∷ []))) ep ∙ label_put old.labels old.places.items hyps h i label x.count m (x.each label);
+          ∙ ap (λ (p : List ℕ). look p (position (bytes_eq label) (old.labels ++ h.name ∷ []))) ep ∙ label_put old.labels old.places.items hyps h i label x.count m (x.each label);
     }
 
 pub index_kept : (old : HypLabels) (hyps : List Hyp) (h : Hyp) (name : List ℕ) → name ≡ h.name → list_any (bytes_eq name) old.labels ≡ true → IsIndexOf hyps old → IsIndexOf (hyps ++ h ∷ []) old

@@ -48,8 +48,8 @@ pub pushed : (xs ys f : List Sym) (es fs ks : List Span) (s : Span) → ys ≡ x
     → All (IsWithin (length xs)) es → All (IsWithin (length xs)) ks → state_of ys fs ks ≡ push f (state_of xs es ks)
 pushed xs ys f es fs ks s ey ef e t we wk =
     let stack : reverse (formulas_in ys fs) ≡ f ∷ reverse (formulas_in xs es) =
-      ap (λ (y : List Sym). reverse (formulas_in y fs)) ey ∙ ap (λ (l : List Span). reverse (formulas_in (xs ++ f) l)) ef ∙ entry_pushed (xs ++ f) es s
-      ∙ ap (λ (g : Formula). g ∷ reverse (formulas_in (xs ++ f) es)) (newest xs f s e t) ∙ ap (λ (l : List Formula). f ∷ reverse l) (formulas_grown xs f es we) in
+    ap (λ (y : List Sym). reverse (formulas_in y fs)) ey ∙ ap (λ (l : List Span). reverse (formulas_in (xs ++ f) l)) ef ∙ entry_pushed (xs ++ f) es s
+    ∙ ap (λ (g : Formula). g ∷ reverse (formulas_in (xs ++ f) es)) (newest xs f s e t) ∙ ap (λ (l : List Formula). f ∷ reverse l) (formulas_grown xs f es we) in
     let kept : formulas_in ys ks ≡ formulas_in xs ks = ap (λ (y : List Sym). formulas_in y ks) ey ∙ formulas_grown xs f ks wk in
     same_state (reverse (formulas_in ys fs)) (f ∷ reverse (formulas_in xs es)) (formulas_in ys ks) (formulas_in xs ks) stack kept
 

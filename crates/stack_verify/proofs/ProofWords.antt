@@ -1,5 +1,5 @@
 -- The words of a proof are those between `$=` and `$.` of its statement, also where the text is read from there on.
-use Rattle.std.proofs.Common.{◌≡◌, ℕ, suc, ◌+◌, Bool, true, false, cond, not, ◌||◌, List, [], ◌∷◌, ◌++◌, length, take, drop, Option, Some, None, refl, sym, ap, ◌∙◌, arith, subst, append_assoc, append-nil, inl, inr, ◌⊎◌}
+use Rattle.std.proofs.Common.{◌≡◌, ℕ, zero, suc, ◌+◌, Bool, true, false, cond, not, ◌||◌, List, [], ◌∷◌, ◌++◌, length, take, drop, Option, Some, None, refl, sym, ap, ◌∙◌, arith, subst, append_assoc, append-nil, inl, inr, ◌⊎◌}
 use Rattle.std.specs.Prelude.{find, reverse, codes, map, slice_get}
 use Rattle.std.specs.List.{list_any, before_first, after_first, prefix_len}
 use Rattle.std.specs.Str.{bytes_eq}
@@ -7,7 +7,10 @@ use Rattle.std.proofs.lemmas.Bool.{cases_Bool, or_parts}
 use Rattle.std.proofs.lemmas.List.{reverse-append, reverse-reverse}
 use Rattle.mm_model.specs.Words.{Word, words, words_from}
 use Rattle.mm_model.specs.Statements.{Statement, ended, ends_statement, is, statements, unended}
-use Rattle.mm_model.specs.Tokens.{tokens, tokens_where}
+use Rattle.mm_model.specs.Tokens.{is_close_comment, is_open_comment, tokens, tokens_where}
+use Rattle.proof_model.specs.DatabaseProofs.{proof_words}
+use Rattle.stack_verify.specs.Proofs.{proof_names}
+use Rattle.std.proofs.lemmas.Slice.Eq.{bytes_eq-Decides}
 use Rattle.stack_verify.proofs.Substitutes.{cond_then, cond_else}
 use Rattle.stack_verify.proofs.WordsBehind.{Behind, behind, token_split}
 
@@ -95,7 +98,7 @@ stands : (r : List Word) (s : Statement) → In s (ended r) → Stands (reverse 
 stands [] s h = absurd h
 stands (w ∷ r) s h =
     elim (cases_Bool (ends_statement w)) [
-      | inl t ↦ ending t (subst (λ (l : List Statement). In s l) (cond_then (ends_statement w) ((unended r ++ w ∷ []) ∷ ended r) (ended r) t) h)
+      | inl t ↦ ending (λ (x : In s (ended r)). stands r s x) t (subst (λ (l : List Statement). In s l) (cond_then (ends_statement w) ((unended r ++ w ∷ []) ∷ ended r) (ended r) t) h)
       | inr t ↦ longer (stands r s (subst (λ (l : List Statement). In s l) (cond_else (ends_statement w) ((unended r ++ w ∷ []) ∷ ended r) (ended r) t) h))
     ]
   where
@@ -111,8 +114,8 @@ stands (w ∷ r) s h =
       clear = x.clear;
     }
 
-    ending : ends_statement w ≡ true → In s ((unended r ++ w ∷ []) ∷ ended r) → Stands (reverse (w ∷ r)) s
-    ending t (inl e) =
+    ending : (In s (ended r) → Stands (reverse r) s) → ends_statement w ≡ true → In s ((unended r ++ w ∷ []) ∷ ended r) → Stands (reverse (w ∷ r)) s
+    ending ih t (inl e) =
         let h = trails r in
         record {
           before = h.before;
@@ -124,7 +127,7 @@ stands (w ∷ r) s h =
           ender = t;
           clear = unended_clear r;
         }
-    ending t (inr h) = longer (stands r s h)
+    ending ih t (inr h) = longer (ih h)
 
 -- ---- a word of a statement
 
@@ -212,3 +215,64 @@ no_end (x ∷ xs) h =
     let parts = or_parts (ends_statement x) (list_any ends_statement xs) h in
     let one = or_parts (is_end x) (list_any (bytes_eq x.bytes) (codes "${" ∷ codes "$}" ∷ [])) parts.0 in
     ap (λ (t : Bool). t || list_any is_end xs) one.0 ∙ no_end xs parts.1
+
+-- ---- the whole
+
+names_are : (c : Bool) (ws : List Word) → proof_names c ws ≡ map (λ (w : Word). w.bytes) (before_first is_end (tokens_where c ws))
+names_are c [] = refl
+names_are true (w ∷ ws) = names_are (not (is_close_comment w)) ws
+names_are false (w ∷ ws) =
+    let n = prefix_len (λ (y : Word). not (is_end y)) (tokens_where false ws) in
+    let one : 1 + n ≡ suc n = omega arith in
+    elim (cases_Bool (is_open_comment w)) [
+      | inl t ↦ rw t (names_are true ws)
+      | inr t ↦
+          elim (cases_Bool (is_end w)) [
+            | inl s ↦ rw (t, s) refl
+            | inr s ↦ rw (t, s, one) (ap (λ (l : List (List ℕ)). w.bytes ∷ l) (names_are false ws))
+          ]
+    ]
+
+equals_ends_nothing : (w : Word) → is (codes "$=") w ≡ true → (ends_statement w ≡ false) × (is_end w ≡ false) × (length w.bytes ≡ 2)
+equals_ends_nothing w e =
+    let b : w.bytes ≡ codes "$=" = (bytes_eq-Decides w.bytes (codes "$=")).0 e in (
+      ap (λ (x : List ℕ). list_any (bytes_eq x) (codes "$." ∷ codes "${" ∷ codes "$}" ∷ [])) b,
+      ap (λ (x : List ℕ). bytes_eq x (codes "$.")) b,
+      ap length b,
+    )
+
+ended_there : (pre : List Word) (w : Word) (post : List Word) → list_any is_end pre ≡ false → is_end w ≡ false → list_any is_end (pre ++ w ∷ post) ≡ true → list_any is_end post ≡ true
+ended_there pre w post h k e =
+    sym (any_append is_end pre (w ∷ post) ∙ ap (λ (b : Bool). b || (is_end w || list_any is_end post)) h ∙ ap (λ (b : Bool). b || list_any is_end post) k) ∙ e
+
+has_end : (s : List Word) (e : Word) → find is_end s ≡ Some e → list_any is_end s ≡ true
+has_end s e h =
+    let x = found_at is_end s e h in
+    ap (list_any is_end) x.whole ∙ any_append is_end x.pre (e ∷ x.post) ∙ ap (λ (b : Bool). list_any is_end x.pre || (b || list_any is_end x.post)) x.passes ∙ last_true (list_any is_end x.pre)
+  where
+    last_true : (a : Bool) → (a || true) ≡ true
+    last_true true = refl
+    last_true false = refl
+
+pub words_are : (text : List ℕ) (at : ℕ) (s : Statement) (w e : Word) → slice_get (statements text) at ≡ Some s → find (is (codes "$=")) s ≡ Some w → find is_end s ≡ Some e
+    → proof_names false (words_from (w.start + 2) (drop (w.start + 2) text)) ≡ proof_words s
+words_are text at s w e there hw he =
+    let ts : List Word = tokens text in
+    let st = stands (reverse ts) s (in_reverse s (ended (reverse ts)) (in_at s (statements text) at there)) in
+    let eq = found_at (is (codes "$=")) s w hw in
+    let no = equals_ends_nothing w eq.passes in
+    let c = cut eq.pre w eq.post st.front st.last no.0 st.ender (sym eq.whole ∙ st.ends) in
+    let clear : list_any ends_statement eq.pre ≡ false =
+    (or_parts (list_any ends_statement eq.pre) (list_any ends_statement (w ∷ c.middle)) (sym (any_append ends_statement eq.pre (w ∷ c.middle)) ∙ ap (list_any ends_statement) (sym c.front_is) ∙ st.clear)).0 in
+    let ended_post : list_any is_end eq.post ≡ true = ended_there eq.pre w eq.post (no_end eq.pre clear) no.1 (ap (list_any is_end) (sym eq.whole) ∙ has_end s e he) in
+    let whole : tokens_where false (words text) ≡ (st.before ++ eq.pre) ++ w ∷ (eq.post ++ st.after) =
+    sym (reverse-reverse ts) ∙ st.whole ∙ ap (λ (l : List Word). st.before ++ (l ++ st.after)) eq.whole ∙ ap (λ (l : List Word). st.before ++ l) (append_assoc eq.pre (w ∷ eq.post) st.after)
+    ∙ sym (append_assoc st.before eq.pre (w ∷ (eq.post ++ st.after))) in
+    let t = token_split false (words text) (st.before ++ eq.pre) w (eq.post ++ st.after) whole in
+    let b = behind 0 text t.pre w t.post t.whole in
+    let place : 0 + b.past ≡ w.start + 2 = omega (arith, b.place, no.2) in
+    let past : b.past ≡ w.start + 2 = omega (arith, b.place, no.2) in
+    let post : t.post ≡ words_from (w.start + 2) (drop (w.start + 2) text) = b.rest ∙ ap (λ (k : ℕ). words_from k (drop b.past text)) place ∙ ap (λ (k : ℕ). words_from (w.start + 2) (drop k text)) past in
+    names_are false (words_from (w.start + 2) (drop (w.start + 2) text))
+    ∙ ap (λ (l : List Word). map (λ (x : Word). x.bytes) (before_first is_end l)) (ap (tokens_where false) (sym post) ∙ sym t.tokens)
+    ∙ ap (λ (l : List Word). map (λ (x : Word). x.bytes) l) (same_before is_end eq.post st.after ended_post ∙ ap (before_first is_end) (sym eq.after))

@@ -20,7 +20,6 @@ first_by variable test entries [] = None
 first_by variable test entries (p ∷ ps) =
     or_later p (least (filter test (products (filter variable (substitute entries p.a)) (filter variable (substitute entries p.b))))) (first_by variable test entries ps)
 
-
 by_known : (known : Known) (r : Rule) (entries : List Entry) (pairs : List Pair) → first_failing known r entries pairs ≡ first_by (λ s. list_any (nat_eq s.0) known.variables) (fails known r) entries pairs
 unfolding first_by
 by_known known r entries [] = refl
@@ -66,7 +65,7 @@ joined thm numbers vw h =
     let one : Pair → Bool = λ (p : Pair). is_pair v w (p.a.0, p.b.0) in
     let other : Pair → Bool = λ (p : Pair). is_pair w v (p.a.0, p.b.0) in
     let test : (λ (p : Pair). one p || other p) ≡ (λ (p : Pair). (eqb p.a.0 v && eqb p.b.0 w) || (eqb p.a.0 w && eqb p.b.0 v)) =
-      fun_ext (λ (p : Pair). ap (λ (t : Bool). t || other p) (pair_turned v w p) ∙ ap (λ (t : Bool). (eqb p.a.0 v && eqb p.b.0 w) || t) (pair_turned w v p)) in
+    fun_ext (λ (p : Pair). ap (λ (t : Bool). t || other p) (pair_turned v w p) ∙ ap (λ (t : Bool). (eqb p.a.0 v && eqb p.b.0 w) || t) (pair_turned w v p)) in
     ap (λ (t : Bool). t || list_any (is_pair w v) numbers) (h.same v w) ∙ ap (λ (t : Bool). list_any one thm.pairs || t) (h.same w v)
     ∙ any_or one other thm.pairs ∙ ap (λ (t : Pair → Bool). list_any t thm.pairs) test
 

@@ -34,6 +34,7 @@ no_items (v ∷ pre) w post e = cc
 -- the word that begins with b
 begun : (at b : ℕ) (bs : List ℕ) (ws : List Word) (pre : List Word) (w : Word) (post : List Word) → ws ≡ words_from (suc at) bs
     → ((q : List Word) (v : Word) (r : List Word) → ws ≡ q ++ v ∷ r → Behind (suc at) bs v r) → put_before at b ws ≡ pre ++ w ∷ post → Behind at (b ∷ bs) w post
+unfolding later
 begun at b bs [] [] w post e ih h =
     let is : word at (b ∷ []) ≡ w = head_is (word at (b ∷ [])) w [] post h in
     let one : at + 1 ≡ suc at = omega arith in
@@ -100,14 +101,14 @@ token_split true (v ∷ ws) front w rest h = one_before v ws w rest (token_split
 token_split false (v ∷ ws) front w rest h =
     elim (cases_Bool (is_open_comment v)) [
       | inl t ↦ one_before v ws w rest (token_split true ws front w rest (sym (cond_then (is_open_comment v) (tokens_where true ws) (v ∷ tokens_where false ws) t) ∙ h))
-      | inr t ↦ here front (sym (cond_else (is_open_comment v) (tokens_where true ws) (v ∷ tokens_where false ws) t) ∙ h)
+      | inr t ↦ here (λ (f : List Word) (e : tokens_where false ws ≡ f ++ w ∷ rest). token_split false ws f w rest e) front (sym (cond_else (is_open_comment v) (tokens_where true ws) (v ∷ tokens_where false ws) t) ∙ h)
     ]
   where
-    here : (front : List Word) → v ∷ tokens_where false ws ≡ front ++ w ∷ rest → Split (v ∷ ws) w rest
-    here [] h = record {
+    here : ((f : List Word) → tokens_where false ws ≡ f ++ w ∷ rest → Split ws w rest) → (front : List Word) → v ∷ tokens_where false ws ≡ front ++ w ∷ rest → Split (v ∷ ws) w rest
+    here ih [] h = record {
       pre = [];
       post = ws;
       whole = ap (λ (x : Word). x ∷ ws) (head_is v w (tokens_where false ws) rest h);
       tokens = sym (tail_is v w (tokens_where false ws) rest h);
     }
-    here (p ∷ front) h = one_before v ws w rest (token_split false ws front w rest (tail_is v p (tokens_where false ws) (front ++ w ∷ rest) h))
+    here ih (p ∷ front) h = one_before v ws w rest (ih front (tail_is v p (tokens_where false ws) (front ++ w ∷ rest) h))

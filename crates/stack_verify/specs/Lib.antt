@@ -2,6 +2,7 @@ pub mod Contexts
 pub mod Faults
 pub mod Founds
 pub mod Lookups
+pub mod Normals
 pub mod Pairs
 pub mod Proofs
 pub mod Stacked

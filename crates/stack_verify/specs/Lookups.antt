@@ -25,7 +25,7 @@ pub record IsIndexOf (hyps : List Hyp) (index : HypLabels) : Type 0 where
 pub record IsFound (frames : Frames) (theorem : Theorem) (label : List ℕ) (f : Found) : Type 0 where
   pub same : (st : State) → use_found theorem f st ≡ use_label frames theorem label st
 
--- and so for each label of a list
+-- and so for each label of a list; past its end it is what the empty label names
 pub record AreFound (frames : Frames) (theorem : Theorem) (labels : List (List ℕ)) (table : List Found) : Type 0 where
   pub count : length table ≡ length labels
   pub each : (k : ℕ) → k < length labels → IsFound frames theorem (slice_index_or labels k []) (slice_index_or table k found.Nothing)

@@ -1,12 +1,11 @@
 //! Whether a proof is accepted.
 
-ghost use Rattle.std.specs.Prelude.{◌≡◌, ℕ, ◌≤◌, List, length, IfOk, IfErr, OnOk};
+ghost use Rattle.std.specs.Prelude.{◌≡◌, ℕ, List, IfOk, IfErr, OnOk};
 ghost use Rattle.std.specs.Option.{option_copied};
 ghost use Rattle.mm_model.specs.Statements.{statements};
 ghost use Rattle.mm_frames.specs.Contents.{contents_of};
 ghost use Rattle.proof_model.specs.DatabaseProofs.{frames_of_database};
 ghost use Rattle.proof_model.specs.Machine.{Accepts, proof_fault};
-ghost use Rattle.proof_model.specs.ProofCode.{AreInRange};
 ghost use Rattle.stack_verify.specs.Faults.{IsFault};
 ghost use Rattle.stack_verify.specs.Lookups.{AreFound, IsFound, IsIndexOf};
 
@@ -60,14 +59,14 @@ fn find_labels<'f>(
 
 /// Whether a proof is accepted for a theorem, or its first fault. It takes one look-up for each label of the code, and
 /// then time in proportion to the symbols of the entries that the steps make, which are kept in one list; more than
-/// 2^31 hypotheses or steps count as want of memory.
+/// 2^31 hypotheses or steps count as want of memory. A number that no label has stands for the empty label, which no
+/// database has.
 pub fn verify(
     alloc: Global,
     frames: &Frames,
     theorem: &Theorem,
     code: &Code,
 ) -> Result<(), ProofFault>
-    requires { AreInRange (length theorem.now.mandatory) (length code.now.labels) 0 code.now.steps }
     ensures accepted { (text : List ℕ) → frames.now ≡ contents_of text → OnOk result (Accepts (frames_of_database (statements text)) theorem.now code.now) }
 
     // The fault is the first one, with what is told of it, unless memory runs out.
@@ -81,7 +80,15 @@ pub fn verify(
     let index = HypLabels::of(alloc, hyps)?;
     let mandatory = find_labels(alloc, frames, theorem, &index, theorem.mandatory.as_slice())?;
     let labels = find_labels(alloc, frames, theorem, &index, code.labels.as_slice())?;
-    run(alloc, theorem, mandatory.as_slice(), labels.as_slice(), steps)
+    let absent = find_label(frames, theorem, &index, &[]);
+    run(
+        alloc,
+        theorem,
+        absent,
+        mandatory.as_slice(),
+        labels.as_slice(),
+        steps,
+    )
 }
 
 /// The most hypotheses and the most steps.

@@ -2,7 +2,6 @@
 
 ghost use Rattle.std.specs.Prelude.{◌≡◌, ℕ, ◌+◌, ◌-◌, ◌≤◌, ◌<◌, ◌^◌, List, [], ◌++◌, ◌∷◌, length, OnOk, IfOk};
 ghost use Rattle.std.specs.Option.{option_copied};
-
 ghost use Rattle.proof_model.specs.Machine.{Frames};
 ghost use Rattle.stack_verify.specs.Lookups.{IsFound, IsIndexOf, look, place_of};
 

@@ -3,11 +3,13 @@
 #![tactic(auto)]
 
 mod accepting;
+mod coding;
 mod entries;
 mod fault;
 mod formula;
 mod found;
 mod known;
+mod normal;
 mod pairs;
 mod run;
 mod stack;
@@ -15,6 +17,10 @@ mod theorems;
 mod words;
 
 pub use accepting::verify;
+pub use coding::proof_code;
 pub use fault::ProofFault;
 pub use proof_model::Theorem;
 pub use theorems::theorem_of;
+
+#[cfg(test)]
+mod tests;

@@ -54,13 +54,7 @@ fn lesser(p: (Sym, Sym), other: Option<(Sym, Sym)>) -> (Sym, Sym)
 {
     match other {
         None => p,
-        Some(q) => {
-            if is_less(q, p) {
-                q
-            } else {
-                p
-            }
-        }
+        Some(q) => { if is_less(q, p) { q } else { p } }
     }
 }
 
@@ -103,7 +97,11 @@ fn put_variables(
     match find_float(hyps, symbol) {
         None => push_variables(out, known, &[symbol])?,
         Some(place) => {
-            push_variables(out, known, behind_typecode(formula_in(symbols, spans[place])))?;
+            push_variables(
+                out,
+                known,
+                behind_typecode(formula_in(symbols, spans[place])),
+            )?;
         }
     }
     Ok(())
@@ -161,7 +159,12 @@ fn first_failing(
     for pair in pairs {
         put_variables(&mut buffers.firsts, known, hyps, symbols, spans, pair.a)?;
         put_variables(&mut buffers.seconds, known, hyps, symbols, spans, pair.b)?;
-        let least = least_failing(known, rule, buffers.firsts.as_slice(), buffers.seconds.as_slice());
+        let least = least_failing(
+            known,
+            rule,
+            buffers.firsts.as_slice(),
+            buffers.seconds.as_slice(),
+        );
         if let Some(vw) = least {
             return Ok(Some((*pair, vw)));
         }

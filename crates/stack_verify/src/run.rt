@@ -56,36 +56,43 @@ fn use_found(
     }
 }
 
-/// The entry of a table; past its end nothing.
-fn found_at<'f>(table: &[Found<'f>], number: u32) -> Found<'f>
-    ensures { result ≡ slice_index_or table.now number Found.Nothing }
+/// The entry of a table, or what is absent past its end.
+fn found_at<'f>(table: &[Found<'f>], number: u32, absent: Found<'f>) -> Found<'f>
+    ensures { result ≡ slice_index_or table.now number absent.entry }
 {
     match table.get(number as usize) {
-        None => Found::Nothing,
+        None => absent,
         Some(found) => *found,
     }
 }
 
 /// Takes one step.
-fn use_step(
+fn use_step<'f>(
     stack: &mut Stack,
     buffers: &mut Buffers,
     theorem: &Theorem,
     known: &Known,
-    mandatory: &[Found],
-    labels: &[Found],
+    absent: Found<'f>,
+    mandatory: &[Found<'f>],
+    labels: &[Found<'f>],
     step: Step,
 ) -> Result<(), StepFault>
     requires known { IsKnown theorem.now known.now }
     requires sound { IsSound stack.old }
     ensures sound { OnOk result (IsSound stack.new) }
-    ensures used { OnOk result (use_found_step theorem.now mandatory.now labels.now step (state stack.old) ≡ Ok (state stack.new)) }
+    ensures used { OnOk result (use_found_step theorem.now absent.entry mandatory.now labels.now step (state stack.old) ≡ Ok (state stack.new)) }
     ensures grown { OnOk result (vec_len stack.new.entries ≤ vec_len stack.old.entries + 1) }
-    ensures fault { IfErr result (λ e. FailsWith e (use_found_step theorem.now mandatory.now labels.now step (state stack.old))) }
+    ensures fault { IfErr result (λ e. FailsWith e (use_found_step theorem.now absent.entry mandatory.now labels.now step (state stack.old))) }
 {
     match step.what {
-        What::Hyp(k) => use_found(stack, buffers, theorem, known, found_at(mandatory, k))?,
-        What::Listed(k) => use_found(stack, buffers, theorem, known, found_at(labels, k))?,
+        What::Hyp(k) => use_found(
+            stack,
+            buffers,
+            theorem,
+            known,
+            found_at(mandatory, k, absent),
+        )?,
+        What::Listed(k) => use_found(stack, buffers, theorem, known, found_at(labels, k, absent))?,
         What::Again(k) => stack.push_kept(k)?,
         What::Unknown => return Err(StepFault::Unknown),
     }
@@ -94,13 +101,14 @@ fn use_step(
 }
 
 /// Takes the steps in order.
-fn run_steps(
+fn run_steps<'f>(
     stack: &mut Stack,
     buffers: &mut Buffers,
     theorem: &Theorem,
     known: &Known,
-    mandatory: &[Found],
-    labels: &[Found],
+    absent: Found<'f>,
+    mandatory: &[Found<'f>],
+    labels: &[Found<'f>],
     steps: &[Step],
 ) -> Result<(), ProofFault>
     requires known { IsKnown theorem.now known.now }
@@ -108,11 +116,13 @@ fn run_steps(
     requires few { length steps.now < 2 ^ 32 }
     ensures sound { OnOk result (IsSound stack.new) }
     ensures grown { OnOk result (vec_len stack.new.entries ≤ vec_len stack.old.entries + length steps.now) }
-    ensures run { OnOk result (run_found theorem.now mandatory.now labels.now 0 steps.now (state stack.old) ≡ Ok (state stack.new)) }
-    ensures fault { IfErr result (λ e. RunFails e (run_found theorem.now mandatory.now labels.now 0 steps.now (state stack.old))) }
+    ensures run { OnOk result (run_found theorem.now absent.entry mandatory.now labels.now 0 steps.now (state stack.old) ≡ Ok (state stack.new)) }
+    ensures fault { IfErr result (λ e. RunFails e (run_found theorem.now absent.entry mandatory.now labels.now 0 steps.now (state stack.old))) }
 {
     for (number, step) in steps.iter().enumerate() {
-        let used = use_step(stack, buffers, theorem, known, mandatory, labels, *step);
+        let used = use_step(
+            stack, buffers, theorem, known, absent, mandatory, labels, *step,
+        );
         if let Err(fault) = used {
             return Err(at_step(number as u32, fault));
         }
@@ -140,20 +150,30 @@ fn check_end(stack: &Stack, theorem: &Theorem, steps: u32) -> Result<(), ProofFa
 }
 
 /// Runs a proof.
-pub(crate) fn run(
+pub(crate) fn run<'f>(
     alloc: Global,
     theorem: &Theorem,
-    mandatory: &[Found],
-    labels: &[Found],
+    absent: Found<'f>,
+    mandatory: &[Found<'f>],
+    labels: &[Found<'f>],
     steps: &[Step],
 ) -> Result<(), ProofFault>
     requires few { length steps.now < 2 ^ 32 }
-    ensures fine { OnOk result (found_fault theorem.now mandatory.now labels.now steps.now ≡ None) }
-    ensures fault { IfErr result (λ e. IsFault e (found_fault theorem.now mandatory.now labels.now steps.now)) }
+    ensures fine { OnOk result (found_fault theorem.now absent.entry mandatory.now labels.now steps.now ≡ None) }
+    ensures fault { IfErr result (λ e. IsFault e (found_fault theorem.now absent.entry mandatory.now labels.now steps.now)) }
 {
     let known = Known::new(alloc, theorem)?;
     let mut stack = Stack::new(alloc);
     let mut buffers = Buffers::new(alloc);
-    run_steps(&mut stack, &mut buffers, theorem, &known, mandatory, labels, steps)?;
+    run_steps(
+        &mut stack,
+        &mut buffers,
+        theorem,
+        &known,
+        absent,
+        mandatory,
+        labels,
+        steps,
+    )?;
     check_end(&stack, theorem, steps.len() as u32)
 }

@@ -140,7 +140,13 @@ impl Stack {
         let spans = behind(self.entries.as_slice(), below);
         check_entries(buffers, theorem, known, frame, symbols, spans)?;
         buffers.formula.clear();
-        push_substituted(&mut buffers.formula, hyps, symbols, spans, frame.formula.as_slice())?;
+        push_substituted(
+            &mut buffers.formula,
+            hyps,
+            symbols,
+            spans,
+            frame.formula.as_slice(),
+        )?;
         self.entries.truncate(below);
         self.push(buffers.formula.as_slice())?;
         Ok(())

@@ -13,7 +13,7 @@ use mm_frames::{Active, Frame, Frames, Hyp};
 use proof_model::Theorem;
 use std::alloc::{AllocError, Global};
 
-fn copy_name(alloc: Global, name: &[u8]) -> Result<Name, AllocError>
+pub(crate) fn copy_name(alloc: Global, name: &[u8]) -> Result<Name, AllocError>
     ensures { IfOk result (λ copy. copy ≡ name.now) }
 {
     Ok(List::from_vec(Vec::from_slice(alloc, name)?))

@@ -12,5 +12,5 @@ pub returns-in_ok-extend_from_slice-in-Some : goal.returns-in_ok-extend_from_sli
 returns-in_ok-extend_from_slice-in-Some c =
     c.in_ok-extend_from_slice-in-Some.ensures.items
     ∙ ap (λ (x : List Sym). c.args.out.now.items ++ x) (
-      c.behind_typecode.ensures ∙ ap (drop 1) c.formula_in.ensures
-      ∙ sym (stands_for c.args.hyps.now c.args.symbols.now c.args.spans.now c.args.symbol c.in-Some.place _ c.requires.each (sym c.find_float.ensures ∙ c.in-Some.is)))
+    c.behind_typecode.ensures ∙ ap (drop 1) c.formula_in.ensures
+    ∙ sym (stands_for c.args.hyps.now c.args.symbols.now c.args.spans.now c.args.symbol c.in-Some.place _ c.requires.each (sym c.find_float.ensures ∙ c.in-Some.is)))

@@ -13,5 +13,5 @@ pub returns-in_ok-push_variables-in-Some : goal.returns-in_ok-push_variables-in-
 returns-in_ok-push_variables-in-Some c =
     c.in_ok-push_variables-in-Some.ensures ∙ ap (λ (l : List Sym). l ++ variables_in c.args.known.now c.behind_typecode.result.now) c.clear.ensures.items
     ∙ ap (variables_in c.args.known.now) (
-      c.behind_typecode.ensures ∙ ap (drop 1) c.formula_in.ensures
-      ∙ sym (stands_for c.args.hyps.now c.args.symbols.now c.args.spans.now c.args.symbol c.in-Some.place _ c.requires.each (sym c.find_float.ensures ∙ c.in-Some.is)))
+    c.behind_typecode.ensures ∙ ap (drop 1) c.formula_in.ensures
+    ∙ sym (stands_for c.args.hyps.now c.args.symbols.now c.args.spans.now c.args.symbol c.in-Some.place _ c.requires.each (sym c.find_float.ensures ∙ c.in-Some.is)))

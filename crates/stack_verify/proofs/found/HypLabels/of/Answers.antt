@@ -7,5 +7,5 @@ pub loop-place-preserved : goal.loop-place-preserved
 loop-place-preserved c = record {
   count = omega (arith, c.in_ok-add.ensures.grown);
   index = index_more c.add.new.self c.args.hyps.now c.loop-place.place c.index-hyps-place.result c.loop-place-test.true c.index-hyps-place.is
-    (c.in_ok-add.ensures.added (take c.loop-place.place c.args.hyps.now) (length-take-le c.loop-place.place c.args.hyps.now (omega arith)) c.loop-place.invariant.index);
+      (c.in_ok-add.ensures.added (take c.loop-place.place c.args.hyps.now) (length-take-le c.loop-place.place c.args.hyps.now (omega arith)) c.loop-place.invariant.index);
 }
