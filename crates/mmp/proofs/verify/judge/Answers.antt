@@ -1,7 +1,6 @@
-use Rattle.std.proofs.Common.{length, refl, sym, subst}
+use Rattle.std.proofs.Common.{refl}
 use Rattle.mm_model.specs.Statements.{statements}
-use Rattle.proof_model.specs.declared.theorem.Theorem.{Theorem}
-use Rattle.proof_model.specs.ProofCode.{AreInRange}
+use Rattle.stack_verify.specs.Theorems.{labels_of_hyps}
 use Rattle.mmp.specs.Faults.{told}
 use Rattle.mmp.proofs.Verdicts.{said_code, said_machine, said_accepted, proof_at, code_told, no_statement_fault}
 use Rattle.mmp.proofs.verify.judge.Goals as goal
@@ -11,14 +10,7 @@ returns-in-Err-clause-verdict c =
     let t = c.in-Some.ensures.some c.args.text.now c.requires.contents in
     let p = proof_at (statements c.args.text.now) c.args.name.now c.in-Some.label t (c.if-not-has_proof.ensures refl c.args.text.now c.requires.contents) in
     said_code c.args.text.now c.args.name.now c.in-Some.label t (told c.in_ok-fault-in-Err.fault)
-    (code_told _ _ c.in-Err.fault (told c.in_ok-fault-in-Err.fault) (c.in-Err.ensures.fault t.frame t.words p) c.in_ok-fault-in-Err.ensures.told c.in_ok-fault-in-Err.ensures.fault)
-
-pub verify-requires : goal.verify-requires
-verify-requires c =
-    let t = c.in-Some.ensures.some c.args.text.now c.requires.contents in
-    let p = proof_at (statements c.args.text.now) c.args.name.now c.in-Some.label t (c.if-not-has_proof.ensures refl c.args.text.now c.requires.contents) in
-    let e = c.in_ok-theorem.ensures c.args.text.now t.frame c.requires.contents (no_statement_fault c.args.text.now c.requires.no_fault) t.frame_is in
-    subst (λ (h : Theorem). AreInRange (length h.mandatory) (length c.in-Ok.code.labels) 0 c.in-Ok.code.steps) (sym e) (c.in-Ok.ensures.in_range t.frame t.words p)
+    (code_told (labels_of_hyps t.frame.hyps) t.words c.in-Err.fault (told c.in_ok-fault-in-Err.fault) (c.in-Err.ensures.fault t.frame t.words p) c.in_ok-fault-in-Err.ensures.told c.in_ok-fault-in-Err.ensures.fault)
 
 pub returns-in-Ok-verify-clause-verdict : goal.returns-in-Ok-verify-clause-verdict
 returns-in-Ok-verify-clause-verdict c =
