@@ -1,4 +1,6 @@
 mod Outcome
 mod Parts
 mod Texts
+mod Theorems
+mod Verdicts
 mod Words

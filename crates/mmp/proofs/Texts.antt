@@ -10,8 +10,11 @@ use Rattle.written_model.specs.CommandWords.{UnifyCommand, VerifyCommand, Comman
 use Rattle.mmp.specs.Command.{Reads, database_of}
 use Rattle.mmp.specs.Unify.{IsAccepted, IsDatabaseRefusal, IsReadable, IsSheetRefusal, IsSheetAnswer, IsTextStatus}
 use Rattle.mmp.specs.Due.{IsDueFor, IsDueOn, IsDueSheet, MayAnswer}
-use Rattle.mmp.specs.Verify.{IsUnbuiltProof}
-use Rattle.mmp.specs.Opened.{Has, IsRefused, IsUnread, IsOpen}
+use Rattle.mmp.specs.Verify.{answer_to, IsVerified}
+use Rattle.written_model.specs.Verified.{Verdict, no_theorem, accepted, bad_code, refused}
+use Rattle.mmp.specs.Opened.{Has, IsRefused, IsUnread, IsOpen, IsListedText}
+use Rattle.mmp.specs.Listed.{IsListing}
+use Rattle.mm_frames.specs.Contents.{Contents}
 use Rattle.mmp.specs.OpenedSheet.{IsSheetRefused, IsOpenSheet}
 use Rattle.sheet_text.specs.declared.sheet.Sheet as sheets
 use Rattle.sheet_text.specs.Reads as reading
@@ -61,6 +64,22 @@ refused_text (Some files) name text answer is has refusal = record { status = is
 pub accepted_by : (database : List ℕ) → None ≡ database_fault database → IsAccepted database
 unfolding IsAccepted
 accepted_by database is = sym is
+
+pub no_fault_of : (database : List ℕ) → IsAccepted database → database_fault database ≡ None
+unfolding IsAccepted
+no_fault_of database is = is
+
+-- the text of a file is listed, as it was read
+pub listed_text : (told : Option Files) (name text read : List ℕ) (contents : Contents) → read ≡ text → Has told name text → IsListing read contents → IsListedText told name text contents
+listed_text told name text read contents e has is =
+    let listed : IsListing text contents = subst (λ (t : List ℕ). IsListing t contents) e is in
+    record { is_open = record { has = has; accepted = accepted_by text (sym listed.no_fault) }; contents_are = listed.contents_are }
+
+pub text_refused : (told : Option Files) (name text read : List ℕ) (answer : Answer) (f : Fault) → read ≡ text → Has told name text → database_fault read ≡ Some f → answer ≡ refusal Database (database_line f) → IsRefused told name answer
+text_refused told name text read answer f e has is says =
+    let fault_is : database_fault text ≡ Some f = subst (λ (t : List ℕ). database_fault t ≡ Some f) e is in
+    let refusal = refused_by text answer f (sym fault_is) says in
+    refused_text told name text answer (refusal_status text answer refusal) has refusal
 
 -- ---- statuses
 
@@ -201,13 +220,19 @@ may_answer_sheet command told before now database sheet (Ok answer) opened read 
 
 -- ---- theorems
 
-due_theorem : (command : VerifyCommand) (told : Option Files) (database : List ℕ) (answer : Answer) → IsUnbuiltProof answer → IfSome told (λ files. IsDueOn (verify command) files database answer)
+verdict_status : (theorem : List ℕ) (verdict : Verdict) → IsTextStatus (answer_to theorem verdict).status
+verdict_status theorem no_theorem = tt
+verdict_status theorem accepted = tt
+verdict_status theorem (bad_code f) = tt
+verdict_status theorem (refused f) = tt
+
+due_theorem : (command : VerifyCommand) (told : Option Files) (database : List ℕ) (answer : Answer) → IsVerified command.theorem database answer → IfSome told (λ files. IsDueOn (verify command) files database answer)
 due_theorem command None database answer is = tt
-due_theorem command (Some files) database answer is = inl is
+due_theorem command (Some files) database answer is = is
 
 pub may_answer_theorem : (command : VerifyCommand) (told : Option Files) (before now : List ℕ → ℕ) (database : List ℕ) (answer : Result Answer memory.Memory)
-    → IsOpen told command.database database → IfOk answer IsUnbuiltProof → IfOk answer (MayAnswer (verify command) told before now)
+    → IsOpen told command.database database → IfOk answer (IsVerified command.theorem database) → IfOk answer (MayAnswer (verify command) told before now)
 may_answer_theorem command told before now database (Err e) opened is = tt
 may_answer_theorem command told before now database (Ok answer) opened is =
-    may_answer (verify command) told before now database answer opened (subst (λ (a : Answer). IsTextStatus a.status) (sym is) tt)
+    may_answer (verify command) told before now database answer opened (subst (λ (a : Answer). IsTextStatus a.status) (sym is.says) (verdict_status command.theorem is.verdict))
     (due_theorem command told database answer is)

@@ -9,7 +9,7 @@ use Rattle.mmp.specs.Answer.{usage, read_fault}
 use Rattle.written_model.specs.CommandWords.{UnifyCommand, Command, unify, verify, command_of}
 use Rattle.mmp.specs.Command.{Reads, database_of}
 use Rattle.mmp.specs.Unify.{IsAccepted, IsDatabaseRefusal, IsReadable, IsSheetRefusal, IsUnified}
-use Rattle.mmp.specs.Verify.{IsUnbuiltProof, IsVerified}
+use Rattle.mmp.specs.Verify.{IsVerified}
 
 -- the answer to the text of the sheet over a database without a fault: a refusal, or what unifying it gives
 abbrev pub IsDueSheet : UnifyCommand → List ℕ → List ℕ → Answer → Type 0
@@ -18,7 +18,7 @@ IsDueSheet command database sheet answer = IsSheetRefusal sheet answer ⊎ (IsRe
 -- what is due over a database without a fault; where a file that is looked at is missing, nothing is
 abbrev pub IsDueOn : Command → Files → List ℕ → Answer → Type 0
 IsDueOn (unify command) files database answer = IsSomeAnd (files command.sheet) (λ sheet. IsDueSheet command database sheet answer)
-IsDueOn (verify command) files database answer = IsUnbuiltProof answer ⊎ IsVerified command.theorem database answer
+IsDueOn (verify command) files database answer = IsVerified command.theorem database answer
 
 -- the answer to the text of the database: a refusal, or what is due where it has no fault
 abbrev pub IsDueWith : Command → Files → List ℕ → Answer → Type 0

@@ -3,9 +3,11 @@ pub mod Command
 pub mod Due
 pub mod Faults
 pub mod Found
-pub mod Judged
+pub mod Listed
 pub mod Opened
 pub mod OpenedSheet
 pub mod Shown
+pub mod Theorems
 pub mod Unify
+pub mod Verdicts
 pub mod Verify

@@ -2,6 +2,7 @@
 use Rattle.std.specs.Prelude.{◌≡◌, ◌⊎◌, ℕ, List, Option, Some, IfSome, IsSomeAnd}
 use Rattle.mm_base.specs.Outside.{Files, Rose}
 use Rattle.mm_base.specs.declared.status.Status.TheVariants.{Database}
+use Rattle.mm_frames.specs.Contents.{Contents, contents_of}
 use Rattle.mmp.specs.declared.answer.Answer.{Answer}
 use Rattle.mmp.specs.declared.opening.Opened.{Opened}
 use Rattle.mmp.specs.declared.opening.Opened.TheVariants as opened
@@ -27,6 +28,11 @@ pub record IsOpen (told : Option Files) (name text : List ℕ) : Type 0 where
   pub has : Has told name text
   pub accepted : IsAccepted text
 
+-- these are its statements
+pub record IsListedText (told : Option Files) (name text : List ℕ) (contents : Contents) : Type 0 where
+  pub is_open : IsOpen told name text
+  pub contents_are : contents ≡ contents_of text
+
 abbrev pub IsOpened : Option Files → (List ℕ → ℕ) → (List ℕ → ℕ) → List ℕ → Opened → Type 0
-IsOpened told before now name (opened.Database text) = IsOpen told name text
+IsOpened told before now name (opened.Database text frames) = IsListedText told name text frames
 IsOpened told before now name (opened.Refused answer) = IsRefused told name answer ⊎ IsUnread before now name answer

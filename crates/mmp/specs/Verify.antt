@@ -1,5 +1,5 @@
 -- What the text of a database and a label give.
-use Rattle.std.specs.Prelude.{◌≡◌, ℕ, List, [], codes}
+use Rattle.std.specs.Prelude.{◌≡◌, ℕ, List, []}
 use Rattle.mm_base.specs.declared.status.Status.TheVariants.{Finished, Proof}
 use Rattle.mmp.specs.declared.answer.Answer.{Answer}
 use Rattle.mmp.specs.Answer.{line, refusal}
@@ -12,10 +12,6 @@ answer_to theorem no_theorem = refusal Proof (no_theorem_line theorem)
 answer_to theorem (bad_code f) = refusal Proof (code_line f)
 answer_to theorem (refused f) = refusal Proof (proof_line f)
 answer_to theorem accepted = record { status = Finished; out = line (accepted_line theorem); log = [] }
-
--- proofs are not handled yet
-abbrev pub IsUnbuiltProof : Answer → Type 0
-IsUnbuiltProof answer = answer ≡ refusal Proof (codes "proof error 91 NotBuilt at 0")
 
 -- the answer to a label over a database without a fault: what is said of it, as a line
 pub record IsVerified (theorem database : List ℕ) (answer : Answer) : Type 0 where

@@ -1,8 +1,8 @@
-//! The first fault of a database's text.
+//! The statements of a database's text, or its first fault.
 
-ghost use Rattle.std.specs.Prelude.{◌≡◌, ◌≤◌, ◌^◌, Option, Some, length, IfOk, IfSome, option_map};
+ghost use Rattle.std.specs.Prelude.{◌≡◌, ◌≤◌, ◌^◌, Option, Some, length, IfOk};
 ghost use Rattle.mm_model.specs.Faults.{Fault};
-ghost use Rattle.mm_model.specs.Statements.{database_fault};
+ghost use Rattle.mmp.specs.Listed.{IsListed};
 ghost use Rattle.mm_tokens.specs.Tokens.{IsFault as IsTokenFault};
 ghost use Rattle.mm_frames.specs.Faults.{IsFault as IsReadFault};
 ghost use Rattle.written_model.specs.FaultLines.{database_faults};
@@ -10,7 +10,7 @@ ghost use Rattle.mmp.specs.Faults.{told, IsNamed};
 
 use crate::fault::NamedFault;
 use mm_base::Memory;
-use mm_frames::{ReadFault, read};
+use mm_frames::{Frames, ReadFault, read};
 use mm_tokens::{TokenFault, tokens};
 use std::alloc::Global;
 
@@ -154,24 +154,30 @@ fn read_fault(fault: ReadFault) -> Result<NamedFault, Memory>
     }
 }
 
-/// The first fault of a database of at most 2^28 bytes, or none.
-pub fn find_fault(alloc: Global, text: &[u8]) -> Result<Option<NamedFault>, Memory>
+/// The statements of a text, or its first fault.
+#[derive(Drop)]
+pub enum Listed {
+    Frames(Frames),
+    Fault(NamedFault),
+}
+
+/// Lists the statements of a text of at most 2^28 bytes.
+pub fn list(alloc: Global, text: &[u8]) -> Result<Listed, Memory>
     requires { length text.now ≤ 2 ^ 28 }
-    ensures fault { IfOk result (λ found. option_map told found ≡ database_fault text.now) }
-    ensures named { IfOk result (λ found. IfSome found (IsNamed database_faults)) }
+    ensures { IfOk result (IsListed text.now) }
 {
     let tokens = match tokens(alloc, text) {
         Ok(tokens) => tokens,
         Err(fault) => {
             let fault = token_fault(fault)?;
-            return Ok(Some(fault));
+            return Ok(Listed::Fault(fault));
         }
     };
     match read(alloc, text, &tokens) {
-        Ok(_) => Ok(None),
+        Ok(frames) => Ok(Listed::Frames(frames)),
         Err(fault) => {
             let fault = read_fault(fault)?;
-            Ok(Some(fault))
+            Ok(Listed::Fault(fault))
         }
     }
 }

@@ -1,18 +1,18 @@
 //! Opening the file of a database.
 
-ghost use Rattle.std.specs.Prelude.{◌≡◌, ◌≤◌, ◌^◌, length, IfOk};
+ghost use Rattle.std.specs.Prelude.{◌≡◌, IfOk};
 ghost use Rattle.mm_base.specs.Outside.{NoneFell};
 ghost use Rattle.mmp.specs.Answer.{refusal};
 ghost use Rattle.mmp.specs.Faults.{told, IsNamed};
-ghost use Rattle.mmp.specs.Judged.{IsJudged};
 ghost use Rattle.mmp.specs.Opened.{IsOpened};
 ghost use Rattle.written_model.specs.FaultLines.{database_faults, database_line};
 
 use crate::answer::{Answer, refuse, refuse_read};
-use crate::database::find_fault;
+use crate::database::{Listed, list};
 use crate::fault::{NamedFault, database_line as line_of};
 use crate::files::{Found, read_file};
 use mm_base::{Bytes, MOST_DATABASE_BYTES, Memory, Status, Store};
+use mm_frames::Frames;
 use std::alloc::Global;
 
 const TOO_BIG: NamedFault = NamedFault {
@@ -21,10 +21,10 @@ const TOO_BIG: NamedFault = NamedFault {
     place: 1 << 28,
 };
 
-/// The text of a database without a fault, or the answer that refuses the file.
+/// The text of a database without a fault and its statements, or the answer that refuses the file.
 #[derive(Drop)]
 pub enum Opened {
-    Database(Bytes),
+    Database(Bytes, Frames),
     Refused(Answer),
 }
 
@@ -35,20 +35,6 @@ fn refuse_database(alloc: Global, fault: NamedFault) -> Result<Answer, Memory>
 {
     let line = line_of(alloc, fault)?;
     refuse(alloc, Status::Database, line.as_str())
-}
-
-// The answer that refuses a text of at most 2^28 bytes, where it has a fault.
-fn judge(alloc: Global, text: &[u8]) -> Result<Option<Answer>, Memory>
-    requires { length text.now ≤ 2 ^ 28 }
-    ensures { IfOk result (IsJudged text.now) }
-{
-    match find_fault(alloc, text)? {
-        Some(fault) => {
-            let answer = refuse_database(alloc, fault)?;
-            Ok(Some(answer))
-        }
-        None => Ok(None),
-    }
 }
 
 /// Reads and judges a database.
@@ -68,8 +54,11 @@ pub fn open<S: Store>(alloc: Global, store: &mut S, name: &str) -> Result<Opened
             return Ok(Opened::Refused(answer));
         }
     };
-    match judge(alloc, text.as_slice())? {
-        Some(answer) => Ok(Opened::Refused(answer)),
-        None => Ok(Opened::Database(text)),
+    match list(alloc, text.as_slice())? {
+        Listed::Frames(frames) => Ok(Opened::Database(text, frames)),
+        Listed::Fault(fault) => {
+            let answer = refuse_database(alloc, fault)?;
+            Ok(Opened::Refused(answer))
+        }
     }
 }

@@ -28,7 +28,7 @@ fn answer_unify<S: Store>(
     ensures same_files { S.told store.new ≡ S.told store.old }
 {
     let database = match open(alloc, store, database)? {
-        Opened::Database(text) => text,
+        Opened::Database(text, _) => text,
         Opened::Refused(answer) => return Ok(answer),
     };
     match open_sheet(alloc, store, sheet)? {
@@ -48,7 +48,7 @@ fn answer_verify<S: Store>(
     ensures same_files { S.told store.new ≡ S.told store.old }
 {
     match open(alloc, store, database)? {
-        Opened::Database(text) => answer_theorem(alloc, text.as_slice(), theorem),
+        Opened::Database(text, frames) => answer_theorem(alloc, text.as_slice(), &frames, theorem),
         Opened::Refused(answer) => Ok(answer),
     }
 }

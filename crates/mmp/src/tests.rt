@@ -48,6 +48,17 @@ th1 $p |- t = t $=\n\
   tt tze tpl tt tt a1 mp mp $.\n\
 ";
 
+// Theorems over P, with a right proof and with wrong ones.
+const THEOREMS: &str = "\
+good $p |- ( ph -> ( ps -> ph ) ) $= ( ax-1 ) ABC $.\n\
+bad $p |- ( ph -> ( ps -> ph ) ) $= ( ) ZA $.\n\
+wrong $p |- ( ph -> ( ph -> ph ) ) $= wph wps ax-1 $.\n\
+open $p |- ph $= ? $.\n\
+empty $p |- ph $= $.\n\
+late $p |- ( ph -> ( ps -> ph ) ) $= wph wps last $.\n\
+last $p |- ( ph -> ( ps -> ph ) ) $= $( the same $) wph wps ax-1 $.\n\
+";
+
 // The text of its production has the variables in another order than its frame. One assertion has no tree.
 const TURNED: &str = "$c # wff |- $. $v x y $. wx $f wff x $. wy $f wff y $.
 pair $a wff # y x $. ${ e $e |- # x y $. turn $a |- # y x $. $} odd $a |- x y $.
@@ -323,6 +334,78 @@ const UNBUILT_DATABASES: [&str; 7] = [
     "$c wff a $. $v x $. wx $f wff x $. e $a wff a x x $.",
 ];
 
+// A theorem, and what is said of its proof.
+#[derive(Clone, Copy)]
+struct Verified {
+    theorem: &'static str,
+    status: Status,
+    out: &'static str,
+    log: &'static str,
+}
+
+const VERIFIED: [Verified; 10] = [
+    Verified {
+        theorem: "good",
+        status: Status::Finished,
+        out: "good accepted\n",
+        log: "",
+    },
+    Verified {
+        theorem: "bad",
+        status: Status::Proof,
+        out: "",
+        log: "code error 3 MarkAtStart at 0\n",
+    },
+    Verified {
+        theorem: "wrong",
+        status: Status::Proof,
+        out: "",
+        log: "proof error 8 ResultDiffers at 3\n",
+    },
+    Verified {
+        theorem: "open",
+        status: Status::Proof,
+        out: "",
+        log: "proof error 9 Unknown at 0\n",
+    },
+    Verified {
+        theorem: "empty",
+        status: Status::Proof,
+        out: "",
+        log: "proof error 7 LeftOver at 0\n",
+    },
+    Verified {
+        theorem: "late",
+        status: Status::Proof,
+        out: "",
+        log: "proof error 6 NotEarlier at 2\n",
+    },
+    Verified {
+        theorem: "last",
+        status: Status::Finished,
+        out: "last accepted\n",
+        log: "",
+    },
+    Verified {
+        theorem: "ax-1",
+        status: Status::Proof,
+        out: "",
+        log: "no theorem ax-1\n",
+    },
+    Verified {
+        theorem: "wph",
+        status: Status::Proof,
+        out: "",
+        log: "no theorem wph\n",
+    },
+    Verified {
+        theorem: "nosuch",
+        status: Status::Proof,
+        out: "",
+        log: "no theorem nosuch\n",
+    },
+];
+
 const NO_SHEET: &str = "sheet error 91 NotBuilt at line 1\n";
 
 const USAGE: &str = "usage: mmp unify [--proof=normal|compressed] DB SHEET | mmp verify DB LABEL\n";
@@ -483,19 +566,32 @@ fn check_refusals(rt: &impl Abort, alloc: Global, sheet: &[u8]) -> Result<(), Fa
     check_refused(rt, alloc, honest(DEMO0, &long), Status::Sheet, line)
 }
 
-// Words that fit no command, and `verify`.
+// What is said of the theorems over P, and of one of another database; and words that fit no command.
 fn check_words(rt: &impl Abort, alloc: Global) -> Result<(), Fail> {
-    let unbuilt = (
-        Status::Proof,
-        b"".as_slice(),
-        "proof error 91 NotBuilt at 0\n",
-    );
+    let database = joined(alloc, &[P, THEOREMS])?;
+    for row in VERIFIED {
+        let words = ["verify", "P.mm", row.theorem];
+        let outside = Outside {
+            database: database.as_slice(),
+            // the one read of a call
+            store_fails: &[2],
+            ..honest(P, b"")
+        };
+        check(
+            rt,
+            alloc,
+            &words,
+            outside,
+            (row.status, row.out.as_bytes(), row.log),
+        )?;
+    }
+    let accepted = (Status::Finished, b"th1 accepted\n".as_slice(), "");
     check(
         rt,
         alloc,
         &["verify", "P.mm", "th1"],
         honest(DEMO0, b""),
-        unbuilt,
+        accepted,
     )?;
     for words in WRONG_WORDS {
         let outside = Outside {

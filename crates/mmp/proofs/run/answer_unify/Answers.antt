@@ -6,12 +6,12 @@ returns-in-Refused-clause-answer g c = may_refuse _ _ _ _ c.in-Refused.answer (r
 
 pub returns-in-Sheet-clause-answer : goal.returns-in-Sheet-clause-answer
 returns-in-Sheet-clause-answer g c =
-    let opened = rw c.in-Database.is at c.in_ok-text.ensures.opened in
+    let listed = rw c.in-Database.is at c.in_ok-text.ensures.opened in
     let sheet = rw (c.in-Sheet.is, c.in_ok-text.ensures.same_files) at c.in_ok-sheet.ensures.opened in
-    may_answer_sheet _ _ _ _ c.in-Database.text c.in-Sheet.sheet c.answer_sheet.result opened sheet c.answer_sheet.ensures.answer c.answer_sheet.ensures.status
+    may_answer_sheet _ _ _ _ c.in-Database.text c.in-Sheet.sheet c.answer_sheet.result listed.is_open sheet c.answer_sheet.ensures.answer c.answer_sheet.ensures.status
 
 pub returns-clause-answer : goal.returns-clause-answer
 returns-clause-answer g c =
-    let opened = rw c.in-Database.is at c.in_ok-text.ensures.opened in
+    let listed = rw c.in-Database.is at c.in_ok-text.ensures.opened in
     let refused = rw (c.in-Refused-2.is, c.in_ok-text.ensures.same_files) at c.in_ok-sheet.ensures.opened in
-    may_refuse_sheet _ _ _ _ _ c.in-Database.text c.in-Refused-2.answer opened c.in_ok-text.ensures.read_faults refused
+    may_refuse_sheet _ _ _ _ _ c.in-Database.text c.in-Refused-2.answer listed.is_open c.in_ok-text.ensures.read_faults refused
