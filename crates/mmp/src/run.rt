@@ -96,10 +96,11 @@ pub fn answer_words<S: Store>(
 /// `out` and one to `log`, each made whole before anything is written.
 ///
 /// # Statuses
-/// `Finished` and `Unfinished`: the worksheet is in `out` and the report in `log`. `Database` and `Sheet`: the file is
-/// refused, by one line in `log`. `Words`: the words fit no command, and `log` has the usage line. `Read`: a file could not
-/// be read, and `log` names it. `Write`: a sink failed; nothing is in `log` unless `out` is whole. `Memory`: memory ran
-/// out, and nothing was written.
+/// For `unify` `Finished` and `Unfinished`: the worksheet is in `out` and the report in `log`. For `verify` `Finished`: the
+/// proof is accepted, as one line in `out` says; `Proof`: there is no such theorem or its proof is refused, by one line in
+/// `log`. `Database` and `Sheet`: the file is refused, by one line in `log`. `Words`: the words fit no command, and `log` has
+/// the usage line. `Read`: a file could not be read, and `log` names it. `Write`: a sink failed; nothing is in `log` unless
+/// `out` is whole. `Memory`: memory ran out, and nothing was written.
 pub fn run<S: Store, O: Sink, L: Sink>(
     alloc: Global,
     words: &[String],
