@@ -21,6 +21,7 @@ keys_same k h n e =
     let a : k.0 ≡ h = eqb-true k.0 h both.0 in
     let b : k.1 ≡ n = eqb-true k.1 n both.1 in
     ap (λ x. pair x k.1) a ∙ ap (λ y. pair h y) b
+
 -- the list at a key is taken out, and put back with one more
 pub heads_turn : (f m g : ℕ × ℕ → Option (List Label)) (k : ℕ × ℕ) (labels : List Label) (l : Label) → labels ≡ unwrap_or (f k) []
     → ((q : ℕ × ℕ) → m q ≡ cond (same_key k q) None (f q)) → ((q : ℕ × ℕ) → g q ≡ cond (same_key k q) (Some (labels ++ l ∷ [])) (m q))

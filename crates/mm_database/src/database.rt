@@ -88,12 +88,7 @@ fn kind_codes(frames: &Frames, kinds: &Kinds) -> KindCodes
 }
 
 /// The productions that are kept.
-fn grammar_of(
-    alloc: Global,
-    text: &[u8],
-    frames: &Frames,
-    kinds: &Kinds,
-) -> Result<Grammar, Memory>
+fn grammar_of(alloc: Global, text: &[u8], frames: &Frames, kinds: &Kinds) -> Result<Grammar, Memory>
     requires contents { frames.now ≡ contents_of text.now }
     requires no_fault { database_fault text.now ≡ None }
     ensures { IfOk result (λ g. g ≡ kept_rows kinds.now.provable (statements text.now)) }
@@ -145,13 +140,7 @@ fn open_frames(
     has_few_statements(&frames);
     let grammar = grammar_of(alloc, text, &frames, kinds)?;
     let codes = kind_codes(&frames, kinds);
-    let parsed = parse_all(
-        alloc,
-        &grammar,
-        frames.constants(),
-        codes,
-        frames.frames(),
-    )?;
+    let parsed = parse_all(alloc, &grammar, frames.constants(), codes, frames.frames())?;
     let heads = Heads::of(alloc, &parsed)?;
     Ok(Database {
         frames,

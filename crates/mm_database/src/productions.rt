@@ -127,11 +127,7 @@ fn with_text(
 }
 
 /// The production that a frame gives, where this is the provable typecode; none where it gives none.
-fn production_of(
-    alloc: Global,
-    provable: Sym,
-    frame: &Frame,
-) -> Result<Option<Production>, Memory>
+fn production_of(alloc: Global, provable: Sym, frame: &Frame) -> Result<Option<Production>, Memory>
     ensures { IfOk result (λ row. row ≡ model.row_of_frame provable frame.now) }
 {
     if !is_syntax(provable, frame) {
@@ -144,11 +140,7 @@ fn production_of(
 }
 
 /// The production of a label; none where it has none.
-fn row_in(
-    alloc: Global,
-    provable: Sym,
-    entry: &Option<Frame>,
-) -> Result<Option<Production>, Memory>
+fn row_in(alloc: Global, provable: Sym, entry: &Option<Frame>) -> Result<Option<Production>, Memory>
     ensures { IfOk result (λ row. row ≡ spec.row_in provable entry.now) }
 {
     match entry {
