@@ -19,8 +19,10 @@ any $a |- ph $.
 ";
 
 fn opened(alloc: Global, text: &[u8]) -> Result<Database, DbFault> {
-    let (Ok(provable), Ok(logic)) = (Vec::from_slice(alloc, b"|-"), Vec::from_slice(alloc, b"wff"))
-    else {
+    let (Ok(provable), Ok(logic)) = (
+        Vec::from_slice(alloc, b"|-"),
+        Vec::from_slice(alloc, b"wff"),
+    ) else {
         return Err(DbFault::Memory);
     };
     if text.len() > 1_000_000 {
@@ -90,7 +92,8 @@ fn has_line(alloc: Global, fault: &DbFault) -> bool {
     match fault {
         DbFault::Read(ReadFault::Redeclared(byte)) => {
             match db_fault_line(alloc, &DbFault::Read(ReadFault::Redeclared(*byte))) {
-                Ok(line) => line.as_slice() == b"database error 12 Redeclared at byte 13".as_slice(),
+                Ok(line) => line.as_slice()
+                    == b"database error 12 Redeclared at byte 13".as_slice(),
                 Err(_) => false,
             }
         }
