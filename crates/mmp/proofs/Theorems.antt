@@ -77,9 +77,11 @@ no_words ss l (Some p) f e h =
 has_words : (ss : List Statement) (l : Label) (o : Option (ℕ × Statement)) (f : Frame) → frame_by ss l o ≡ Some f → f.is_axiom ≡ false → (words : List Name) × (words_by o ≡ Some words)
 unfolding frame_by
 has_words ss l None f e h = let clash : None ≡ Some f = e in cc
-has_words ss l (Some p) f e h =
-    (proof_words p.1, subst (λ (b : Bool). cond b (Some (proof_words p.1)) None ≡ Some (proof_words p.1)) (sym (provable p.1))
-    (some_by (is_assertion p.1) (has_keyword (codes "$a") p.1) (frame_at ss l p.0 p.1) (proof_words p.1) f refl e h))
+has_words ss l (Some p) f e h = (
+  proof_words p.1,
+  subst (λ (b : Bool). cond b (Some (proof_words p.1)) None ≡ Some (proof_words p.1)) (sym (provable p.1))
+      (some_by (is_assertion p.1) (has_keyword (codes "$a") p.1) (frame_at ss l p.0 p.1) (proof_words p.1) f refl e h),
+)
 
 -- ---- theorems by name
 

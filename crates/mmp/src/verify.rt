@@ -83,13 +83,7 @@ fn find_theorem(frames: &Frames, name: &[u8]) -> Option<Label>
     };
     match frames.frame(label) {
         None => None,
-        Some(frame) => {
-            if frame.is_axiom {
-                None
-            } else {
-                Some(label)
-            }
-        }
+        Some(frame) => { if frame.is_axiom { None } else { Some(label) } }
     }
 }
 
