@@ -49,7 +49,7 @@ def main():
             if done.returncode != 0 or done.stdout.decode() != f"{label} accepted\n":
                 refused.append((label, done.returncode, done.stderr.decode().strip()))
         here, peer = measure(program, path, labels[:10])
-        ratio = f"{here / peer:.2f} of the peer" if peer else "peer not there"
+        ratio = f"{here / peer:.2f} of the peer" if peer else "nothing to compare"
         print(f"{name}: {len(labels)} of {len(every)} labels, {len(refused)} not accepted, {total:.1f} s, {ratio}", flush=True)
         for row in refused[:5]:
             print("   ", *row)
