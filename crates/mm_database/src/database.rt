@@ -49,8 +49,12 @@ impl Model for Database {
     ghost invariant = { λ d. AreHeads d.parsed.items d.heads };
 }
 
-/// The statements of a text, or its first fault.
-fn read_text(alloc: Global, text: &[u8]) -> Result<Frames, DbFault>
+/// Reads the statements of a database of at most 2^28 bytes. It takes one pass over the text, and memory in proportion
+/// to it.
+///
+/// Fails with the first fault of the text, that of its tokens first and then that of its statements, and where memory
+/// runs out.
+pub fn read_frames(alloc: Global, text: &[u8]) -> Result<Frames, DbFault>
     requires { length text.now ≤ 2 ^ 28 }
     ensures contents { IfOk result (λ frames. frames ≡ contents_of text.now) }
     ensures no_fault { OnOk result (database_fault text.now ≡ None) }
@@ -126,8 +130,12 @@ fn has_few_statements(frames: &Frames)
     let _ = frames.end();
 }
 
-/// The database of the statements of a text, which is `text`.
-fn open_frames(
+/// The database of the statements of a text, as `read_frames` reads them, where these are the names of the two typecodes
+/// that have a meaning. The text is there for the contract alone. It takes the time to parse the formulas of the
+/// assertions, and memory in proportion to the text.
+///
+/// Fails where memory runs out.
+pub fn open_frames(
     alloc: Global,
     text: &[u8],
     frames: Frames,
@@ -162,7 +170,7 @@ pub fn open_database(alloc: Global, text: &[u8], kinds: &Kinds) -> Result<Databa
     ensures fault { IfErr result (λ e. IsDbFault e (database_fault text.now)) }
     ensures memory { IfErr result (λ e. IsTold e) }
 {
-    let frames = read_text(alloc, text)?;
+    let frames = read_frames(alloc, text)?;
     match open_frames(alloc, text, frames, kinds) {
         Ok(database) => Ok(database),
         Err(_) => Err(DbFault::Memory),
