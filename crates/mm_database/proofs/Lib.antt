@@ -1,3 +1,4 @@
+mod ByHead
 mod Constants
 mod Floats
 mod HeadLaws

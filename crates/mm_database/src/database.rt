@@ -181,7 +181,7 @@ impl Database {
     ghost use Rattle.std.specs.Prelude.{◌≡◌, IsSome, Some, is_some, length};
     ghost use Rattle.mm_database.specs.declared.assertions.Parsed.{Parsed};
     ghost use Rattle.mm_database.specs.Books.{parsed_at};
-    ghost use Rattle.mm_database.specs.HeadKeys.{by_head};
+    ghost use Rattle.mm_database.specs.ByHead.{by_head};
     ghost use Rattle.mm_database.specs.Opened.{labels_before};
 
     /// Its symbols, labels and statements.
