@@ -1,5 +1,5 @@
 -- The keys by which an index of heads has its labels.
-use Rattle.std.specs.Prelude.{ℕ, suc, ◌+◌, ◌&&◌, Bool, true, false, List, [], ◌∷◌, length, nat_eq, if◌then◌else◌, Option, Some, None, option_map}
+use Rattle.std.specs.Prelude.{ℕ, suc, ◌+◌, ◌&&◌, Bool, false, List, [], ◌∷◌, length, nat_eq, if◌then◌else◌, Option, Some, None, option_map}
 use Rattle.mm_base.specs.declared.symbols.Label.{Label}
 use Rattle.mm_base.specs.declared.tree.Tree.{Tree, out-Tree}
 use Rattle.mm_base.specs.declared.tree.Tree.TheOpen.{Tree-F}
