@@ -1,9 +1,9 @@
 -- Where constants are declared, by the numbers of their `$c`.
-use Rattle.std.specs.Prelude.{◌≡◌, ◌<◌, ◌≤◌, ◌+◌, ◌^◌, ◌-◌, ◌++◌, ◌&&◌, ◌||◌, ℕ, zero, suc, Bool, true, false, not, List, [], ◌∷◌, length, take, map, filter, reverse, position, slice_get, slice_index_or, nat_lt, unwrap_or, Option, Some, None, option_map, codes, refl}
-use Rattle.std.specs.List.{list_any, flat_map, prefix_len}
+use Rattle.std.specs.Prelude.{◌≡◌, ◌<◌, ◌≤◌, ◌^◌, ◌-◌, ◌++◌, ◌&&◌, ◌||◌, ℕ, zero, suc, Bool, true, false, List, [], ◌∷◌, length, take, filter, reverse, nat_lt, option_map, codes, refl}
+use Rattle.std.specs.List.{list_any, flat_map}
 use Rattle.std.specs.Option.{option_map_or}
 use Rattle.std.specs.Str.{bytes_eq}
-use Rattle.std.proofs.Common.{arith, sym, ap, ◌∙◌, subst, cond, get_or, inl, inr, ◌⊎◌, ◌==◌}
+use Rattle.std.proofs.Common.{arith, sym, ap, ◌∙◌, cond, get_or, inl, inr, ◌⊎◌, ◌==◌}
 use Rattle.std.proofs.lemmas.Bool.{cases_lt, eqb-true, eq-eqb}
 use Rattle.std.proofs.lemmas.Bool.Decides.{nat_tests}
 use Rattle.std.proofs.lemmas.Grind.{reverse_onto}

@@ -1,6 +1,6 @@
 -- Hypotheses that are all `$f`.
-use Rattle.std.specs.Prelude.{◌≡◌, ◌&&◌, Bool, true, false, not, List, [], ◌∷◌, filter, refl}
-use Rattle.std.proofs.Common.{ap, cond}
+use Rattle.std.specs.Prelude.{◌≡◌, ◌&&◌, Bool, true, false, not, List, [], ◌∷◌, refl}
+use Rattle.std.proofs.Common.{cond}
 use Rattle.mm_model.specs.declared.frames.Hyp.{Hyp}
 use Rattle.mm_model.specs.Statements.{is_empty}
 use Rattle.mm_model.specs.Productions.{essentials}

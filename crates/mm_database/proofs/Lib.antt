@@ -1,8 +1,12 @@
+mod ByHead
+mod ByHeadExamples
 mod Constants
+mod Counts
 mod Floats
 mod HeadLaws
 mod Lists
 mod Named
+mod Opening
 mod Repeats
 mod Syntax
 mod Typed

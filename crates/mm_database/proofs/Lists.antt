@@ -1,7 +1,7 @@
 -- Lists that are made element by element.
 use Rattle.std.specs.Prelude.{◌≡◌, ◌<◌, ◌≤◌, ◌+◌, ◌++◌, ℕ, suc, List, [], ◌∷◌, length, take, map, Option, Some, None, refl}
 use Rattle.std.specs.List.{filter_map, cons_option}
-use Rattle.std.proofs.Common.{arith, sym, ap, ◌∙◌, append-nil, get_or}
+use Rattle.std.proofs.Common.{arith, ap, ◌∙◌, append-nil, get_or}
 use Rattle.std.proofs.lemmas.List.{take_more}
 use Rattle.std.proofs.lemmas.List.Elements.{filter_map-append}
 

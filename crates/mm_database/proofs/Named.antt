@@ -1,6 +1,6 @@
 -- Symbols by name, and the rows of frames.
-use Rattle.std.specs.Prelude.{◌≡◌, ◌≤◌, ◌<◌, ◌++◌, ℕ, not, Bool, true, false, List, [], ◌∷◌, length, map, position, nat_lt, Option, Some, None, option_map, option_and_then, refl}
-use Rattle.std.specs.List.{prefix_len, position_or_len, filter_map, cons_option}
+use Rattle.std.specs.Prelude.{◌≡◌, ℕ, not, Bool, true, false, List, [], ◌∷◌, length, map, position, nat_lt, Option, Some, None, option_map, option_and_then, refl}
+use Rattle.std.specs.List.{position_or_len, filter_map, cons_option}
 use Rattle.std.proofs.Common.{arith, sym, ap, ◌∙◌, cond, inl, inr}
 use Rattle.std.proofs.lemmas.Bool.{cases_lt, lt-ltb}
 use Rattle.std.proofs.lemmas.List.Sums.{prefix_len-le-length}

@@ -1,5 +1,5 @@
 -- Slots that stand in a text twice.
-use Rattle.std.specs.Prelude.{◌≡◌, ◌≤◌, ◌-◌, ◌==◌, ◌||◌, ℕ, Bool, true, false, List, [], ◌∷◌, length, take, drop, nat_eq, refl}
+use Rattle.std.specs.Prelude.{◌≡◌, ◌≤◌, ◌-◌, ◌==◌, ◌||◌, ℕ, true, false, List, [], ◌∷◌, length, take, drop, nat_eq, refl}
 use Rattle.std.specs.List.{list_any}
 use Rattle.std.proofs.Common.{arith, sym, ap, ◌∙◌, get_or, cond}
 use Rattle.std.proofs.lemmas.List.{take_all}

@@ -1,6 +1,6 @@
 -- The variables of a frame, as the definitions have them.
 use Rattle.std.specs.Prelude.{◌≡◌, ◌==◌, ◌+◌, ◌++◌, not, nat_lt, length, option_and_then, ℕ, suc, Bool, true, false, List, [], ◌∷◌, map, find, position, Option, Some, None, option_map, refl}
-use Rattle.std.specs.List.{filter_map, flat_map, cons_option, prefix_len}
+use Rattle.std.specs.List.{flat_map, cons_option, prefix_len}
 use Rattle.std.proofs.Common.{sym, ap, ◌∙◌, cond}
 use Rattle.mm_base.specs.declared.symbols.Sym.{Sym}
 use Rattle.mm_base.specs.declared.symbols.Typecode.{Typecode}
@@ -13,8 +13,8 @@ use Rattle.mm_model.specs.Rows.{slot_order}
 use Rattle.mm_model.specs.Productions.{TypedVariable, typed_by, typed_variables, floats, row_of_frame, row_with, is_syntax, has_repeats}
 use Rattle.mm_model.specs.Productions as model
 use Rattle.mm_database.specs.declared.variables.FrameVariable.{FrameVariable}
-use Rattle.mm_database.specs.Variables.{frame_variables, variable_of, second_typed}
-use Rattle.mm_database.specs.Productions.{item_of, item_at, with_text, with_items}
+use Rattle.mm_database.specs.Variables.{frame_variables, second_typed}
+use Rattle.mm_database.specs.Productions.{item_of, item_at, with_text}
 
 abbrev pub typed_as : FrameVariable → TypedVariable
 typed_as v = record { sym = v.sym; code = v.code }

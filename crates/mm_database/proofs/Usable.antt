@@ -1,38 +1,35 @@
 -- What is kept of a text is the database of the definitions.
-use Rattle.std.specs.Prelude.{◌≡◌, ◌<◌, ◌≤◌, ◌+◌, ◌^◌, ◌-◌, ◌==◌, ◌&&◌, ℕ, Bool, true, false, nat_le, List, [], ◌∷◌, length, map, drop, find, slice_get, Option, Some, None, option_map, option_and_then, refl}
+use Rattle.std.specs.Prelude.{◌≡◌, ◌<◌, ◌≤◌, ◌+◌, ◌^◌, ◌-◌, ◌==◌, ℕ, true, nat_le, List, [], ◌∷◌, length, map, drop, find, slice_get, Option, Some, None, option_map, option_and_then, refl}
 use Rattle.std.specs.List.{AllZip, AllByRecursion, filter_map, cons_option, range_with_len}
-use Rattle.std.proofs.Common.{arith, sym, ap, ◌∙◌, subst, cond, get_or}
+use Rattle.std.proofs.Common.{arith, sym, ap, ◌∙◌, subst, cond}
 use Rattle.std.proofs.lemmas.Bool.{and_parts, and_from, eqb-true, eq-eqb, leb-true, le-leb}
 use Rattle.std.proofs.lemmas.Option.{slice_get-get_or, slice_get_within}
 use Rattle.std.proofs.lemmas.List.FromFn.{get_or-map-range_with_len, length-map-range_with_len}
 use Rattle.mm_base.specs.declared.symbols.Sym.{Sym}
 use Rattle.mm_base.specs.declared.symbols.Label.{Label}
-use Rattle.mm_base.specs.declared.symbols.Typecode.{Typecode}
 use Rattle.mm_base.specs.declared.tree.Tree.{Tree}
 use Rattle.mm_base.specs.declared.kinds.Kinds.{Kinds}
 use Rattle.mm_model.specs.declared.frames.Hyp.{Hyp}
 use Rattle.mm_model.specs.declared.frames.Frame.{Frame}
-use Rattle.mm_model.specs.declared.rows.Leaf.{Leaf}
 use Rattle.mm_model.specs.declared.rows.Leaf.TheVariants as leaf
 use Rattle.mm_model.specs.declared.rows.Production.{Production}
 use Rattle.mm_model.specs.Names.{label}
 use Rattle.mm_model.specs.Statements.{Statement, statements, labels, database_fault}
-use Rattle.mm_model.specs.Frames.{symbols, end_of, frame_of, is_constant_at}
+use Rattle.mm_model.specs.Frames.{symbols, frame_of, is_constant_at}
 use Rattle.mm_model.specs.Productions.{TypedVariable, typed_variables, essentials, kept_rows}
-use Rattle.mm_model.specs.Typed.{Parses}
-use Rattle.mm_model.specs.Book.{Database, Assertion, float_of, expression_at, IsTheTreeAt, IsAssertionFormula, IsRead, IsUsable, IsDatabaseOf, logic_code}
-use Rattle.model_laws.specs.FrameLaws.{own_leaf, own_expression, IsOwn, ShowsText, HasOwnExpressions, FramesHaveOwnExpressions}
+use Rattle.mm_model.specs.Book.{Database, Assertion, float_of, expression_at, IsRead, IsUsable, IsDatabaseOf, logic_code}
+use Rattle.model_laws.specs.FrameLaws.{own_leaf, IsOwn, ShowsText, HasOwnExpressions, FramesHaveOwnExpressions}
 use Rattle.mm_database.specs.declared.assertions.Parsed.{Parsed}
 use Rattle.mm_database.specs.declared.variables.FrameVariable.{FrameVariable}
 use Rattle.mm_database.specs.Variables.{frame_variables, code_of}
-use Rattle.mm_database.specs.Formulas.{IsAnswer, IsReadBy, IsOneTree, is_assertion, is_constant, leaf_of}
+use Rattle.mm_database.specs.Formulas.{IsAnswer, IsReadBy, IsOneTree, is_assertion, leaf_of}
 use Rattle.mm_database.specs.Assertions.{IsParsed, IsKept, AreParsed}
 use Rattle.mm_database.specs.Books.{kinds_in, parsed_at, assertion_of, usable_with, database_of}
 use Rattle.mm_database.specs.Opened.{IsKeptOf}
 use Rattle.frame_lists.specs.Listings.{constant_places}
 use Rattle.mm_database.proofs.Constants.{constants_same}
 use Rattle.mm_database.proofs.Typed.{typed_as, typed_are, find_map, map_map}
-use Rattle.mm_database.proofs.Zips.{Beside, zip_at, Before, zip_back}
+use Rattle.mm_database.proofs.Zips.{Beside, zip_at, zip_back}
 
 -- ---- a frame's variables
 

@@ -1,7 +1,7 @@
 -- Lists that are read hypothesis by hypothesis, and the only list that is.
-use Rattle.std.specs.Prelude.{◌≡◌, ◌<◌, ◌+◌, ◌++◌, ℕ, zero, suc, Bool, true, false, not, List, [], ◌∷◌, length, take, drop, filter, slice_get, Option, Some, None, refl}
+use Rattle.std.specs.Prelude.{◌≡◌, ◌<◌, ◌+◌, ◌++◌, ℕ, zero, suc, Bool, true, false, not, List, [], ◌∷◌, length, take, drop, slice_get, Some, refl}
 use Rattle.std.specs.List.{AllZip}
-use Rattle.std.proofs.Common.{arith, sym, ap, ◌∙◌, subst, cond, append-nil, get_or}
+use Rattle.std.proofs.Common.{arith, ap, ◌∙◌, subst, cond, append-nil, get_or}
 use Rattle.std.proofs.lemmas.List.{take_more}
 use Rattle.mm_model.specs.declared.frames.Hyp.{Hyp}
 use Rattle.mm_model.specs.Productions.{essentials}

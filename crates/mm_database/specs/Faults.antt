@@ -1,5 +1,5 @@
 -- The faults of an opened database as faults of the definitions.
-use Rattle.std.specs.Prelude.{ℕ, ◌≡◌, Option, Some, None}
+use Rattle.std.specs.Prelude.{Option, Some, None}
 use Rattle.mm_model.specs.Faults.{Fault, fault}
 use Rattle.mm_tokens.specs.declared.token.TokenFault.{TokenFault}
 use Rattle.mm_tokens.specs.declared.token.TokenFault.TheVariants as token

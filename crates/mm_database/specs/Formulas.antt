@@ -1,5 +1,5 @@
 -- What is asked of a formula of an assertion, by its frame.
-use Rattle.std.specs.Prelude.{ℕ, ◌≡◌, ◌==◌, ◌&&◌, Bool, true, false, IsTrue, List, [], ◌∷◌, drop, length, nat_lt, nat_le, slice_get, if◌then◌else◌, Option, Some, None, option_map}
+use Rattle.std.specs.Prelude.{ℕ, ◌≡◌, ◌==◌, ◌&&◌, Bool, true, false, List, [], ◌∷◌, drop, length, nat_lt, nat_le, slice_get, if◌then◌else◌, Option, Some, None, option_map}
 use Rattle.std.specs.List.{filter_map}
 use Rattle.std.specs.Option.{option_map_or}
 use Rattle.mm_base.specs.declared.symbols.Sym.{Sym}

@@ -1,5 +1,5 @@
--- Usable assertions by the head of their conclusion and the number of their `$e`.
-use Rattle.std.specs.Prelude.{ℕ, suc, ◌+◌, ◌&&◌, Bool, true, false, List, [], ◌∷◌, length, nat_eq, if◌then◌else◌, Option, Some, None, option_map}
+-- The keys by which an index of heads has its labels.
+use Rattle.std.specs.Prelude.{ℕ, suc, ◌+◌, ◌&&◌, Bool, false, List, [], ◌∷◌, length, nat_eq, if◌then◌else◌, Option, Some, None, option_map}
 use Rattle.mm_base.specs.declared.symbols.Label.{Label}
 use Rattle.mm_base.specs.declared.tree.Tree.{Tree, out-Tree}
 use Rattle.mm_base.specs.declared.tree.Tree.TheOpen.{Tree-F}
@@ -34,7 +34,3 @@ is_at h n (Some k) = nat_eq k.0 h && nat_eq k.1 n
 abbrev pub labels_from : ℕ → ℕ → ℕ → List (Option Parsed) → List Label
 labels_from h n at [] = []
 labels_from h n at (p ∷ ps) = if is_at h n (entry_key p) then label at ∷ labels_from h n (suc at) ps else labels_from h n (suc at) ps
-
--- the usable assertions with that head and number of `$e`
-abbrev pub by_head : List (Option Parsed) → Option Label → ℕ → List Label
-by_head parsed head n = labels_from (head_key head) n 0 parsed

@@ -1,5 +1,6 @@
 pub mod Assertions
 pub mod Books
+pub mod ByHead
 pub mod Faults
 pub mod Formulas
 pub mod HeadKeys

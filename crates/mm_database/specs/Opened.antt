@@ -9,6 +9,7 @@ use Rattle.mm_model.specs.Statements.{statements, database_fault}
 use Rattle.mm_model.specs.Frames.{frame_of}
 use Rattle.mm_model.specs.Productions.{TypedVariable, typed_variables}
 use Rattle.mm_model.specs.Book.{IsDatabaseOf}
+use Rattle.mm_model.specs.BookFacts.{Rise}
 use Rattle.mm_frames.specs.Contents.{Contents, contents_of}
 use Rattle.mm_database.specs.declared.assertions.Parsed.{Parsed}
 use Rattle.mm_database.specs.Books.{parsed_at, database_of}
@@ -18,6 +19,11 @@ pub record Opened : Type 0 where
   pub contents : Contents
   pub rows : List Production
   pub parsed : List (Option Parsed)
+
+-- each label has a position, and later labels have later ones
+pub record HasPositions (c : Contents) : Type 0 where
+  pub count : length c.positions ≡ length c.labels
+  pub rise : Rise c.positions
 
 -- the number of the labels whose position is below a place
 abbrev pub labels_below : Contents → ℕ → ℕ

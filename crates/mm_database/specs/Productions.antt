@@ -1,5 +1,5 @@
 -- The productions of frames, as the code makes them.
-use Rattle.std.specs.Prelude.{ℕ, ◌==◌, Bool, true, false, List, [], ◌∷◌, map, position, if◌then◌else◌, Option, Some, None, option_and_then}
+use Rattle.std.specs.Prelude.{ℕ, ◌==◌, Bool, false, List, [], ◌∷◌, map, position, if◌then◌else◌, Option, Some, None, option_and_then}
 use Rattle.std.specs.List.{filter_map, list_all}
 use Rattle.mm_base.specs.declared.symbols.Sym.{Sym}
 use Rattle.mm_model.specs.declared.frames.Hyp.{Hyp}

@@ -1,12 +1,14 @@
-ghost use Rattle.std.specs.Prelude.{◌≡◌, ◌<◌, ◌≤◌, ◌^◌, None, Option, Some, length, option_map, position, nat_lt, slice_index_or, IfOk, IfErr, OnOk};
+ghost use Rattle.std.specs.Prelude.{◌≡◌, ◌<◌, ◌≤◌, ◌^◌, ◌↔◌, ℕ, None, Option, Some, count_by, length, option_map, position, nat_lt, slice_index_or, IfOk, IfErr, OnOk};
+ghost use Rattle.std.specs.List.{range_with_len};
 ghost use Rattle.std.specs.Str.{bytes_eq};
+ghost use Rattle.mm_model.specs.BookFacts.{Rise};
 ghost use Rattle.mm_model.specs.Frames.{symbol_in};
 ghost use Rattle.mm_model.specs.Names.{sym, typecode, symbol_named};
 ghost use Rattle.mm_model.specs.Productions.{kept_rows};
 ghost use Rattle.mm_model.specs.Statements.{statements, database_fault};
 ghost use Rattle.mm_frames.specs.Contents.{contents_of};
 ghost use Rattle.mm_database.specs.Faults.{IsDbFault, IsTold};
-ghost use Rattle.mm_database.specs.Opened.{IsOpened, labels_below};
+ghost use Rattle.mm_database.specs.Opened.{IsOpened};
 ghost use Rattle.mm_database.specs.Assertions.{AreParsed};
 ghost use Rattle.mm_database.specs.Books.{kinds_in};
 
@@ -18,7 +20,7 @@ use crate::productions::rows;
 use mm_base::{Kinds, Label, List, Memory, Sym, Tree, Typecode};
 use mm_frames::{Frames, ReadFault, read};
 use mm_tokens::{TokenFault, tokens};
-use model_laws::{frames_give_rows, frames_have_own_expressions};
+use model_laws::{frames_give_rows, frames_have_own_expressions, positions_rise};
 use std::alloc::Global;
 use std::marker::Model;
 use syntax_grammar::{Grammar, keep_rows};
@@ -34,7 +36,7 @@ pub struct Database {
 }
 
 impl Model for Database {
-    ghost use Rattle.mm_database.specs.Opened.{Opened};
+    ghost use Rattle.mm_database.specs.Opened.{Opened, HasPositions};
     ghost use Rattle.mm_database.specs.Heads.{AreHeads};
 
     ghost Value = { Opened };
@@ -46,11 +48,15 @@ impl Model for Database {
 
     ghost view = { λ d. record { contents = d.frames; rows = d.grammar; parsed = d.parsed.items } };
 
-    ghost invariant = { λ d. AreHeads d.parsed.items d.heads };
+    ghost invariant = { λ d. AreHeads d.parsed.items d.heads × HasPositions d.frames };
 }
 
-/// The statements of a text, or its first fault.
-fn read_text(alloc: Global, text: &[u8]) -> Result<Frames, DbFault>
+/// Reads the statements of a database of at most 2^28 bytes. It takes one pass over the text, and memory in proportion
+/// to it.
+///
+/// Fails with the first fault of the text, that of its tokens first and then that of its statements, and where memory
+/// runs out.
+pub fn read_frames(alloc: Global, text: &[u8]) -> Result<Frames, DbFault>
     requires { length text.now ≤ 2 ^ 28 }
     ensures contents { IfOk result (λ frames. frames ≡ contents_of text.now) }
     ensures no_fault { OnOk result (database_fault text.now ≡ None) }
@@ -101,23 +107,20 @@ fn grammar_of(alloc: Global, text: &[u8], frames: &Frames, kinds: &Kinds) -> Res
     keep_rows(List::from_vec(rows))
 }
 
-fn is_below(frames: &Frames, number: u32, place: u32) -> bool
-    requires { number < length frames.now.labels }
-    ensures { result ≡ nat_lt (slice_index_or frames.now.positions number 0) place }
+/// The number of positions below a place, where they rise.
+fn positions_below(positions: &[u32], place: u32) -> usize
+    requires { Rise positions.now }
+    ensures within { result ≤ length positions.now }
+    ensures first { (l : ℕ) → l < length positions.now → (l < result) ↔ (slice_index_or positions.now l 0 < place) }
+    ensures count { result ≡ count_by (λ l. nat_lt (slice_index_or positions.now l 0) place) (range_with_len 0 (length positions.now)) }
 {
-    frames.position(Label(number)) < place
+    positions.partition_point(|position| *position < place)
 }
 
-fn count_before(frames: &Frames, place: u32) -> u32
-    ensures { result ≡ labels_below frames.now place }
+fn has_few_labels(frames: &Frames)
+    ensures { length frames.now.labels < 2 ^ 32 }
 {
-    let mut count = 0;
-    for number in 0..frames.labels() {
-        if is_below(frames, number, place) {
-            count += 1;
-        }
-    }
-    count
+    let _ = frames.labels();
 }
 
 fn has_few_statements(frames: &Frames)
@@ -126,8 +129,12 @@ fn has_few_statements(frames: &Frames)
     let _ = frames.end();
 }
 
-/// The database of the statements of a text, which is `text`.
-fn open_frames(
+/// The database of the statements of a text, as `read_frames` reads them, where these are the names of the two typecodes
+/// that have a meaning. The text is there for the contract alone. It takes the time to parse the formulas of the
+/// assertions, and memory in proportion to the text.
+///
+/// Fails where memory runs out.
+pub fn open_frames(
     alloc: Global,
     text: &[u8],
     frames: Frames,
@@ -138,6 +145,7 @@ fn open_frames(
     ensures { IfOk result (IsOpened kinds.now text.now) }
 {
     frames_have_own_expressions();
+    positions_rise();
     has_few_statements(&frames);
     let grammar = grammar_of(alloc, text, &frames, kinds)?;
     let codes = kind_codes(&frames, kinds);
@@ -162,7 +170,7 @@ pub fn open_database(alloc: Global, text: &[u8], kinds: &Kinds) -> Result<Databa
     ensures fault { IfErr result (λ e. IsDbFault e (database_fault text.now)) }
     ensures memory { IfErr result (λ e. IsTold e) }
 {
-    let frames = read_text(alloc, text)?;
+    let frames = read_frames(alloc, text)?;
     match open_frames(alloc, text, frames, kinds) {
         Ok(database) => Ok(database),
         Err(_) => Err(DbFault::Memory),
@@ -170,10 +178,10 @@ pub fn open_database(alloc: Global, text: &[u8], kinds: &Kinds) -> Result<Databa
 }
 
 impl Database {
-    ghost use Rattle.std.specs.Prelude.{◌≡◌, IsSome, Some, is_some, length};
+    ghost use Rattle.std.specs.Prelude.{◌≡◌, ◌<◌, ◌↔◌, ℕ, IsSome, Some, is_some, length, slice_index_or};
     ghost use Rattle.mm_database.specs.declared.assertions.Parsed.{Parsed};
     ghost use Rattle.mm_database.specs.Books.{parsed_at};
-    ghost use Rattle.mm_database.specs.HeadKeys.{by_head};
+    ghost use Rattle.mm_database.specs.ByHead.{by_head};
     ghost use Rattle.mm_database.specs.Opened.{labels_before};
 
     /// Its symbols, labels and statements.
@@ -236,11 +244,15 @@ impl Database {
         &self.parsed(label).vars
     }
 
-    /// The number of labels whose position is below a place. It takes one pass over the labels.
+    /// The number of labels whose position is below a place. They are the labels with the numbers below it. It takes
+    /// logarithmic time.
     pub fn before(&self, place: u32) -> u32
-        ensures { result ≡ labels_before self.now place }
+        ensures count { result ≡ labels_before self.now place }
+        ensures first { (l : ℕ) → l < length self.now.contents.labels
+            → (l < result) ↔ (slice_index_or self.now.contents.positions l 0 < place) }
     {
-        count_before(&self.frames, place)
+        has_few_labels(&self.frames);
+        positions_below(self.frames.positions(), place) as u32
     }
 
     /// The usable assertions with that number of `$e` whose conclusion's tree is a production with that label, or, for

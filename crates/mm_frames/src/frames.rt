@@ -145,6 +145,13 @@ impl Frames {
         self.listed.labels.count()
     }
 
+    /// By label its position, the number of its statement, from 0.
+    pub fn positions(&self) -> &[u32]
+        ensures { result.now ≡ self.now.positions }
+    {
+        self.listed.positions.as_slice()
+    }
+
     /// The position of a label of this database: the number of its statement, from 0.
     pub fn position(&self, label: Label) -> u32
         requires { label.0 < length self.now.labels }

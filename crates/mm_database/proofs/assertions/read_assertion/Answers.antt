@@ -1,6 +1,5 @@
-use Rattle.std.proofs.Common.{◌≡◌, Some, None, sym, ap, ◌∙◌, subst, refl, map, Option, List}
+use Rattle.std.proofs.Common.{ap, ◌∙◌, subst, refl, map, Option, List}
 use Rattle.std.specs.List.{AllZip}
-use Rattle.mm_base.specs.declared.symbols.Sym.{Sym}
 use Rattle.mm_base.specs.declared.tree.Tree.{Tree}
 use Rattle.mm_model.specs.declared.frames.Hyp.{Hyp}
 use Rattle.mm_model.specs.Productions.{essentials}

@@ -1,16 +1,15 @@
-use Rattle.std.proofs.Common.{◌≡◌, List, Option, length, sym, ap, ◌∙◌, subst}
+use Rattle.std.proofs.Common.{◌≡◌, List, length, sym, ap, ◌∙◌, subst}
 use Rattle.std.specs.List.{range_with_len}
 use Rattle.std.proofs.lemmas.Result.{IfOk-weaker}
 use Rattle.mm_base.specs.declared.symbols.Sym.{Sym}
-use Rattle.mm_model.specs.declared.frames.Frame.{Frame}
 use Rattle.mm_model.specs.declared.rows.Production.{Production}
 use Rattle.mm_model.specs.Names.{label}
-use Rattle.mm_model.specs.Statements.{Statement, statements, labels}
+use Rattle.mm_model.specs.Statements.{statements, labels}
 use Rattle.mm_model.specs.Frames.{symbols, symbol_in, frame_of}
 use Rattle.mm_model.specs.Chains.{kept}
 use Rattle.mm_model.specs.Rows.{AreRows}
 use Rattle.mm_model.specs.Productions.{row_of_frame, rows, kept_rows}
-use Rattle.mm_frames.specs.Contents.{Contents, contents_of}
+use Rattle.mm_frames.specs.Contents.{Contents}
 use Rattle.mm_database.specs.Productions.{rows_of}
 use Rattle.mm_database.proofs.Named.{rows_of_frames}
 use Rattle.mm_database.proofs.database.grammar_of.Goals as goal

@@ -1,5 +1,4 @@
 use Rattle.std.proofs.Common.{◌∷◌, [], ◌++◌, Vec, Global, sym, ap, ◌∙◌}
-use Rattle.mm_base.specs.declared.symbols.Sym.{Sym}
 use Rattle.mm_model.specs.Names.{sym as symbol}
 use Rattle.mm_model.specs.declared.rows.Leaf.{Leaf}
 use Rattle.mm_database.specs.Formulas.{leaf_of}

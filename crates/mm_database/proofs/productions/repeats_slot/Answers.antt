@@ -1,7 +1,6 @@
-use Rattle.std.proofs.Common.{◌≡◌, ◌-◌, List, true, false, take, drop, length, sym, ap, ◌∙◌}
+use Rattle.std.proofs.Common.{◌≡◌, ◌-◌, take, drop, length, sym, ◌∙◌}
 use Rattle.mm_model.specs.Names.{sym as symbol}
-use Rattle.mm_model.specs.declared.rows.Item.{Item}
-use Rattle.mm_model.specs.declared.rows.Item.TheVariants.{Const, Slot}
+use Rattle.mm_model.specs.declared.rows.Item.TheVariants.{Const}
 use Rattle.mm_model.specs.Rows.{slot_order}
 use Rattle.mm_model.specs.Productions.{has_repeats}
 use Rattle.mm_database.proofs.Repeats.{slot_repeated, slot_new}

@@ -1,4 +1,4 @@
-use Rattle.std.proofs.Common.{◌≡◌, [], ℕ, Vec, Global, cond, List, Option, Some, None, unwrap_or, sym, ap, ◌∙◌}
+use Rattle.std.proofs.Common.{◌≡◌, [], ℕ, Vec, Global, cond, List, Option, Some, unwrap_or, ap, ◌∙◌}
 use Rattle.std.specs.HashMap.{get}
 use Rattle.mm_base.specs.declared.symbols.Label.{Label}
 use Rattle.mm_database.proofs.HeadLaws.{same_key, heads_turn}

@@ -1,6 +1,5 @@
-use Rattle.std.proofs.Common.{◌≡◌, ◌+◌, Some, take, sym, ap, ◌∙◌, subst}
+use Rattle.std.proofs.Common.{◌+◌, Some, take, sym, ap, ◌∙◌, subst}
 use Rattle.std.proofs.lemmas.Option.{slice_get-get_or}
-use Rattle.mm_database.specs.HeadKeys.{entry_key}
 use Rattle.mm_database.specs.Heads.{AreHeads}
 use Rattle.mm_database.proofs.HeadLaws.{heads_added, heads_skipped}
 use Rattle.mm_database.proofs.heads.Heads.of.Goals as goal
