@@ -1,0 +1,38 @@
+use crate::compressed::compressed_text;
+use crate::faults::UnifyFault;
+use crate::graph::{Head, ProofGraph};
+use crate::normal::normal_text;
+use crate::scope::Scope;
+use crate::steps::Step;
+use mm_base::{Bytes, Label};
+use std::alloc::Global;
+use written_model::ProofStyle;
+
+/// The text of a graph's last proof (Metamath book, section 4.3 and appendix B).
+pub fn proof_text(
+    alloc: Global,
+    style: ProofStyle,
+    scope: &Scope,
+    steps: &[Step],
+    graph: &ProofGraph,
+) -> Result<Bytes, UnifyFault> {
+    match style {
+        ProofStyle::Normal => normal_text(alloc, scope, steps, graph),
+        ProofStyle::Compressed => compressed_text(alloc, scope, steps, graph),
+    }
+}
+
+/// The bytes of a label.
+pub fn label_of<'p>(scope: &'p Scope, steps: &'p [Step], head: Head) -> Option<&'p [u8]> {
+    match head {
+        Head::Statement(number) => {
+            let frames = scope.db.frames();
+            if number < frames.labels() {
+                Some(frames.label_name(Label(number)))
+            } else {
+                None
+            }
+        }
+        Head::Hypothesis(number) => Some(steps.get(number as usize)?.reference),
+    }
+}
