@@ -70,11 +70,7 @@ fn by_symbol(
 
 impl<'d> Scope<'d> {
     /// What may be used at the end of a database that was opened with these kinds. It takes one pass over its statements.
-    pub fn at_end(
-        alloc: Global,
-        db: &'d Database,
-        kinds: &Kinds,
-    ) -> Result<Scope<'d>, UnifyFault> {
+    pub fn at_end(alloc: Global, db: &'d Database, kinds: &Kinds) -> Result<Scope<'d>, UnifyFault> {
         let frames = db.frames();
         let provable = frames.symbol(kinds.provable.as_slice());
         let logic = frames.symbol(kinds.logic.as_slice());

@@ -47,7 +47,13 @@ pub fn unify_sheet(
     let scope = Scope::at_end(alloc, db, &options.kinds)?;
     let steps = read_steps(alloc, &scope, sheet)?;
     let judgements = judge_all(alloc, &scope, steps.as_slice())?;
-    let proof = proof_of(alloc, options, &scope, steps.as_slice(), judgements.as_slice())?;
+    let proof = proof_of(
+        alloc,
+        options,
+        &scope,
+        steps.as_slice(),
+        judgements.as_slice(),
+    )?;
     let text = match &proof {
         None => written_text(alloc, sheet, None)?,
         Some(proof) => written_text(alloc, sheet, Some(proof.as_slice()))?,
