@@ -1,6 +1,6 @@
 use crate::faults::UnifyFault;
 use crate::graph::{Head, ProofGraph, ProofNode, number_of};
-use crate::proof::label_of;
+use crate::proof::push_label;
 use crate::scope::Scope;
 use crate::steps::Step;
 use compressed_proof::{Code, Step as CodeStep, What, encode};
@@ -117,9 +117,10 @@ fn names(
     heads: &IndexSet<Head>,
 ) -> Result<List<Name>, UnifyFault> {
     let mut names = Vec::with_capacity(alloc, heads.len())?;
-    for head in heads.iter() {
-        let label = label_of(scope, steps, *head).ok_or(UnifyFault::NotBuilt)?;
-        names.push(List::from_vec(Vec::from_slice(alloc, label)?))?;
+    for head in heads.as_slice() {
+        let mut name = Vec::new(alloc);
+        push_label(&mut name, scope, steps, *head)?;
+        names.push(List::from_vec(name))?;
     }
     Ok(List::from_vec(names))
 }

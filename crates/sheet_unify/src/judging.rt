@@ -43,6 +43,7 @@ impl Judgement<'_, '_> {
 }
 
 /// What a step's reference is: an assertion that the step is a candidate for, or what else is said of the step.
+#[derive(Drop)]
 enum Standing<'d> {
     Candidate(Assertion<'d>),
     Settled(ReportVerdict),
@@ -57,7 +58,7 @@ pub fn judge_all<'d, 's>(
     let mut judgements = Vec::with_capacity(alloc, steps.len())?;
     let mut size = 0u64;
     for step in steps {
-        let standing = standing(scope, step);
+        let standing = standing_of(scope, step);
         size = size.saturating_add(work_size(step, &standing));
         if size > MOST_WORK_SIZE {
             return Err(UnifyFault::NotBuilt);
@@ -67,7 +68,7 @@ pub fn judge_all<'d, 's>(
     Ok(judgements)
 }
 
-fn standing<'d>(scope: &Scope<'d>, step: &Step) -> Standing<'d> {
+fn standing_of<'d>(scope: &Scope<'d>, step: &Step) -> Standing<'d> {
     if step.is_hypothesis {
         return Standing::Settled(ReportVerdict::Hyp);
     }
@@ -110,7 +111,7 @@ fn judge<'d, 's>(
                 return Err(UnifyFault::NotBuilt);
             }
             let listed = listed_trees(alloc, steps, step.places.as_slice())?;
-            match fit(alloc, assertion, &step.tree, listed.as_slice())? {
+            match fitting(alloc, assertion, &step.tree, listed.as_slice())? {
                 Some(fit) => Ok(Judgement::Fits(fit)),
                 None => no_fit(alloc, assertion, &step.tree, listed.as_slice()),
             }
@@ -146,7 +147,7 @@ fn no_fit<'d, 's>(
                 break;
             }
             let ordered = in_order(alloc, listed, order.as_slice())?;
-            if fit(alloc, assertion, tree, ordered.as_slice())?.is_some() {
+            if fitting(alloc, assertion, tree, ordered.as_slice())?.is_some() {
                 return Err(UnifyFault::NotBuilt);
             }
         }
@@ -168,7 +169,7 @@ fn in_order<'s>(
 
 /// How the assertion fits a formula and listed ones, as many as it has `$e`; none where it does not. `NotBuilt` where it
 /// fits and has mandatory pairs.
-fn fit<'d, 's>(
+fn fitting<'d, 's>(
     alloc: Global,
     assertion: Assertion<'d>,
     tree: &'s Tree,

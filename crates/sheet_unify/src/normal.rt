@@ -1,6 +1,6 @@
 use crate::faults::UnifyFault;
 use crate::graph::{Head, ProofGraph, ProofNode};
-use crate::proof::label_of;
+use crate::proof::push_label;
 use crate::scope::Scope;
 use crate::steps::Step;
 use mm_base::{Bytes, List, MOST_PROOF_LABELS};
@@ -33,8 +33,10 @@ pub fn normal_text(
             None => return Ok(List::from_vec(text)),
             Some(Part::Proof(node)) => push_parts(&mut pending, graph.node(node)?)?,
             Some(Part::Label(head)) => {
-                let label = label_of(scope, steps, head).ok_or(UnifyFault::NotBuilt)?;
-                write_label(&mut text, label)?;
+                if !text.is_empty() {
+                    text.push(b' ')?;
+                }
+                push_label(&mut text, scope, steps, head)?;
             }
         }
     }
@@ -67,13 +69,5 @@ fn push_parts(pending: &mut Vec<Part>, node: &ProofNode) -> Result<(), UnifyFaul
     for argument in node.arguments.as_slice().iter().rev() {
         pending.push(Part::Proof(*argument))?;
     }
-    Ok(())
-}
-
-fn write_label(text: &mut Vec<u8>, label: &[u8]) -> Result<(), UnifyFault> {
-    if !text.is_empty() {
-        text.push(b' ')?;
-    }
-    text.extend_from_slice(label)?;
     Ok(())
 }

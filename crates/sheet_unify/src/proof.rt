@@ -22,17 +22,25 @@ pub fn proof_text(
     }
 }
 
-/// The bytes of a label.
-pub fn label_of<'p>(scope: &'p Scope, steps: &'p [Step], head: Head) -> Option<&'p [u8]> {
+/// Writes a label behind a text.
+pub fn push_label(
+    text: &mut Vec<u8>,
+    scope: &Scope,
+    steps: &[Step],
+    head: Head,
+) -> Result<(), UnifyFault> {
     match head {
         Head::Statement(number) => {
             let frames = scope.db.frames();
-            if number < frames.labels() {
-                Some(frames.label_name(Label(number)))
-            } else {
-                None
+            if number >= frames.labels() {
+                return Err(UnifyFault::NotBuilt);
             }
+            text.extend_from_slice(frames.label_name(Label(number)))?;
         }
-        Head::Hypothesis(number) => Some(steps.get(number as usize)?.reference),
+        Head::Hypothesis(number) => {
+            let step = steps.get(number as usize).ok_or(UnifyFault::NotBuilt)?;
+            text.extend_from_slice(step.reference)?;
+        }
     }
+    Ok(())
 }

@@ -113,13 +113,16 @@ impl<'d> Scope<'d> {
     /// The tree of a formula. `NotBuilt` where it is blank, is too long, does not begin with the provable typecode, has
     /// another symbol, or has not exactly one tree.
     pub fn tree(&self, alloc: Global, formula: &[Name]) -> Result<Tree, UnifyFault> {
-        if formula.is_empty() || formula.len() as u64 > MOST_FORMULA_TOKENS {
+        let Some((first, expression)) = formula.split_first() else {
+            return Err(UnifyFault::NotBuilt);
+        };
+        if self.leaf(first.as_slice()) != Some(Leaf::Const(self.provable)) {
             return Err(UnifyFault::NotBuilt);
         }
-        if self.leaf(formula[0].as_slice()) != Some(Leaf::Const(self.provable)) {
+        let leaves = self.leaves(alloc, expression)?;
+        if leaves.as_slice().len() as u64 >= MOST_FORMULA_TOKENS {
             return Err(UnifyFault::NotBuilt);
         }
-        let leaves = self.leaves(alloc, &formula[1..])?;
         let end = self.db.frames().end();
         match parse(alloc, self.db.grammar(), end, &leaves, self.logic) {
             Ok(tree) => Ok(tree),
