@@ -34,7 +34,7 @@ not_longer n most h = grind (arith, nat_tests)
 -- ---- refusals of a database
 
 -- the line that tells the first fault of a database
-pub refused_with : (database : List ℕ) (answer : Answer) (first : Option Fault) (text : List ℕ) → database_fault database ≡ first → option_map database_line first ≡ Some text → answer ≡ refusal Database text → IsDatabaseRefusal database answer
+refused_with : (database : List ℕ) (answer : Answer) (first : Option Fault) (text : List ℕ) → database_fault database ≡ first → option_map database_line first ≡ Some text → answer ≡ refusal Database text → IsDatabaseRefusal database answer
 unfolding IsDatabaseRefusal
 refused_with database answer None text is line says = absurd (none-some text line)
 refused_with database answer (Some f) text is line says =
@@ -43,6 +43,11 @@ refused_with database answer (Some f) text is line says =
 pub refused_by : (database : List ℕ) (answer : Answer) (f : Fault) → Some f ≡ database_fault database → answer ≡ refusal Database (database_line f) → IsDatabaseRefusal database answer
 unfolding IsDatabaseRefusal
 refused_by database answer f is says = subst (λ (v : Option Fault). IsSomeAnd v (λ fault. answer ≡ refusal Database (database_line fault))) is says
+
+pub refused_told : (database : List ℕ) (answer : Result Answer memory.Memory) (first : Option Fault) (text : List ℕ) → database_fault database ≡ first → option_map database_line first ≡ Some text
+    → IfOk answer (λ a. a ≡ refusal Database text) → IfOk answer (IsDatabaseRefusal database)
+refused_told database (Err e) first text is line says = tt
+refused_told database (Ok answer) first text is line says = refused_with database answer first text is line says
 
 pub refusal_status : (database : List ℕ) (answer : Answer) → IsDatabaseRefusal database answer → answer.status ≡ Database
 unfolding IsDatabaseRefusal
