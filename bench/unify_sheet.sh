@@ -11,9 +11,12 @@ database=/usr/share/metamath/databases/set.mm
 if [ ! -f "$database" ]; then echo "set.mm: not there"; exit 0; fi
 mkdir -p "$folder/crates/bench_unify_sheet/src"
 [ -d "$folder/.git" ] || git -C "$folder" init -q
-cp "$top/crates.txt" "$folder/crates.txt"
-for crate in $(grep -o '^[a-z_]*:' "$top/crates.txt" | tr -d :); do
+used='mm_base mm_model model_laws mm_tokens names number_set frame_lists mm_frames syntax_grammar formula_parse sheet_text proof_model
+    proof_laws solve_model written_model sheet_laws mm_database compressed_proof stack_verify sheet_read sheet_print hyp_order sheet_unify mmp'
+: > "$folder/crates.txt"
+for crate in $used; do
     [ -d "$folder/crates/$crate" ] || cp -r "$top/crates/$crate" "$folder/crates/"
+    grep "^$crate:" "$top/crates.txt" >> "$folder/crates.txt"
 done
 echo 'bench_unify_sheet: mm_base mm_database sheet_text sheet_read sheet_unify written_model anyhow' >> "$folder/crates.txt"
 cp "$top/bench/unify_sheet.rt.txt" "$folder/crates/bench_unify_sheet/src/main.rt"

@@ -4,8 +4,9 @@ use crate::proof::push_label;
 use crate::scope::Scope;
 use crate::steps::Step;
 use compressed_proof::{Code, Step as CodeStep, What, encode};
+use formula_parse::{Leaf, text};
 use indexmap::IndexSet;
-use mm_base::{Bytes, List, Name, Tree};
+use mm_base::{Bytes, List, Name};
 use std::alloc::Global;
 
 /// The compressed proof of a graph's last node. A proof is marked where its label takes hypotheses and at least two places
@@ -65,30 +66,22 @@ fn mandatory_hypotheses(
 /// Marks by symbol the variables of the theorem's formulas.
 fn mark_theorem(alloc: Global, scope: &Scope, steps: &[Step]) -> Result<Vec<bool>, UnifyFault> {
     let mut marks = vec![in alloc; false; scope.db.frames().symbols() as usize]?;
-    for step in steps {
-        if step.is_hypothesis {
-            mark_variables(&mut marks, &step.tree);
+    for (number, step) in steps.iter().enumerate() {
+        if step.is_hypothesis || number + 1 == steps.len() {
+            let leaves = text(alloc, scope.db.grammar(), &step.tree)?;
+            mark_variables(&mut marks, leaves.as_slice());
         }
-    }
-    if let Some(qed) = steps.last() {
-        mark_variables(&mut marks, &qed.tree);
     }
     Ok(marks)
 }
 
-fn mark_variables(marks: &mut [bool], tree: &Tree) {
-    match tree {
-        Tree::Var(variable, _) => {
+fn mark_variables(marks: &mut [bool], leaves: &[Leaf]) {
+    for leaf in leaves {
+        if let Leaf::Var(variable, _) = leaf {
             if let Some(mark) = marks.get_mut(variable.0 as usize) {
                 *mark = true;
             }
         }
-        Tree::Node(_, _, children) => {
-            for child in children.as_slice() {
-                mark_variables(marks, child);
-            }
-        }
-        Tree::Work(..) | Tree::Fresh(..) => {}
     }
 }
 
