@@ -1,5 +1,6 @@
 mod Outcome
 mod Parts
+mod Stands
 mod Texts
 mod Theorems
 mod Verdicts

@@ -1,6 +1,7 @@
 -- What a call may answer, from what was found under the names of its files and what the texts gave.
-use Rattle.std.proofs.Common.{◌≡◌, ◌≢◌, ◌⊎◌, ◌≤◌, ◌<◌, ◌^◌, ℕ, List, length, nat_lt, Option, Some, None, Result, Ok, Err, IfSome, IsSomeAnd, IfOk, true, false, refl, sym, ◌∙◌, ap, subst, inl, inr, arith}
+use Rattle.std.proofs.Common.{◌≡◌, ◌≢◌, ◌⊎◌, ◌≤◌, ◌<◌, ◌^◌, ℕ, List, length, nat_lt, Option, Some, None, option_map, Result, Ok, Err, IfSome, IsSomeAnd, IfOk, true, false, refl, sym, ◌∙◌, ap, subst, inl, inr, arith}
 use Rattle.std.proofs.lemmas.Bool.Decides.{nat_tests}
+use Rattle.std.proofs.lemmas.Option.{none-some, same_Some}
 use Rattle.mm_base.specs.Outside.{Files, Rose, NoneFell}
 use Rattle.mm_base.specs.declared.errors.Memory as memory
 use Rattle.mm_base.specs.declared.status.Status.{Status}
@@ -13,8 +14,7 @@ use Rattle.mmp.specs.Due.{IsDueFor, IsDueOn, IsDueSheet, MayAnswer}
 use Rattle.mmp.specs.Verify.{answer_to, IsVerified}
 use Rattle.written_model.specs.Verified.{Verdict, no_theorem, accepted, bad_code, refused}
 use Rattle.mmp.specs.Opened.{Has, IsRefused, IsUnread, IsOpen, IsListedText}
-use Rattle.mmp.specs.Listed.{IsListing}
-use Rattle.mm_frames.specs.Contents.{Contents}
+use Rattle.mm_frames.specs.Contents.{Contents, contents_of}
 use Rattle.mmp.specs.OpenedSheet.{IsSheetRefused, IsOpenSheet}
 use Rattle.sheet_text.specs.declared.sheet.Sheet as sheets
 use Rattle.sheet_text.specs.Reads as reading
@@ -33,9 +33,21 @@ not_longer n most h = grind (arith, nat_tests)
 
 -- ---- refusals of a database
 
+-- the line that tells the first fault of a database
+refused_with : (database : List ℕ) (answer : Answer) (first : Option Fault) (text : List ℕ) → database_fault database ≡ first → option_map database_line first ≡ Some text → answer ≡ refusal Database text → IsDatabaseRefusal database answer
+unfolding IsDatabaseRefusal
+refused_with database answer None text is line says = absurd (none-some text line)
+refused_with database answer (Some f) text is line says =
+    subst (λ (v : Option Fault). IsSomeAnd v (λ fault. answer ≡ refusal Database (database_line fault))) (sym is) (says ∙ ap (refusal Database) (sym (same_Some (database_line f) text line)))
+
 pub refused_by : (database : List ℕ) (answer : Answer) (f : Fault) → Some f ≡ database_fault database → answer ≡ refusal Database (database_line f) → IsDatabaseRefusal database answer
 unfolding IsDatabaseRefusal
 refused_by database answer f is says = subst (λ (v : Option Fault). IsSomeAnd v (λ fault. answer ≡ refusal Database (database_line fault))) is says
+
+pub refused_told : (database : List ℕ) (answer : Result Answer memory.Memory) (first : Option Fault) (text : List ℕ) → database_fault database ≡ first → option_map database_line first ≡ Some text
+    → IfOk answer (λ a. a ≡ refusal Database text) → IfOk answer (IsDatabaseRefusal database)
+refused_told database (Err e) first text is line says = tt
+refused_told database (Ok answer) first text is line says = refused_with database answer first text is line says
 
 pub refusal_status : (database : List ℕ) (answer : Answer) → IsDatabaseRefusal database answer → answer.status ≡ Database
 unfolding IsDatabaseRefusal
@@ -69,16 +81,14 @@ pub no_fault_of : (database : List ℕ) → IsAccepted database → database_fau
 unfolding IsAccepted
 no_fault_of database is = is
 
--- the text of a file is listed, as it was read
-pub listed_text : (told : Option Files) (name text read : List ℕ) (contents : Contents) → read ≡ text → Has told name text → IsListing read contents → IsListedText told name text contents
-listed_text told name text read contents e has is =
-    let listed : IsListing text contents = subst (λ (t : List ℕ). IsListing t contents) e is in
-    record { is_open = record { has = has; accepted = accepted_by text (sym listed.no_fault) }; contents_are = listed.contents_are }
+-- the statements of the text of a file, as it was read
+pub listed_text : (told : Option Files) (name text read : List ℕ) (contents : Contents) → read ≡ text → Has told name text → contents ≡ contents_of read → database_fault read ≡ None → IsListedText told name text contents
+listed_text told name text read contents e has is no_fault =
+    record { is_open = record { has = has; accepted = accepted_by text (sym no_fault ∙ ap database_fault e) }; contents_are = is ∙ ap contents_of e }
 
-pub text_refused : (told : Option Files) (name text read : List ℕ) (answer : Answer) (f : Fault) → read ≡ text → Has told name text → database_fault read ≡ Some f → answer ≡ refusal Database (database_line f) → IsRefused told name answer
-text_refused told name text read answer f e has is says =
-    let fault_is : database_fault text ≡ Some f = subst (λ (t : List ℕ). database_fault t ≡ Some f) e is in
-    let refusal = refused_by text answer f (sym fault_is) says in
+pub text_refused : (told : Option Files) (name text read : List ℕ) (answer : Answer) → read ≡ text → Has told name text → IsDatabaseRefusal read answer → IsRefused told name answer
+text_refused told name text read answer e has is =
+    let refusal : IsDatabaseRefusal text answer = subst (λ (t : List ℕ). IsDatabaseRefusal t answer) e is in
     refused_text told name text answer (refusal_status text answer refusal) has refusal
 
 -- ---- statuses

@@ -3,7 +3,6 @@ pub mod Command
 pub mod Due
 pub mod Faults
 pub mod Found
-pub mod Listed
 pub mod Opened
 pub mod OpenedSheet
 pub mod Shown

@@ -2,31 +2,20 @@
 
 ghost use Rattle.std.specs.Prelude.{◌≡◌, string_bytes, IfOk};
 ghost use Rattle.written_model.specs.FaultLines as lines;
-ghost use Rattle.written_model.specs.FaultLines.{database_faults, sheet_faults, code_faults, proof_faults};
+ghost use Rattle.written_model.specs.FaultLines.{sheet_faults, code_faults, proof_faults};
 ghost use Rattle.written_model.specs.Written.{at_line};
 ghost use Rattle.mmp.specs.Faults.{told, IsNamed};
 
 use itoa::Buffer;
 use std::alloc::{AllocError, Global};
 
-/// A fault of an input.
+/// A fault of a worksheet's text or of a proof.
 #[derive(Clone, Copy)]
 pub struct NamedFault {
     pub code: u8,
     pub name: &'static str,
-    /// Where it stands: a byte, a label, a letter or a step, from 0, or a line, from 1.
+    /// Where it stands: a label, a letter or a step, from 0, or a line, from 1.
     pub place: u32,
-}
-
-/// The line on a fault of a database.
-pub fn database_line(alloc: Global, fault: NamedFault) -> Result<String, AllocError>
-    requires { IsNamed database_faults fault }
-    ensures { IfOk result (λ line. string_bytes line ≡ lines.database_line (told fault)) }
-{
-    let (mut code, mut place) = (Buffer::new(), Buffer::new());
-    let (code, place) = (code.format(fault.code), place.format(fault.place));
-    let name = fault.name;
-    format!(in alloc; "database error {code} {name} at byte {place}")
 }
 
 /// The line on a fault of the text of a worksheet.

@@ -1,25 +1,21 @@
 //! Opening the file of a database.
 
-ghost use Rattle.std.specs.Prelude.{◌≡◌, IfOk};
+ghost use Rattle.std.specs.Prelude.{◌≡◌, ◌^◌, IfOk};
 ghost use Rattle.mm_base.specs.Outside.{NoneFell};
+ghost use Rattle.mm_database.specs.Faults.{IsDbFault, IsTold};
+ghost use Rattle.mm_model.specs.Faults.{fault};
+ghost use Rattle.mm_model.specs.Statements.{database_fault};
 ghost use Rattle.mmp.specs.Answer.{refusal};
-ghost use Rattle.mmp.specs.Faults.{told, IsNamed};
 ghost use Rattle.mmp.specs.Opened.{IsOpened};
-ghost use Rattle.written_model.specs.FaultLines.{database_faults, database_line};
+ghost use Rattle.mmp.specs.Unify.{IsDatabaseRefusal};
+ghost use Rattle.written_model.specs.FaultLines.{database_line};
 
-use crate::answer::{Answer, refuse, refuse_read};
-use crate::database::{Listed, list};
-use crate::fault::{NamedFault, database_line as line_of};
+use crate::answer::{Answer, refuse, refuse_line, refuse_read};
 use crate::files::{Found, read_file};
 use mm_base::{Bytes, MOST_DATABASE_BYTES, Memory, Status, Store};
+use mm_database::{DbFault, db_fault_line, read_frames};
 use mm_frames::Frames;
 use std::alloc::Global;
-
-const TOO_BIG: NamedFault = NamedFault {
-    code: 30,
-    name: "TooBig",
-    place: 1 << 28,
-};
 
 /// The text of a database without a fault and its statements, or the answer that refuses the file.
 #[derive(Drop)]
@@ -28,13 +24,31 @@ pub enum Opened {
     Refused(Answer),
 }
 
-// The answer that tells a fault of a database.
-fn refuse_database(alloc: Global, fault: NamedFault) -> Result<Answer, Memory>
-    requires { IsNamed database_faults fault }
-    ensures { IfOk result (λ answer. answer ≡ refusal Status.Database (database_line (told fault))) }
+// The answer that tells that a database is too big.
+fn refuse_size(alloc: Global) -> Result<Answer, Memory>
+    ensures { IfOk result (λ answer. answer ≡ refusal Status.Database (database_line (fault (2 ^ 28) 30))) }
 {
-    let line = line_of(alloc, fault)?;
-    refuse(alloc, Status::Database, line.as_str())
+    refuse(
+        alloc,
+        Status::Database,
+        "database error 30 TooBig at byte 268435456",
+    )
+}
+
+// The answer that tells the first fault of a database, unless memory ran out.
+fn refuse_fault(alloc: Global, text: &[u8], fault: DbFault) -> Result<Answer, Memory>
+    requires first { IsDbFault fault (database_fault text.now) }
+    requires told { IsTold fault }
+    ensures { IfOk result (IsDatabaseRefusal text.now) }
+{
+    let _ = text;
+    match fault {
+        DbFault::Memory => Err(Memory),
+        _ => {
+            let line = db_fault_line(alloc, &fault)?;
+            refuse_line(alloc, Status::Database, line)
+        }
+    }
 }
 
 /// Reads and judges a database.
@@ -46,7 +60,7 @@ pub fn open<S: Store>(alloc: Global, store: &mut S, name: &str) -> Result<Opened
     let text = match read_file(alloc, store, name, MOST_DATABASE_BYTES)? {
         Found::Text(text) => text,
         Found::TooBig => {
-            let answer = refuse_database(alloc, TOO_BIG)?;
+            let answer = refuse_size(alloc)?;
             return Ok(Opened::Refused(answer));
         }
         Found::Fault => {
@@ -54,10 +68,10 @@ pub fn open<S: Store>(alloc: Global, store: &mut S, name: &str) -> Result<Opened
             return Ok(Opened::Refused(answer));
         }
     };
-    match list(alloc, text.as_slice())? {
-        Listed::Frames(frames) => Ok(Opened::Database(text, frames)),
-        Listed::Fault(fault) => {
-            let answer = refuse_database(alloc, fault)?;
+    match read_frames(alloc, text.as_slice()) {
+        Ok(frames) => Ok(Opened::Database(text, frames)),
+        Err(fault) => {
+            let answer = refuse_fault(alloc, text.as_slice(), fault)?;
             Ok(Opened::Refused(answer))
         }
     }

@@ -27,12 +27,12 @@ fn answer_unify<S: Store>(
     ensures answer { IfOk result (MayAnswer (unify_command style database.now sheet.now) (S.told store.old) (S.read_faults store.old) (S.read_faults store.new)) }
     ensures same_files { S.told store.new ≡ S.told store.old }
 {
-    let database = match open(alloc, store, database)? {
-        Opened::Database(text, _) => text,
+    let (text, frames) = match open(alloc, store, database)? {
+        Opened::Database(text, frames) => (text, frames),
         Opened::Refused(answer) => return Ok(answer),
     };
     match open_sheet(alloc, store, sheet)? {
-        OpenedSheet::Sheet(sheet) => answer_sheet(alloc, database.as_slice(), &sheet, style),
+        OpenedSheet::Sheet(sheet) => answer_sheet(alloc, text.as_slice(), frames, &sheet, style),
         OpenedSheet::Refused(answer) => Ok(answer),
     }
 }

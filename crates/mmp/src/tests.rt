@@ -64,51 +64,105 @@ const TURNED: &str = "$c # wff |- $. $v x y $. wx $f wff x $. wy $f wff y $.
 pair $a wff # y x $. ${ e $e |- # x y $. turn $a |- # y x $. $} odd $a |- x y $.
 ";
 
+// Over P: classes, quantifiers, and inferences by implication.
+const Q: &str = "\
+$c setvar class { } | = A. $.\n\
+$v x y A B $.\n\
+vx $f setvar x $.\n\
+vy $f setvar y $.\n\
+cA $f class A $.\n\
+cB $f class B $.\n\
+cv $a class x $.\n\
+cab $a class { x | ph } $.\n\
+wceq $a wff A = B $.\n\
+wal $a wff A. x ph $.\n\
+${\n\
+  a1i.1 $e |- ph $.\n\
+  a1i $a |- ( ps -> ph ) $.\n\
+$}\n\
+${\n\
+  a2i.1 $e |- ( ph -> ( ps -> ch ) ) $.\n\
+  a2i $a |- ( ( ph -> ps ) -> ( ph -> ch ) ) $.\n\
+$}\n\
+${\n\
+  $d x ph $.\n\
+  ax-5 $a |- ( ph -> A. x ph ) $.\n\
+$}\n\
+eqid $a |- A = A $.\n\
+${\n\
+  drop.1 $e |- ( ph -> A. x ph ) $.\n\
+  drop $a |- ( ph -> ph ) $.\n\
+$}\n\
+${\n\
+  pair.1 $e |- ph $.\n\
+  pair $a |- ( ph -> ph ) $.\n\
+$}\n\
+ax-1c $a |- ( ph -> ( ps -> ph ) ) $.\n\
+";
+
+// A hypothesis of a frame stands between two of its variables.
+const BETWEEN: &str =
+    "$c -> |- wff $. $v p q $. wp $f wff p $. ${ wq $f wff q $. wi $a wff -> p q $. $}
+${ e $e |- p $. wr $f wff q $. mid $a |- -> p q $. $} wq2 $f wff q $.
+";
+
 const HEADER: &str = "$( <MM> <PROOF_ASST> THEOREM=r LOC_AFTER=?\n";
+
+// The steps of the book's first example.
+const TH1: &str = "\
+1::a2 |- ( t + 0 ) = t\n\
+2::a1 |- ( ( t + 0 ) = t -> ( ( t + 0 ) = t -> t = t ) )\n\
+3:1,2:mp |- ( ( t + 0 ) = t -> t = t )\n\
+qed:1,3:mp |- t = t\n\
+";
+
+const TH1_REPORT: &str = "1 fits a2\n2 fits a1\n3 fits mp\nqed fits mp\nfinished\n";
 
 // The steps of a worksheet, and what is wanted of it.
 #[derive(Clone, Copy)]
 struct Row {
-    database: &'static str,
+    // the parts of its text
+    database: &'static [&'static str],
     steps: &'static str,
     // the line of the proof, or nothing
     proof: &'static str,
     report: &'static str,
 }
 
-const WRITTEN: [Row; 10] = [
+// With normal proofs.
+const WRITTEN: [Row; 14] = [
     Row {
-        database: P,
+        database: &[P],
         steps: "h1::r.1 |- ph\nh2::r.2 |- ( ph -> ps )\nqed:1,2:ax-mp |- ps\n",
         proof: "$= wph wps r.1 r.2 ax-mp $.\n",
         report: "1 hyp\n2 hyp\nqed fits ax-mp\nfinished\n",
     },
     Row {
-        database: P,
+        database: &[P],
         steps: "h1::r.1 |- ph\nh2::r.2 |- ( ph -> ps )\nqed:1,2:ax-mp |- ch\n",
         proof: "",
         report: "1 hyp\n2 hyp\nqed no fit ax-mp\nnot finished\n",
     },
     Row {
-        database: P,
+        database: &[P],
         steps: "h1::r.1 |- ps\nqed:1,1,1:ax-mp |- ps\n",
         proof: "",
         report: "1 hyp\nqed too many hypotheses ax-mp\nnot finished\n",
     },
     Row {
-        database: P,
+        database: &[P],
         steps: "1::min |- ph\nqed::nosuch |- ps\n",
         proof: "",
         report: "1 unknown min\nqed unknown nosuch\nnot finished\n",
     },
     Row {
-        database: P,
+        database: &[P],
         steps: "qed::wi |- ps\n",
         proof: "",
         report: "qed not usable wi\nnot finished\n",
     },
     Row {
-        database: P,
+        database: &[P],
         steps: "1::ax-1 |- ( ph -> ( ph -> ph ) )
 2::ax-1 |- ( ph -> ( ( ph -> ph ) -> ph ) )
 3::ax-2 |- ( ( ph -> ( ( ph -> ph ) -> ph ) ) -> ( ( ph -> ( ph -> ph ) ) -> ( ph -> ph ) ) )
@@ -120,28 +174,103 @@ wi wph wph wph wi ax-1 wph wph wph wi wph ax-2 ax-mp ax-mp $.\n",
         report: "1 fits ax-1\n2 fits ax-1\n3 fits ax-2\n4 fits ax-mp\nqed fits ax-mp\nfinished\n",
     },
     Row {
-        database: P,
+        database: &[P],
         steps: "h1::r.1 |- -. ph\n2::ax-1 |- ( ph -> ( ps -> ps ) )\nqed::ax-1 |- ( ch -> ( -. ps -> ch ) )\n",
         proof: "$= wch wps wn ax-1 $.\n",
         report: "1 hyp\n2 no fit ax-1\nqed fits ax-1\nfinished\n",
     },
     Row {
-        database: TURNED,
+        database: &[TURNED],
         steps: "h1::r.1 |- # # x y y\n2::odd |- x\nqed:1:turn |- # y # x y\n",
         proof: "$= wy wx pair wy r.1 turn $.\n",
         report: "1 hyp\n2 not usable odd\nqed fits turn\nfinished\n",
     },
     Row {
-        database: P,
+        database: &[P],
         steps: "* text, kept\n  as it is\nh1::r.1 |- ph\nh2::r.2 |- ( ph -> ps )\n* more\nqed:1,2:ax-mp |- ps\n",
         proof: "$= wph wps r.1 r.2 ax-mp $.\n",
         report: "1 hyp\n2 hyp\nqed fits ax-mp\nfinished\n",
     },
     Row {
-        database: P,
+        database: &[P],
         steps: "* only one\nqed::nosuch |- ph\n",
         proof: "",
         report: "qed unknown nosuch\nnot finished\n",
+    },
+    Row {
+        database: &[DEMO0],
+        steps: TH1,
+        proof: "$= tt tze tpl tt weq tt tt weq tt a2 tt tze tpl tt weq tt tze tpl tt weq tt tt weq wim tt a2 tt tze tpl tt tt \
+a1 mp mp $.\n",
+        report: TH1_REPORT,
+    },
+    Row {
+        database: &[BETWEEN],
+        steps: "h1::r.1 |- q\nqed:1:mid |- -> q p\n",
+        proof: "$= wq2 r.1 wp mid $.\n",
+        report: "1 hyp\nqed fits mid\nfinished\n",
+    },
+    Row {
+        database: &[P, Q],
+        steps: "qed::eqid |- { x | ph } = { x | ph }\n",
+        proof: "$= wph vx cab eqid $.\n",
+        report: "qed fits eqid\nfinished\n",
+    },
+    Row {
+        database: &[P, Q],
+        steps: "qed::eqid |- x = x\n",
+        proof: "$= vx cv eqid $.\n",
+        report: "qed fits eqid\nfinished\n",
+    },
+];
+
+// With compressed proofs.
+const COMPRESSED: [Row; 6] = [
+    Row {
+        database: &[P],
+        steps: "h1::r.1 |- ph\nh2::r.2 |- ( ph -> ps )\nqed:1,2:ax-mp |- ps\n",
+        proof: "$= ( ax-mp ) ABCDE $.\n",
+        report: "1 hyp\n2 hyp\nqed fits ax-mp\nfinished\n",
+    },
+    Row {
+        database: &[P],
+        steps: "1::ax-1 |- ( ph -> ( ph -> ph ) )
+2::ax-1 |- ( ph -> ( ( ph -> ph ) -> ph ) )
+3::ax-2 |- ( ( ph -> ( ( ph -> ph ) -> ph ) ) -> ( ( ph -> ( ph -> ph ) ) -> ( ph -> ph ) ) )
+4:2,3:ax-mp |- ( ( ph -> ( ph -> ph ) ) -> ( ph -> ph ) )
+qed:1,4:ax-mp |- ( ph -> ph )
+",
+        proof: "$= ( wi ax-1 ax-2 ax-mp ) AAABZBZFAACAFABBGFBAFCAFADEE $.\n",
+        report: "1 fits ax-1\n2 fits ax-1\n3 fits ax-2\n4 fits ax-mp\nqed fits ax-mp\nfinished\n",
+    },
+    Row {
+        database: &[DEMO0],
+        steps: TH1,
+        proof: "$= ( tze tpl weq a2 wim a1 mp ) ABCZADZAADZAEZJJKFLIAAGHH $.\n",
+        report: TH1_REPORT,
+    },
+    Row {
+        database: &[P, Q],
+        steps: "qed::eqid |- { x | ph } = { x | ph }\n",
+        proof: "$= ( cab eqid ) ABCD $.\n",
+        report: "qed fits eqid\nfinished\n",
+    },
+    Row {
+        database: &[P, Q],
+        steps: "h1::syl.1 |- ( ph -> ps )
+h2::syl.2 |- ( ps -> ch )
+3:2:a1i |- ( ph -> ( ps -> ch ) )
+4:3:a2i |- ( ( ph -> ps ) -> ( ph -> ch ) )
+qed:1,4:ax-mp |- ( ph -> ch )
+",
+        proof: "$= ( wi a1i a2i ax-mp ) ABFACFDABCBCFAEGHI $.\n",
+        report: "1 hyp\n2 hyp\n3 fits a1i\n4 fits a2i\nqed fits ax-mp\nfinished\n",
+    },
+    Row {
+        database: &[P, Q],
+        steps: "1::ax-1 |- ( ph -> ( ps -> ph ) )\n2::ax-1c |- ( ph -> ( ps -> ps ) )\nqed:1:drop |- ( ph -> ph )\n",
+        proof: "",
+        report: "1 fits ax-1\n2 no fit ax-1c\nqed no fit drop\nnot finished\n",
     },
 ];
 
@@ -229,7 +358,7 @@ const SHEETS: [Refused; 18] = [
 ];
 
 // Worksheets over P that have something which is not built.
-const UNBUILT_SHEETS: [&str; 15] = [
+const UNBUILT_SHEETS: [&str; 16] = [
     "$( <MM> <PROOF_ASST> THEOREM=ax-1\nqed::nosuch |- ph\n$)\n",
     "$( <MM> <PROOF_ASST> THEOREM=r/s\nqed::nosuch |- ph\n$)\n",
     "$( <MM> <PROOF_ASST> THEOREM=r LOC_AFTER=ax-1\nqed::nosuch |- ph\n$)\n",
@@ -245,6 +374,7 @@ const UNBUILT_SHEETS: [&str; 15] = [
     "$( <MM> <PROOF_ASST> THEOREM=r\nqed::nosuch wff ph\n$)\n",
     "$( <MM> <PROOF_ASST> THEOREM=r\nqed::nosuch |- &W1\n$)\n",
     "$( <MM> <PROOF_ASST> THEOREM=r\nqed::nosuch |- ( ph -> ps\n$)\n",
+    "$( <MM> <PROOF_ASST> THEOREM=r\nh1::r.1 |- ph\nh2::r.2 |- ( ph -> ps )\nqed:2,1:ax-mp |- ps\n$)\n",
 ];
 
 // Databases with a fault.
@@ -323,15 +453,18 @@ const DATABASES: [Refused; 18] = [
     },
 ];
 
-// Databases without a fault that have something which is not built.
-const UNBUILT_DATABASES: [&str; 7] = [
-    DEMO0,
+// Worksheets over P and Q that have something which is not built.
+const UNBUILT_OVER_Q: [&str; 2] = [
+    "$( <MM> <PROOF_ASST> THEOREM=r\nqed::ax-5 |- ( A. x ph -> A. x A. x ph )\n$)\n",
+    "$( <MM> <PROOF_ASST> THEOREM=r\n1::ax-5 |- ( ph -> A. x ph )\nqed:1:drop |- ( ph -> ph )\n$)\n",
+];
+
+// Databases in which nothing can be proved.
+const POOR_DATABASES: [&str; 4] = [
+    "",
     "$c wff $. $( text $)",
     "$c |- $. t $p |- $= $.",
-    "$c wff $. ${ $v x $. $}",
-    "$c wff a $. e $a wff a $. f $a wff a a $.",
-    "$c wff a $. $v x $. wx $f wff x $. e $a wff x $.",
-    "$c wff a $. $v x $. wx $f wff x $. e $a wff a x x $.",
+    "$c wff |- $. $v ph ps $. wph $f wff ph $. wps $f wff ps $. e $e |- ph $.",
 ];
 
 // A theorem, and what is said of its proof.
@@ -468,9 +601,9 @@ struct Outside<'a> {
     log_fails: &'a [u64],
 }
 
-fn honest<'a>(database: &'a str, sheet: &'a [u8]) -> Outside<'a> {
+fn honest<'a>(database: &'a [u8], sheet: &'a [u8]) -> Outside<'a> {
     Outside {
-        database: database.as_bytes(),
+        database,
         sheet,
         store_fails: &[],
         out_room: 1000,
@@ -509,8 +642,9 @@ fn check(
     Ok(())
 }
 
-// Unifies the sheet of a row, and what was written once more.
-fn check_row(rt: &impl Abort, alloc: Global, row: Row) -> Result<(), Fail> {
+// Unifies the sheet of a row by these words, and what was written once more.
+fn check_row(rt: &impl Abort, alloc: Global, words: &[&str], row: Row) -> Result<(), Fail> {
+    let database = joined(alloc, row.database)?;
     let (sheet, want) = sheets_of(alloc, row)?;
     let status = if row.proof.is_empty() {
         Status::Unfinished
@@ -518,8 +652,8 @@ fn check_row(rt: &impl Abort, alloc: Global, row: Row) -> Result<(), Fail> {
         Status::Finished
     };
     for text in [sheet.as_slice(), want.as_slice()] {
-        let outside = honest(row.database, text);
-        check(rt, alloc, &NORMAL, outside, (status, &want, row.report))?;
+        let outside = honest(&database, text);
+        check(rt, alloc, words, outside, (status, &want, row.report))?;
     }
     Ok(())
 }
@@ -537,33 +671,35 @@ fn check_refused(
 // Refused databases and worksheets.
 fn check_refusals(rt: &impl Abort, alloc: Global, sheet: &[u8]) -> Result<(), Fail> {
     for refused in SHEETS {
-        let outside = honest(P, refused.text.as_bytes());
+        let outside = honest(P.as_bytes(), refused.text.as_bytes());
         check_refused(rt, alloc, outside, Status::Sheet, refused.line)?;
     }
-    for text in UNBUILT_SHEETS {
-        check_refused(
-            rt,
-            alloc,
-            honest(P, text.as_bytes()),
-            Status::Sheet,
-            NO_SHEET,
-        )?;
-    }
-    for text in UNBUILT_DATABASES {
-        check_refused(rt, alloc, honest(text, sheet), Status::Sheet, NO_SHEET)?;
-    }
     for refused in DATABASES {
-        let outside = honest(refused.text, sheet);
+        let outside = honest(refused.text.as_bytes(), sheet);
         check_refused(rt, alloc, outside, Status::Database, refused.line)?;
     }
-    // compressed proofs are not built
-    let words = ["unify", "P.mm", "r.mmp"];
-    let want = (Status::Sheet, b"".as_slice(), NO_SHEET);
-    check(rt, alloc, &words, honest(P, sheet), want)?;
-    // the text is judged before a database that is not built
+    // the text of the worksheet is judged alone
     let long = vec![in alloc; b' '; MOST_SHEET_BYTES as usize + 1]?;
     let line = "sheet error 50 TooBig at line 1\n";
-    check_refused(rt, alloc, honest(DEMO0, &long), Status::Sheet, line)
+    check_refused(rt, alloc, honest(b"", &long), Status::Sheet, line)
+}
+
+// What is not built.
+fn check_unbuilt(rt: &impl Abort, alloc: Global, sheet: &[u8]) -> Result<(), Fail> {
+    for text in UNBUILT_SHEETS {
+        let outside = honest(P.as_bytes(), text.as_bytes());
+        check_refused(rt, alloc, outside, Status::Sheet, NO_SHEET)?;
+    }
+    let database = joined(alloc, &[P, Q])?;
+    for text in UNBUILT_OVER_Q {
+        let outside = honest(&database, text.as_bytes());
+        check_refused(rt, alloc, outside, Status::Sheet, NO_SHEET)?;
+    }
+    for text in POOR_DATABASES {
+        let outside = honest(text.as_bytes(), sheet);
+        check_refused(rt, alloc, outside, Status::Sheet, NO_SHEET)?;
+    }
+    Ok(())
 }
 
 // What is said of the theorems over P, and of one of another database; and words that fit no command.
@@ -575,7 +711,7 @@ fn check_words(rt: &impl Abort, alloc: Global) -> Result<(), Fail> {
             database: database.as_slice(),
             // the one read of a call
             store_fails: &[2],
-            ..honest(P, b"")
+            ..honest(P.as_bytes(), b"")
         };
         check(
             rt,
@@ -590,14 +726,14 @@ fn check_words(rt: &impl Abort, alloc: Global) -> Result<(), Fail> {
         rt,
         alloc,
         &["verify", "P.mm", "th1"],
-        honest(DEMO0, b""),
+        honest(DEMO0.as_bytes(), b""),
         accepted,
     )?;
     for words in WRONG_WORDS {
         let outside = Outside {
             store_fails: &[1],
             out_fails: &[1],
-            ..honest(P, b"")
+            ..honest(P.as_bytes(), b"")
         };
         check(rt, alloc, words, outside, (Status::Words, b"", USAGE))?;
     }
@@ -606,7 +742,7 @@ fn check_words(rt: &impl Abort, alloc: Global) -> Result<(), Fail> {
 
 // Each fault of the outside has its status.
 fn check_faults(rt: &impl Abort, alloc: Global, sheet: &[u8], finished: &[u8]) -> Result<(), Fail> {
-    let honest = honest(P, sheet);
+    let honest = honest(P.as_bytes(), sheet);
     let first_read = Outside {
         store_fails: &[1],
         ..honest
@@ -652,10 +788,14 @@ fn check_faults(rt: &impl Abort, alloc: Global, sheet: &[u8], finished: &[u8]) -
 #[test]
 fn calls_are_answered(rt: HostRuntime) -> Result<(), Fail> {
     for row in WRITTEN {
-        check_row(&rt, rt.alloc(), row)?;
+        check_row(&rt, rt.alloc(), &NORMAL, row)?;
+    }
+    for row in COMPRESSED {
+        check_row(&rt, rt.alloc(), &["unify", "P.mm", "r.mmp"], row)?;
     }
     let (sheet, finished) = sheets_of(rt.alloc(), WRITTEN[0])?;
     check_refusals(&rt, rt.alloc(), &sheet)?;
+    check_unbuilt(&rt, rt.alloc(), &sheet)?;
     check_words(&rt, rt.alloc())?;
     check_faults(&rt, rt.alloc(), &sheet, &finished)
 }

@@ -1,5 +1,7 @@
-ghost use Rattle.std.specs.Prelude.{◌≡◌, ◌++◌, codes, IfOk};
+ghost use Rattle.std.specs.Prelude.{◌≡◌, ◌++◌, None, codes, IfOk};
 ghost use Rattle.std.specs.List.{flat_map};
+ghost use Rattle.mm_frames.specs.Contents.{contents_of};
+ghost use Rattle.mm_model.specs.Statements.{database_fault};
 ghost use Rattle.mmp.specs.Answer.{line};
 ghost use Rattle.sheet_text.specs.declared.sheet.Sheet.{Sheet};
 ghost use Rattle.sheet_unify.specs.LaidOut.{IsLaidOut};
@@ -7,10 +9,10 @@ ghost use Rattle.mmp.specs.Unify.{IsSheetAnswer, IsTextStatus, IsUnbuilt, IsWrit
 
 use crate::answer::{Answer, refuse};
 use mm_base::{Bytes, Kinds, List, Memory, Status};
+use mm_database::open_frames;
+use mm_frames::Frames;
 use sheet_text::Sheet;
-use sheet_unify::{
-    Database, OpenFault, Outcome, UnifyFault, open_database, report_lines, unify_sheet,
-};
+use sheet_unify::{Outcome, UnifyFault, report_lines, unify_sheet};
 use std::alloc::Global;
 use written_model::{DvMode, Options, ProofStyle};
 
@@ -75,15 +77,6 @@ fn answer_outcome(alloc: Global, outcome: Outcome) -> Result<Answer, Memory>
     })
 }
 
-// The database of a text without a fault, unless it is not handled yet.
-fn open_faultless(alloc: Global, text: &[u8], kinds: &Kinds) -> Result<Option<Database>, Memory> {
-    match open_database(alloc, text, kinds) {
-        Ok(database) => Ok(Some(database)),
-        Err(OpenFault::NotBuilt) => Ok(None),
-        Err(OpenFault::Memory) => Err(Memory),
-    }
-}
-
 // The refusal of what is not handled yet.
 fn refuse_unbuilt(alloc: Global) -> Result<Answer, Memory>
     ensures { IfOk result IsUnbuilt }
@@ -91,25 +84,25 @@ fn refuse_unbuilt(alloc: Global) -> Result<Answer, Memory>
     refuse(alloc, Status::Sheet, "sheet error 91 NotBuilt at line 1")
 }
 
-/// Unifies a sheet over the text of a database without a fault.
+/// Unifies a sheet over a database without a fault, from its text and the statements that it has.
 pub fn answer_sheet(
     alloc: Global,
     database: &[u8],
+    frames: Frames,
     sheet: &Sheet,
     style: ProofStyle,
 ) -> Result<Answer, Memory>
+    requires contents { frames ≡ contents_of database.now }
+    requires no_fault { database_fault database.now ≡ None }
     ensures answer { IfOk result (IsSheetAnswer sheet.now) }
     ensures status { IfOk result (λ answer. IsTextStatus answer.status) }
 {
-    let kinds = usual_kinds(alloc)?;
-    let Some(database) = open_faultless(alloc, database, &kinds)? else {
-        return refuse_unbuilt(alloc);
-    };
     let options = Options {
         style,
-        kinds,
+        kinds: usual_kinds(alloc)?,
         dv: DvMode::Add,
     };
+    let database = open_frames(alloc, database, frames, &options.kinds)?;
     match unify_sheet(alloc, &database, sheet, &options) {
         Ok(outcome) => answer_outcome(alloc, outcome),
         Err(UnifyFault::NotBuilt) => refuse_unbuilt(alloc),

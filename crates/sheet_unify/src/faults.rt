@@ -2,17 +2,6 @@ use mm_base::Memory;
 use std::alloc::{AllocError, AllocFailed};
 use thiserror::Error;
 
-/// Why a database was not opened.
-#[derive(Clone, Copy, Debug, PartialEq, Eq, Error)]
-pub enum OpenFault {
-    /// The text has a fault, or something that is not built yet.
-    #[error("not built")]
-    NotBuilt,
-    /// Memory ran out.
-    #[error("out of memory")]
-    Memory,
-}
-
 /// Why a worksheet was not unified.
 #[derive(Clone, Copy, Debug, PartialEq, Eq, Error)]
 pub enum UnifyFault {
@@ -22,24 +11,6 @@ pub enum UnifyFault {
     /// Memory ran out.
     #[error("out of memory")]
     Memory,
-}
-
-impl From<Memory> for OpenFault {
-    fn from(_: Memory) -> OpenFault {
-        OpenFault::Memory
-    }
-}
-
-impl From<AllocError> for OpenFault {
-    fn from(_: AllocError) -> OpenFault {
-        OpenFault::Memory
-    }
-}
-
-impl<T: Drop> From<AllocFailed<T>> for OpenFault {
-    fn from(_: AllocFailed<T>) -> OpenFault {
-        OpenFault::Memory
-    }
 }
 
 impl From<Memory> for UnifyFault {

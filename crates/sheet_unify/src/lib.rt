@@ -1,24 +1,23 @@
-//! Unifies a worksheet with a database: opens the database, finds for each step whether its reference fits, and writes the
-//! worksheet back, with its proof where it is finished.
+//! Unifies a worksheet with an opened database: finds for each step whether its reference fits, and writes the worksheet
+//! back, with its proof where it is finished.
 //!
-//! So far this is built for small databases and for worksheets whose formulas are all given. Everything else is
+//! So far this is built for new theorems at the end of the database, whose formulas are all given. What is not built is
 //! answered by `NotBuilt`, and never by a wrong answer.
 #![tactic(auto)]
 
-mod database;
+mod assertion;
+mod compressed;
 mod faults;
+mod graph;
 mod judging;
-mod normal_proof;
-mod parsing;
-mod reader;
+mod normal;
+mod proof;
 mod report;
-mod sheet;
+mod scope;
+mod steps;
 mod substitution;
 mod unify;
-mod words;
 
-pub use database::Database;
-pub use faults::{OpenFault, UnifyFault};
-pub use reader::open_database;
+pub use faults::UnifyFault;
 pub use report::report_lines;
 pub use unify::{Outcome, unify_sheet};

@@ -1,6 +1,40 @@
-use mm_base::{Bytes, List, Memory};
+use crate::judging::Judgement;
+use crate::steps::Step;
+use mm_base::{Bytes, List, Memory, Name};
 use std::alloc::Global;
 use written_model::{ReportLine, ReportVerdict};
+
+/// The report on these steps.
+pub fn report_of(
+    alloc: Global,
+    steps: &[Step],
+    judgements: &[Judgement],
+) -> Result<List<ReportLine>, Memory> {
+    let mut lines = Vec::with_capacity(alloc, steps.len())?;
+    for (step, judgement) in steps.iter().zip(judgements) {
+        lines.push(report_line(alloc, step, judgement.verdict())?)?;
+    }
+    Ok(List::from_vec(lines))
+}
+
+fn report_line(alloc: Global, step: &Step, verdict: ReportVerdict) -> Result<ReportLine, Memory> {
+    let reference = if step.is_hypothesis {
+        None
+    } else {
+        Some(name_of(alloc, step.reference)?)
+    };
+    Ok(ReportLine {
+        name: name_of(alloc, step.name)?,
+        verdict,
+        reference,
+        clash: None,
+        lack: None,
+    })
+}
+
+fn name_of(alloc: Global, bytes: &[u8]) -> Result<Name, Memory> {
+    Ok(List::from_vec(Vec::from_slice(alloc, bytes)?))
+}
 
 /// The lines of a report, one for each step in order, without line feeds. That the worksheet is finished or not is
 /// no part of them.

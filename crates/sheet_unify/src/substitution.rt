@@ -1,3 +1,4 @@
+use crate::faults::UnifyFault;
 use mm_base::{Memory, Sym, Tree};
 use std::alloc::Global;
 
@@ -16,13 +17,23 @@ impl<'a> Substitution<'a> {
     }
 
     /// The tree in a variable's place.
-    pub fn value(&self, variable: Sym) -> Option<&'a Tree> {
+    fn value(&self, variable: Sym) -> Option<&'a Tree> {
         for (known, tree) in &self.values {
             if *known == variable {
                 return Some(*tree);
             }
         }
         None
+    }
+
+    /// The trees in place of these variables, in order. `NotBuilt` where one has none, as no variable of an assertion that
+    /// was matched.
+    pub fn values_of(&self, variables: &[Sym]) -> Result<Vec<&'a Tree>, UnifyFault> {
+        let mut values = Vec::with_capacity(*self.values.allocator(), variables.len())?;
+        for variable in variables {
+            values.push(self.value(*variable).ok_or(UnifyFault::NotBuilt)?)?;
+        }
+        Ok(values)
     }
 
     /// Whether the pattern becomes this tree. Its variables that have no tree yet are given theirs on the way.

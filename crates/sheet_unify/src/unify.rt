@@ -1,16 +1,19 @@
 ghost use Rattle.std.specs.Prelude.{IfOk};
 ghost use Rattle.sheet_unify.specs.LaidOut.{IsLaidOut};
 
-use crate::database::Database;
 use crate::faults::UnifyFault;
+use crate::graph::ProofGraph;
 use crate::judging::{Judgement, judge_all};
-use crate::normal_proof::normal_proof;
-use crate::sheet::{Step, read_steps};
-use mm_base::{Bytes, List, MOST_SHEET_BYTES, Memory, Name};
+use crate::proof::proof_text;
+use crate::report::report_of;
+use crate::scope::Scope;
+use crate::steps::{Step, read_steps};
+use mm_base::{Bytes, List, MOST_SHEET_BYTES};
+use mm_database::Database;
 use sheet_print::{layout, layout_len};
 use sheet_text::Sheet;
 use std::alloc::Global;
-use written_model::{Options, ProofStyle, ReportLine, ReportVerdict};
+use written_model::{Options, ReportLine};
 
 /// What came of a worksheet.
 #[derive(Debug, Drop)]
@@ -23,13 +26,16 @@ pub struct Outcome {
     pub finished: bool,
 }
 
-/// Unifies a worksheet for a theorem that the database does not have, and whose formulas are all given. The worksheet is
-/// written with its comments and steps as they are, and with its proof where it is finished.
+/// Unifies a worksheet for a new theorem at the end of a database, whose formulas are all given, over the database that
+/// was opened with the kinds of the options. The worksheet is written with its comments and steps as they are, and with
+/// its proof where it is finished. It takes one pass over the statements of the database, and beyond that time that
+/// depends on the worksheet and the assertions that it names.
 ///
 /// # Errors
-/// `NotBuilt` where the worksheet has a fault or something that is not built yet, such as work variables, blank formulas,
-/// steps without a reference or with fewer places than it has `$e`, and compressed proofs; or where it or its proof is
-/// larger than the limits. `Memory` where memory ran out.
+/// `NotBuilt` where the worksheet has a fault or something that is not built yet: another place than the end of the
+/// database, `$e` that are active there, work variables, blank formulas, `?`, `$d`, steps without a reference, with fewer
+/// places than it has `$e` or with places that fit in another order alone, and steps that fit an assertion with mandatory
+/// pairs; or where the worksheet or its proof is larger than the limits. `Memory` where memory ran out.
 pub fn unify_sheet(
     alloc: Global,
     db: &Database,
@@ -38,25 +44,24 @@ pub fn unify_sheet(
 ) -> Result<Outcome, UnifyFault>
     ensures { IfOk result (λ outcome. IsLaidOut sheet.now outcome.text) }
 {
-    if !db.has_kinds(&options.kinds) {
-        return Err(UnifyFault::NotBuilt);
-    }
-    let steps = read_steps(alloc, db, sheet)?;
-    let judgements = judge_all(db, steps.as_slice())?;
-    let finished = is_finished(alloc, steps.as_slice(), judgements.as_slice())?;
-    let text = if finished {
-        if options.style == ProofStyle::Compressed {
-            return Err(UnifyFault::NotBuilt);
-        }
-        let labels = normal_proof(alloc, db, steps.as_slice(), judgements.as_slice())?;
-        written_text(alloc, sheet, Some(labels.as_slice()))?
-    } else {
-        written_text(alloc, sheet, None)?
+    let scope = Scope::at_end(alloc, db, &options.kinds)?;
+    let steps = read_steps(alloc, &scope, sheet)?;
+    let judgements = judge_all(alloc, &scope, steps.as_slice())?;
+    let proof = proof_of(
+        alloc,
+        options,
+        &scope,
+        steps.as_slice(),
+        judgements.as_slice(),
+    )?;
+    let text = match &proof {
+        None => written_text(alloc, sheet, None)?,
+        Some(proof) => written_text(alloc, sheet, Some(proof.as_slice()))?,
     };
     Ok(Outcome {
         text,
         report: report_of(alloc, steps.as_slice(), judgements.as_slice())?,
-        finished,
+        finished: proof.is_some(),
     })
 }
 
@@ -70,58 +75,50 @@ fn written_text(alloc: Global, sheet: &Sheet, proof: Option<&[u8]>) -> Result<By
     Ok(layout(alloc, sheet, proof)?)
 }
 
-/// Whether the last step, and each step that is listed on the way to it, is a hypothesis or fits.
-fn is_finished(
+/// The proof of a worksheet that is finished; none where it is not.
+fn proof_of(
     alloc: Global,
+    options: &Options,
+    scope: &Scope,
     steps: &[Step],
     judgements: &[Judgement],
-) -> Result<bool, UnifyFault> {
+) -> Result<Option<Bytes>, UnifyFault> {
+    let below = below_qed(alloc, steps)?;
+    if !is_finished(&below, judgements) {
+        return Ok(None);
+    }
+    let graph = ProofGraph::of(alloc, scope, steps, judgements, &below)?;
+    Ok(Some(proof_text(alloc, options.style, scope, steps, &graph)?))
+}
+
+/// Whether each step is `qed`, or listed on the way to it.
+fn below_qed(alloc: Global, steps: &[Step]) -> Result<Vec<bool>, UnifyFault> {
     let mut below = vec![in alloc; false; steps.len()]?;
     if let Some(qed) = below.last_mut() {
         *qed = true;
     }
-    for (number, (step, judgement)) in steps.iter().zip(judgements).enumerate().rev() {
+    for (number, step) in steps.iter().enumerate().rev() {
         if below.get(number) == Some(&true) {
-            if !matches!(judgement.verdict, ReportVerdict::Hyp | ReportVerdict::Fits) {
-                return Ok(false);
-            }
             mark(&mut below, step.places.as_slice());
         }
     }
-    Ok(true)
+    Ok(below)
 }
 
-fn mark(below: &mut [bool], places: &[usize]) {
+fn mark(below: &mut [bool], places: &[u32]) {
     for place in places {
-        if let Some(mark) = below.get_mut(*place) {
+        if let Some(mark) = below.get_mut(*place as usize) {
             *mark = true;
         }
     }
 }
 
-fn report_of(
-    alloc: Global,
-    steps: &[Step],
-    judgements: &[Judgement],
-) -> Result<List<ReportLine>, Memory> {
-    let mut lines = Vec::with_capacity(alloc, steps.len())?;
-    for (step, judgement) in steps.iter().zip(judgements) {
-        let reference = if step.is_hypothesis {
-            None
-        } else {
-            Some(name_of(alloc, step.reference)?)
-        };
-        lines.push(ReportLine {
-            name: name_of(alloc, step.name)?,
-            verdict: judgement.verdict,
-            reference,
-            clash: None,
-            lack: None,
-        })?;
+/// Whether each of these steps is a hypothesis or fits.
+fn is_finished(below: &[bool], judgements: &[Judgement]) -> bool {
+    for (is_below, judgement) in below.iter().zip(judgements) {
+        if *is_below && matches!(judgement, Judgement::SetAside(_)) {
+            return false;
+        }
     }
-    Ok(List::from_vec(lines))
-}
-
-fn name_of(alloc: Global, bytes: &[u8]) -> Result<Name, Memory> {
-    Ok(List::from_vec(Vec::from_slice(alloc, bytes)?))
+    true
 }

@@ -1,5 +1,12 @@
-use Rattle.mmp.proofs.Texts.{may_refuse, may_refuse_sheet, may_answer_sheet}
+use Rattle.std.proofs.Common.{sym, subst}
+use Rattle.mmp.specs.Unify.{IsAccepted}
+use Rattle.mmp.proofs.Texts.{may_refuse, may_refuse_sheet, may_answer_sheet, no_fault_of}
 use Rattle.mmp.proofs.run.answer_unify.Goals as goal
+
+pub answer_sheet-requires-clause-no_fault : goal.answer_sheet-requires-clause-no_fault
+answer_sheet-requires-clause-no_fault g c =
+    let listed = rw c.in-Database.is at c.in_ok-text.ensures.opened in
+    no_fault_of c.as_slice.result.now (subst IsAccepted (sym c.as_slice.ensures) listed.is_open.accepted)
 
 pub returns-in-Refused-clause-answer : goal.returns-in-Refused-clause-answer
 returns-in-Refused-clause-answer g c = may_refuse _ _ _ _ c.in-Refused.answer (rw c.in-Refused.is at c.in_ok-text.ensures.opened)

@@ -1,8 +1,7 @@
-use crate::database::Database;
 use crate::faults::UnifyFault;
-use crate::parsing::formula_tree;
+use crate::scope::Scope;
 use indexmap::IndexSet;
-use mm_base::{Name, Tree};
+use mm_base::Tree;
 use sheet_text::{Given, Sheet, SheetItem, SheetStep};
 use std::alloc::Global;
 
@@ -14,31 +13,31 @@ pub struct Step<'a> {
     /// Whether it is a hypothesis of the theorem. Its reference is then the hypothesis' label.
     pub is_hypothesis: bool,
     /// The earlier steps that it lists, by their numbers from 0.
-    pub places: Vec<usize>,
+    pub places: Vec<u32>,
     /// A label.
     pub reference: &'a [u8],
-    /// The tokens of its formula.
-    pub tokens: usize,
     /// The tree of its formula.
     pub tree: Tree,
 }
 
-/// The steps of a worksheet for a theorem that the database does not have, in order. The last of them is `qed`.
+/// The steps of a worksheet, in order. The last of them is `qed`. `NotBuilt` where the worksheet has a fault, or is for
+/// another place than the end of the database.
 pub fn read_steps<'a>(
     alloc: Global,
-    db: &Database,
+    scope: &Scope,
     sheet: &'a Sheet,
 ) -> Result<Vec<Step<'a>>, UnifyFault> {
-    if sheet.loc.is_some() || !sheet.pairs.as_slice().is_empty() {
+    let theorem = sheet.theorem.as_slice();
+    if sheet.loc.is_some() || !sheet.pairs.as_slice().is_empty() || !is_label(theorem) {
         return Err(UnifyFault::NotBuilt);
     }
     let mut reader = Reader {
         alloc,
-        db,
+        scope,
         labels: IndexSet::new(alloc),
         steps: Vec::new(alloc),
     };
-    reader.keep_label(sheet.theorem.as_slice())?;
+    reader.keep_label(theorem)?;
     for item in sheet.items.as_slice() {
         match item {
             SheetItem::Comment(_) => {}
@@ -48,19 +47,26 @@ pub fn read_steps<'a>(
     Ok(reader.steps)
 }
 
+/// Whether a name has the form of a label (Metamath book, section 4.1.1).
+fn is_label(name: &[u8]) -> bool {
+    !name.is_empty()
+        && name.iter().all(|byte| byte.is_ascii_alphanumeric()
+            || matches!(byte, b'-' | b'_' | b'.'))
+}
+
 #[derive(Drop)]
-struct Reader<'a, 'd> {
+struct Reader<'a, 's, 'd> {
     alloc: Global,
-    db: &'d Database,
+    scope: &'s Scope<'d>,
     // the labels of the theorem and its hypotheses
     labels: IndexSet<&'a [u8]>,
     steps: Vec<Step<'a>>,
 }
 
-impl<'a> Reader<'a, '_> {
+impl<'a> Reader<'a, '_, '_> {
     /// Keeps a label that neither the database nor the worksheet has.
     fn keep_label(&mut self, label: &'a [u8]) -> Result<(), UnifyFault> {
-        if !self.db.is_free_label(label) || !self.labels.insert(label)? {
+        if self.scope.db.frames().label(label).is_some() || !self.labels.insert(label)? {
             return Err(UnifyFault::NotBuilt);
         }
         Ok(())
@@ -71,55 +77,31 @@ impl<'a> Reader<'a, '_> {
             return Err(UnifyFault::NotBuilt);
         };
         if step.hyp {
-            self.hypothesis(step, reference.as_slice())?;
+            if !step.places.as_slice().is_empty() {
+                return Err(UnifyFault::NotBuilt);
+            }
+            self.keep_label(reference.as_slice())?;
         }
         let step = Step {
             name: step.name.as_slice(),
             is_hypothesis: step.hyp,
             places: places(self.alloc, step.places.as_slice())?,
             reference: reference.as_slice(),
-            tokens: step.formula.as_slice().len(),
-            tree: self.tree(step.formula.as_slice())?,
+            tree: self.scope.tree(self.alloc, step.formula.as_slice())?,
         };
         self.steps.push(step)?;
         Ok(())
     }
-
-    fn hypothesis(&mut self, step: &SheetStep, label: &'a [u8]) -> Result<(), UnifyFault> {
-        if !step.places.as_slice().is_empty() {
-            return Err(UnifyFault::NotBuilt);
-        }
-        self.keep_label(label)
-    }
-
-    /// The tree of a formula.
-    fn tree(&self, formula: &[Name]) -> Result<Tree, UnifyFault> {
-        let words = words(self.alloc, formula)?;
-        let leaves = self
-            .db
-            .leaves(words.as_slice())?
-            .ok_or(UnifyFault::NotBuilt)?;
-        formula_tree(self.db, leaves.as_slice())?.ok_or(UnifyFault::NotBuilt)
-    }
 }
 
 /// The numbers of the steps that a step lists.
-fn places(alloc: Global, given: &[Given]) -> Result<Vec<usize>, UnifyFault> {
-    let mut places = Vec::new(alloc);
+fn places(alloc: Global, given: &[Given]) -> Result<Vec<u32>, UnifyFault> {
+    let mut places = Vec::with_capacity(alloc, given.len())?;
     for place in given {
         match place {
-            Given::Step(number) => places.push(*number as usize)?,
+            Given::Step(number) => places.push(*number)?,
             Given::Gap => return Err(UnifyFault::NotBuilt),
         }
     }
     Ok(places)
-}
-
-/// The words of a formula.
-fn words(alloc: Global, formula: &[Name]) -> Result<Vec<&[u8]>, UnifyFault> {
-    let mut words = Vec::with_capacity(alloc, formula.len())?;
-    for word in formula {
-        words.push(word.as_slice())?;
-    }
-    Ok(words)
 }
