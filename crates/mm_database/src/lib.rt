@@ -12,6 +12,3 @@ mod variables;
 pub use assertions::Parsed;
 pub use database::{Database, open_database};
 pub use faults::{DbFault, db_fault_line};
-
-#[cfg(test)]
-mod tests;
