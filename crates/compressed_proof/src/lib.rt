@@ -15,6 +15,3 @@ pub use laws::decode_undoes_encode;
 pub use proof_model::{Code, Step, What};
 pub use reader::decode;
 pub use writer::{encode, letters};
-
-#[cfg(test)]
-mod tests;

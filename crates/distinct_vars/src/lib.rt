@@ -10,6 +10,3 @@ mod values;
 pub use clashes::clash;
 pub use crossings::needed;
 pub use missing::lacking;
-
-#[cfg(test)]
-mod tests;

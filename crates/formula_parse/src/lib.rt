@@ -14,6 +14,3 @@ pub use mm_model::Leaf;
 pub use parsing::{ParseFault, parse};
 pub use sizes::nodes;
 pub use texts::text;
-
-#[cfg(test)]
-mod tests;

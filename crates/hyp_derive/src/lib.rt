@@ -8,6 +8,3 @@ mod same;
 pub use filling::fill;
 pub use naming::step_name;
 pub use written_model::Filled;
-
-#[cfg(test)]
-mod tests;

@@ -41,6 +41,3 @@ pub fn next_order(order: &mut List<u32>) -> bool
     *order = List::from_vec(items);
     is_next
 }
-
-#[cfg(test)]
-mod tests;

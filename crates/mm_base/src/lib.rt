@@ -30,6 +30,3 @@ pub use outside::{Sink, Store};
 pub use status::Status;
 pub use symbols::{Label, Pair, Sym, Typecode};
 pub use tree::Tree;
-
-#[cfg(test)]
-mod tests;

@@ -12,6 +12,3 @@ mod variables;
 pub use assertions::Parsed;
 pub use database::{Database, open_database, open_frames, read_frames};
 pub use faults::{DbFault, db_fault_line};
-
-#[cfg(test)]
-mod tests;

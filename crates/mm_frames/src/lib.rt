@@ -15,6 +15,3 @@ pub use fault::ReadFault;
 pub use frame_lists::{Active, Entry, EntryKind, Frame, Hyp, StatementKind};
 pub use frames::Frames;
 pub use reading::read;
-
-#[cfg(test)]
-mod tests;

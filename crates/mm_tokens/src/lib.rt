@@ -9,6 +9,3 @@ mod words;
 pub use scan::tokens;
 pub use token::{Token, TokenFault, TokenKind};
 pub use words::{is_white, next_word};
-
-#[cfg(test)]
-mod tests;

@@ -7,6 +7,3 @@ mod text;
 
 pub use length::layout_len;
 pub use text::layout;
-
-#[cfg(test)]
-mod tests;

@@ -12,6 +12,3 @@ mod statements;
 pub use fault::{SheetCode, SheetFault};
 pub use reading::read_sheet;
 pub use sheet_text::{Given, PairLine, Sheet, SheetItem, SheetStep};
-
-#[cfg(test)]
-mod tests;

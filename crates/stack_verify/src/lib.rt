@@ -21,6 +21,3 @@ pub use coding::proof_code;
 pub use fault::ProofFault;
 pub use proof_model::Theorem;
 pub use theorems::theorem_of;
-
-#[cfg(test)]
-mod tests;

@@ -161,6 +161,3 @@ fn close_all(arena: &mut Arena, start: u32) -> bool
     }
     true
 }
-
-#[cfg(test)]
-mod tests;

@@ -108,27 +108,3 @@ fn grow(slots: &mut Vec<u32>, wanted: usize) -> Result<(), AllocError>
     }
     Ok(())
 }
-
-#[cfg(test)]
-mod tests {
-    use super::*;
-    use std::test::Fail;
-
-    #[test]
-    fn notes_and_goes_back(rt: HostRuntime) -> Result<(), Fail> {
-        let mut trail = Trail::new(rt.alloc())?;
-        trail.reserve(3)?;
-        trail.note(7);
-        trail.note(8);
-        let mark = trail.mark();
-        trail.note(9);
-        assert_eq!(rt; mark, 2);
-        assert_eq!(rt; trail.entry(2), 9);
-        assert_eq!(rt; trail.back_to(mark), Some(9));
-        assert_eq!(rt; trail.back_to(mark), None);
-        trail.note(5);
-        assert_eq!(rt; trail.entry(2), 5);
-        assert_eq!(rt; trail.entry(0), 7);
-        Ok(())
-    }
-}

@@ -8,6 +8,3 @@ mod numbers;
 pub use free::{least_free, least_unused};
 pub use names::{read_name, spelling};
 pub use numbers::read_number;
-
-#[cfg(test)]
-mod tests;
