@@ -1,6 +1,6 @@
 -- The faults of an opened database as first faults of its text.
-use Rattle.std.proofs.Common.{◌≡◌, ◌≢◌, Option, Some, None, IsSome, refl, sym}
-use Rattle.mm_model.specs.Faults.{Fault, fault}
+use Rattle.std.proofs.Common.{◌≡◌, ◌≢◌, Option, IsSome, refl}
+use Rattle.mm_model.specs.Faults.{Fault}
 use Rattle.mm_tokens.specs.declared.token.TokenFault.TheVariants as token
 use Rattle.mm_frames.specs.declared.fault.ReadFault.TheVariants as read
 use Rattle.mm_database.specs.declared.faults.DbFault.{DbFault}

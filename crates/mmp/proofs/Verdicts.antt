@@ -1,5 +1,5 @@
 -- What is said of a label, from what was found of its theorem, its code and the machine.
-use Rattle.std.proofs.Common.{◌≡◌, ◌⊎◌, ◌^◌, ℕ, List, length, nat_lt, Bool, true, false, cond, Option, Some, None, MatchOption, IsSome, refl, sym, ap, subst, inl, inr}
+use Rattle.std.proofs.Common.{◌≡◌, ◌^◌, ℕ, List, length, nat_lt, Bool, true, false, cond, Option, Some, None, MatchOption, IsSome, refl, sym, ap, subst, inl, inr}
 use Rattle.std.specs.List.{join_with_byte}
 use Rattle.compressed_proof.specs.Decoded.{IsFault}
 use Rattle.compressed_proof.specs.declared.fault.CodeFault.{CodeFault}
@@ -16,7 +16,7 @@ use Rattle.mm_model.specs.Statements.{Statement, statements, database_fault, sta
 use Rattle.proof_model.specs.declared.code.Code.{Code}
 use Rattle.proof_model.specs.declared.theorem.Theorem.{Theorem}
 use Rattle.proof_model.specs.DatabaseProofs.{frames_of_database, theorem_of_frame, proof_code_fault, IsCodeOf}
-use Rattle.proof_model.specs.Machine.{Accepts, MachineFault, proof_fault}
+use Rattle.proof_model.specs.Machine.{Accepts, proof_fault}
 use Rattle.written_model.specs.Verified.{Verdict, no_theorem, accepted, bad_code, verdict_of, theorem_named, IsProofVerdict, IsVerdict}
 use Rattle.mmp.specs.Theorems.{IsTheorem}
 use Rattle.mmp.proofs.Theorems.{named_by}

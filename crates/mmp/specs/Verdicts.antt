@@ -1,5 +1,4 @@
 -- What the program says of a proof.
-use Rattle.mm_model.specs.Faults.{Fault}
 use Rattle.written_model.specs.FaultLines.{code_faults, proof_faults}
 use Rattle.written_model.specs.Verified as said
 use Rattle.mmp.specs.declared.verify.Verdict.{Verdict}

@@ -684,17 +684,22 @@ fn check_refusals(rt: &impl Abort, alloc: Global, sheet: &[u8]) -> Result<(), Fa
     check_refused(rt, alloc, honest(b"", &long), Status::Sheet, line)
 }
 
-// What is not built.
-fn check_unbuilt(rt: &impl Abort, alloc: Global, sheet: &[u8]) -> Result<(), Fail> {
-    for text in UNBUILT_SHEETS {
-        let outside = honest(P.as_bytes(), text.as_bytes());
+// Worksheets over this database that have something which is not built.
+fn check_unbuilt(
+    rt: &impl Abort,
+    alloc: Global,
+    database: &[u8],
+    sheets: &[&str],
+) -> Result<(), Fail> {
+    for text in sheets {
+        let outside = honest(database, text.as_bytes());
         check_refused(rt, alloc, outside, Status::Sheet, NO_SHEET)?;
     }
-    let database = joined(alloc, &[P, Q])?;
-    for text in UNBUILT_OVER_Q {
-        let outside = honest(&database, text.as_bytes());
-        check_refused(rt, alloc, outside, Status::Sheet, NO_SHEET)?;
-    }
+    Ok(())
+}
+
+// A worksheet over databases in which nothing can be proved.
+fn check_poor(rt: &impl Abort, alloc: Global, sheet: &[u8]) -> Result<(), Fail> {
     for text in POOR_DATABASES {
         let outside = honest(text.as_bytes(), sheet);
         check_refused(rt, alloc, outside, Status::Sheet, NO_SHEET)?;
@@ -795,7 +800,10 @@ fn calls_are_answered(rt: HostRuntime) -> Result<(), Fail> {
     }
     let (sheet, finished) = sheets_of(rt.alloc(), WRITTEN[0])?;
     check_refusals(&rt, rt.alloc(), &sheet)?;
-    check_unbuilt(&rt, rt.alloc(), &sheet)?;
+    check_unbuilt(&rt, rt.alloc(), P.as_bytes(), &UNBUILT_SHEETS)?;
+    let database = joined(rt.alloc(), &[P, Q])?;
+    check_unbuilt(&rt, rt.alloc(), &database, &UNBUILT_OVER_Q)?;
+    check_poor(&rt, rt.alloc(), &sheet)?;
     check_words(&rt, rt.alloc())?;
     check_faults(&rt, rt.alloc(), &sheet, &finished)
 }

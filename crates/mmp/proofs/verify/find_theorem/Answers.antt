@@ -1,5 +1,4 @@
 use Rattle.std.proofs.Common.{◌∙◌, sym, ap}
-use Rattle.std.specs.Option.{option_copied}
 use Rattle.mm_frames.specs.Contents.{Contents}
 use Rattle.mm_model.specs.Names.{label_named}
 use Rattle.mm_model.specs.Statements.{statements}
