@@ -1,5 +1,5 @@
 -- How many numbers of a range pass, where those below one pass and the others do not; and numbers that rise.
-use Rattle.std.specs.Prelude.{◌≡◌, ◌+◌, ◌<◌, ◌≤◌, ℕ, zero, suc, Bool, true, false, nat_lt, List, count_by, refl}
+use Rattle.std.specs.Prelude.{◌≡◌, ◌↔◌, ◌+◌, ◌<◌, ◌≤◌, ℕ, zero, suc, Bool, true, false, nat_lt, List, count_by, refl}
 use Rattle.std.specs.List.{range_with_len}
 use Rattle.std.specs.List.Sorted.{IsNonDecreasingBy}
 use Rattle.std.proofs.Common.{arith, ap, ◌∙◌, cond, get_or, inl, inr}
@@ -31,6 +31,19 @@ not_less i j e l = grind (arith, nat_tests)
 
 less : (i j : ℕ) → nat_lt i j ≡ true → i < j
 less i j e = grind (arith, nat_tests)
+
+not_below : (i j : ℕ) → nat_lt i j ≡ false → j ≤ i
+not_below i j e = grind (arith, nat_tests)
+
+-- the numbers below a bound are the first k, where these pass the test and no later one does
+pub first_below : (k l n bound : ℕ) → (l < k → nat_lt n bound ≡ true) → (k ≤ l → nat_lt n bound ≡ false) → (l < k) ↔ (n < bound)
+first_below k l n bound pass fail = (
+  λ h. less n bound (pass h),
+  λ h. elim (cases_Bool (nat_lt l k)) [
+    | inl e ↦ less l k e
+    | inr e ↦ let above : bound ≤ n = not_below n bound (fail (not_below l k e)) in absurd (omega (arith, above, h))
+  ],
+)
 
 pub non_decreasing : (ns : List ℕ) → Rise ns → IsNonDecreasingBy (λ (n : ℕ). n) ns
 non_decreasing ns rise i j d l m = elim (cases_Bool (nat_lt i j)) [

@@ -1,4 +1,4 @@
-ghost use Rattle.std.specs.Prelude.{◌≡◌, ◌<◌, ◌≤◌, ◌^◌, None, Option, Some, count_by, length, option_map, position, nat_lt, slice_index_or, IfOk, IfErr, OnOk};
+ghost use Rattle.std.specs.Prelude.{◌≡◌, ◌↔◌, ◌<◌, ◌≤◌, ◌^◌, ℕ, None, Option, Some, count_by, length, option_map, position, nat_lt, slice_index_or, IfOk, IfErr, OnOk};
 ghost use Rattle.std.specs.List.{range_with_len};
 ghost use Rattle.std.specs.Str.{bytes_eq};
 ghost use Rattle.mm_model.specs.BookFacts.{Rise};
@@ -112,6 +112,7 @@ fn positions_below(positions: &[u32], place: u32) -> usize
     requires { Rise positions.now }
     ensures within { result ≤ length positions.now }
     ensures count { result ≡ count_by (λ l. nat_lt (slice_index_or positions.now l 0) place) (range_with_len 0 (length positions.now)) }
+    ensures first { (l : ℕ) → l < length positions.now → (l < result ↔ slice_index_or positions.now l 0 < place) }
 {
     positions.partition_point(|position| *position < place)
 }
@@ -177,7 +178,8 @@ pub fn open_database(alloc: Global, text: &[u8], kinds: &Kinds) -> Result<Databa
 }
 
 impl Database {
-    ghost use Rattle.std.specs.Prelude.{◌≡◌, IsSome, Some, is_some, length};
+    ghost use Rattle.std.specs.Prelude.{◌≡◌, ◌↔◌, ◌<◌, IsSome, Some, is_some, length, slice_index_or};
+    ghost use Rattle.mm_base.specs.declared.symbols.Label.{Label};
     ghost use Rattle.mm_database.specs.declared.assertions.Parsed.{Parsed};
     ghost use Rattle.mm_database.specs.Books.{parsed_at};
     ghost use Rattle.mm_database.specs.ByHead.{by_head};
@@ -199,6 +201,7 @@ impl Database {
 
     /// Whether the label is that of a usable assertion: it and its `$e` begin with the provable typecode, have at most
     /// 4,096 symbols, and each has exactly one tree of the logic typecode over the productions below its position.
+    /// `kept_are_usable` says that it is so. It takes constant time.
     pub fn usable(&self, label: Label) -> bool
         ensures { result ≡ is_some (parsed_at self.now.parsed label) }
     {
@@ -246,7 +249,9 @@ impl Database {
     /// The number of labels whose position is below a place: they are the labels with the numbers below it. It takes
     /// time in proportion to the length of the number of labels.
     pub fn before(&self, place: u32) -> u32
-        ensures { result ≡ labels_before self.now place }
+        ensures count { result ≡ labels_before self.now place }
+        ensures first { (l : Label) → l.0 < length self.now.contents.labels
+            → (l.0 < result ↔ slice_index_or self.now.contents.positions l.0 0 < place) }
     {
         has_few_labels(&self.frames);
         positions_below(self.frames.positions(), place) as u32
