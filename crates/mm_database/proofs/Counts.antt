@@ -1,6 +1,6 @@
 -- How many numbers of a range pass, where those below one pass and the others do not; and numbers that rise.
-use Rattle.std.specs.Prelude.{◌≡◌, ◌↔◌, ◌+◌, ◌<◌, ◌≤◌, ℕ, zero, suc, Bool, true, false, nat_lt, List, count_by, refl}
-use Rattle.std.specs.List.{range_with_len}
+use Rattle.std.specs.Prelude.{◌≡◌, ◌+◌, ◌<◌, ◌≤◌, ◌↔◌, ℕ, zero, suc, Bool, true, false, nat_lt, List, length, count_by, refl}
+use Rattle.std.specs.List.{range_with_len, AllWithin}
 use Rattle.std.specs.List.Sorted.{IsNonDecreasingBy}
 use Rattle.std.proofs.Common.{arith, ap, ◌∙◌, cond, get_or, inl, inr}
 use Rattle.std.proofs.lemmas.Bool.{cases_Bool}
@@ -35,15 +35,8 @@ less i j e = grind (arith, nat_tests)
 not_below : (i j : ℕ) → nat_lt i j ≡ false → j ≤ i
 not_below i j e = grind (arith, nat_tests)
 
--- the numbers below a bound are the first k, where these pass the test and no later one does
-pub first_below : (k l n bound : ℕ) → (l < k → nat_lt n bound ≡ true) → (k ≤ l → nat_lt n bound ≡ false) → (l < k) ↔ (n < bound)
-first_below k l n bound pass fail = (
-  λ h. less n bound (pass h),
-  λ h. elim (cases_Bool (nat_lt l k)) [
-    | inl e ↦ less l k e
-    | inr e ↦ let above : bound ≤ n = not_below n bound (fail (not_below l k e)) in absurd (omega (arith, above, h))
-  ],
-)
+past : (n m : ℕ) → nat_lt n m ≡ false → n < m → ⊥
+past n m e l = absurd (let below = not_below n m e in omega (arith, below))
 
 pub non_decreasing : (ns : List ℕ) → Rise ns → IsNonDecreasingBy (λ (n : ℕ). n) ns
 non_decreasing ns rise i j d l m = elim (cases_Bool (nat_lt i j)) [
@@ -53,3 +46,14 @@ non_decreasing ns rise i j d l m = elim (cases_Bool (nat_lt i j)) [
       omega (arith, up)
   | inr e ↦ let same : get_or ns i d ≡ get_or ns j d = ap (λ k. get_or ns k d) (not_less i j e l) in omega (arith, same)
 ]
+
+-- k parts the numbers into those below a place and the others
+pub parts : (ns : List ℕ) (place k : ℕ) → AllWithin (λ n. nat_lt n place ≡ true) ns 0 k → AllWithin (λ n. nat_lt n place ≡ false) ns k (length ns)
+    → (l : ℕ) → l < length ns → (l < k) ↔ (get_or ns l 0 < place)
+parts ns place k below above l within = (
+  λ h. less (get_or ns l 0) place (below l 0 (omega arith) h),
+  λ h. elim (cases_Bool (nat_lt l k)) [
+    | inl e ↦ less l k e
+    | inr e ↦ absurd (past (get_or ns l 0) place (above l 0 (not_below l k e) within) h)
+  ],
+)

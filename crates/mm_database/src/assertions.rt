@@ -14,7 +14,7 @@ use std::alloc::Global;
 use syntax_grammar::Grammar;
 
 /// What an opened database keeps of a usable assertion.
-#[derive(Debug, Drop)]
+#[derive(Drop)]
 pub struct Parsed {
     /// The tree of its conclusion.
     pub tree: Tree,

@@ -1,4 +1,4 @@
-ghost use Rattle.std.specs.Prelude.{◌≡◌, ◌↔◌, ◌<◌, ◌≤◌, ◌^◌, ℕ, None, Option, Some, count_by, length, option_map, position, nat_lt, slice_index_or, IfOk, IfErr, OnOk};
+ghost use Rattle.std.specs.Prelude.{◌≡◌, ◌<◌, ◌≤◌, ◌^◌, ◌↔◌, ℕ, None, Option, Some, count_by, length, option_map, position, nat_lt, slice_index_or, IfOk, IfErr, OnOk};
 ghost use Rattle.std.specs.List.{range_with_len};
 ghost use Rattle.std.specs.Str.{bytes_eq};
 ghost use Rattle.mm_model.specs.BookFacts.{Rise};
@@ -111,8 +111,8 @@ fn grammar_of(alloc: Global, text: &[u8], frames: &Frames, kinds: &Kinds) -> Res
 fn positions_below(positions: &[u32], place: u32) -> usize
     requires { Rise positions.now }
     ensures within { result ≤ length positions.now }
+    ensures first { (l : ℕ) → l < length positions.now → (l < result) ↔ (slice_index_or positions.now l 0 < place) }
     ensures count { result ≡ count_by (λ l. nat_lt (slice_index_or positions.now l 0) place) (range_with_len 0 (length positions.now)) }
-    ensures first { (l : ℕ) → l < length positions.now → (l < result ↔ slice_index_or positions.now l 0 < place) }
 {
     positions.partition_point(|position| *position < place)
 }
@@ -178,8 +178,7 @@ pub fn open_database(alloc: Global, text: &[u8], kinds: &Kinds) -> Result<Databa
 }
 
 impl Database {
-    ghost use Rattle.std.specs.Prelude.{◌≡◌, ◌↔◌, ◌<◌, IsSome, Some, is_some, length, slice_index_or};
-    ghost use Rattle.mm_base.specs.declared.symbols.Label.{Label};
+    ghost use Rattle.std.specs.Prelude.{◌≡◌, ◌<◌, ◌↔◌, ℕ, IsSome, Some, is_some, length, slice_index_or};
     ghost use Rattle.mm_database.specs.declared.assertions.Parsed.{Parsed};
     ghost use Rattle.mm_database.specs.Books.{parsed_at};
     ghost use Rattle.mm_database.specs.ByHead.{by_head};
@@ -246,12 +245,12 @@ impl Database {
         &self.parsed(label).vars
     }
 
-    /// The number of labels whose position is below a place: they are the labels with the numbers below it. It takes
-    /// time in proportion to the length of the number of labels.
+    /// The number of labels whose position is below a place. They are the labels with the numbers below it. It takes
+    /// logarithmic time.
     pub fn before(&self, place: u32) -> u32
         ensures count { result ≡ labels_before self.now place }
-        ensures first { (l : Label) → l.0 < length self.now.contents.labels
-            → (l.0 < result ↔ slice_index_or self.now.contents.positions l.0 0 < place) }
+        ensures first { (l : ℕ) → l < length self.now.contents.labels
+            → (l < result) ↔ (slice_index_or self.now.contents.positions l 0 < place) }
     {
         has_few_labels(&self.frames);
         positions_below(self.frames.positions(), place) as u32

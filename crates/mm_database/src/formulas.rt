@@ -12,7 +12,7 @@ use std::alloc::Global;
 use syntax_grammar::Grammar;
 
 /// The two typecodes that the program gives a meaning to.
-#[derive(Clone, Copy, Debug, PartialEq, Eq)]
+#[derive(Clone, Copy)]
 pub struct KindCodes {
     /// The typecode of assertions; none where the database does not declare it.
     pub provable: Option<Sym>,

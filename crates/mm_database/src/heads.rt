@@ -7,7 +7,7 @@ use std::alloc::Global;
 use std::collections::HashMap;
 
 /// The labels of usable assertions by the head of their conclusion and the number of their `$e`.
-#[derive(Debug, Drop)]
+#[derive(Drop)]
 pub struct Heads {
     /// By 0 for a variable, or else one more than the number of the head's label, and by the number of `$e`.
     labels: HashMap<(u64, u64), List<Label>>,

@@ -8,7 +8,7 @@ use mm_model::Hyp;
 use std::alloc::Global;
 
 /// A variable of a frame, with the typecode that its `$f` gives it.
-#[derive(Clone, Copy, Debug, PartialEq, Eq)]
+#[derive(Clone, Copy)]
 pub struct FrameVariable {
     pub sym: Sym,
     pub code: Typecode,
