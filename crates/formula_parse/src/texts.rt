@@ -34,7 +34,9 @@ fn write(g: &Grammar, tree: &Tree, out: &mut Vec<Leaf>) -> Result<(), Memory>
 }
 
 /// The text of a tree: each child's text stands in its slot's place. A fresh leaf has none, and neither has a production
-/// that the grammar does not have.
+/// that the grammar does not have. It takes time in proportion to the nodes and constants of the tree.
+///
+/// Fails where memory runs out.
 pub fn text(alloc: Global, g: &Grammar, tree: &Tree) -> Result<List<Leaf>, Memory>
     ensures { IfOk result (λ leaves. leaves ≡ spec.text g.now tree.now) }
 {

@@ -5,6 +5,7 @@ pub mod Faults
 pub mod Formulas
 pub mod HeadKeys
 pub mod Heads
+pub mod Kept
 pub mod Opened
 pub mod Productions
 pub mod ToldFaults

@@ -129,6 +129,56 @@ fn has_few_statements(frames: &Frames)
     let _ = frames.end();
 }
 
+/// What an opened database has beside its statements.
+#[derive(Drop)]
+struct Trees {
+    grammar: Grammar,
+    parsed: Vec<Option<Parsed>>,
+    heads: Heads,
+}
+
+/// What is kept of each label, and the usable assertions by head.
+fn parsed_of(
+    alloc: Global,
+    grammar: &Grammar,
+    frames: &Frames,
+    kinds: &Kinds,
+) -> Result<(Vec<Option<Parsed>>, Heads), Memory>
+    ensures parsed { IfOk result (λ kept. AreParsed (kinds_in frames.now.symbols kinds.now) grammar.now
+        frames.now.constants frames.now.frames kept.0.items) }
+    ensures heads { IfOk result (λ kept. AreHeads kept.0.items kept.1) }
+{
+    let codes = kind_codes(frames, kinds);
+    let parsed = parse_all(alloc, grammar, frames.constants(), codes, frames.frames())?;
+    match Heads::of(alloc, &parsed) {
+        Ok(heads) => Ok((parsed, heads)),
+        Err(_) => Err(Memory),
+    }
+}
+
+/// The productions and the trees of the statements of a text, which is `text`.
+fn trees_of(alloc: Global, text: &[u8], frames: &Frames, kinds: &Kinds) -> Result<Trees, Memory>
+    requires contents { frames.now ≡ contents_of text.now }
+    requires no_fault { database_fault text.now ≡ None }
+    ensures opened { IfOk result (λ trees. IsOpened kinds.now text.now
+        (record { contents = frames.now; rows = trees.grammar; parsed = trees.parsed.items })) }
+    ensures heads { IfOk result (λ trees. AreHeads trees.parsed.items trees.heads) }
+    ensures positions { HasPositions frames.now }
+{
+    frames_have_own_expressions();
+    positions_rise();
+    has_few_statements(frames);
+    let grammar = grammar_of(alloc, text, frames, kinds)?;
+    match parsed_of(alloc, &grammar, frames, kinds) {
+        Ok((parsed, heads)) => Ok(Trees {
+            grammar,
+            parsed,
+            heads,
+        }),
+        Err(_) => Err(Memory),
+    }
+}
+
 /// The database of the statements of a text, as `read_frames` reads them, where these are the names of the two typecodes
 /// that have a meaning. The text is there for the contract alone. It takes the time to parse the formulas of the
 /// assertions, and memory in proportion to the text.
@@ -144,19 +194,19 @@ pub fn open_frames(
     requires no_fault { database_fault text.now ≡ None }
     ensures { IfOk result (IsOpened kinds.now text.now) }
 {
-    frames_have_own_expressions();
-    positions_rise();
-    has_few_statements(&frames);
-    let grammar = grammar_of(alloc, text, &frames, kinds)?;
-    let codes = kind_codes(&frames, kinds);
-    let parsed = parse_all(alloc, &grammar, frames.constants(), codes, frames.frames())?;
-    let heads = Heads::of(alloc, &parsed)?;
-    Ok(Database {
-        frames,
-        grammar,
-        parsed,
-        heads,
-    })
+    match trees_of(alloc, text, &frames, kinds) {
+        Err(_) => Err(Memory),
+        Ok(Trees {
+            grammar,
+            parsed,
+            heads,
+        }) => Ok(Database {
+            frames,
+            grammar,
+            parsed,
+            heads,
+        }),
+    }
 }
 
 /// Opens a database of at most 2^28 bytes, where these are the names of the two typecodes that have a meaning. It takes
@@ -200,6 +250,7 @@ impl Database {
 
     /// Whether the label is that of a usable assertion: it and its `$e` begin with the provable typecode, have at most
     /// 4,096 symbols, and each has exactly one tree of the logic typecode over the productions below its position.
+    /// `kept_are_usable` says that it is so. It takes constant time.
     pub fn usable(&self, label: Label) -> bool
         ensures { result ≡ is_some (parsed_at self.now.parsed label) }
     {

@@ -189,7 +189,9 @@ fn write_line(alloc: Global, fault: ToldFault) -> Result<String, AllocError>
     format!(in alloc; "database error {code} {name} at byte {byte}")
 }
 
-/// The line that tells a fault with a code, without its end.
+/// The line that tells a fault with a code, without its end. Each fault but want of memory has one.
+///
+/// Fails where memory runs out.
 pub fn db_fault_line(alloc: Global, fault: &DbFault) -> Result<Bytes, Memory>
     requires { IsSome (fault_of fault.now) }
     ensures { IfOk result (λ line. option_map database_line (fault_of fault.now) ≡ Some line) }

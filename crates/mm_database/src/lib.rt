@@ -6,9 +6,11 @@ mod database;
 mod faults;
 mod formulas;
 mod heads;
+mod laws;
 mod productions;
 mod variables;
 
 pub use assertions::Parsed;
 pub use database::{Database, open_database, open_frames, read_frames};
 pub use faults::{DbFault, db_fault_line};
+pub use laws::kept_are_usable;

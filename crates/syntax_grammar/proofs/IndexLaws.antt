@@ -1,12 +1,11 @@
 -- Indexes that grow row by row, and what is looked up in them.
 use Rattle.std.specs.Prelude.{◌≡◌, ◌==◌, ◌+◌, ◌++◌, ℕ, zero, suc, Bool, true, false, List, [], ◌∷◌, length, take, map, filter, find, slice_get, Option, Some, None, if◌then◌else◌, refl}
-use Rattle.std.proofs.Common.{arith, sym, ap, ◌∙◌, subst, cond, get_or, ◌<◌, option_map, append-nil}
+use Rattle.std.proofs.Common.{arith, sym, ap, ◌∙◌, cond, get_or, ◌<◌, option_map, append-nil}
 use Rattle.std.proofs.lemmas.List.{take_more}
 use Rattle.std.proofs.lemmas.List.Elements.{filter_map-append}
 use Rattle.std.specs.List.{filter_map, cons_option}
 use Rattle.mm_base.specs.declared.symbols.Sym.{Sym}
 use Rattle.mm_base.specs.declared.symbols.Label.{Label}
-use Rattle.mm_base.specs.declared.symbols.Typecode.{Typecode}
 use Rattle.mm_model.specs.declared.rows.Production.{Production}
 use Rattle.mm_model.specs.Texts.{row_of}
 use Rattle.syntax_grammar.specs.declared.index.RowIndex.{RowIndex}

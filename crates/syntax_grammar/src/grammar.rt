@@ -63,7 +63,10 @@ fn indexed(alloc: Global, rows: List<Production>) -> Result<Grammar, Memory>
 }
 
 /// Keeps the productions, in their order, but a chain for which the chains kept before it already lead from what it
-/// gives to its variable's typecode: it would close a cycle.
+/// gives to its variable's typecode: it would close a cycle. `are_rows` tells whether productions can be given. It takes
+/// time in proportion to them, where chains join few typecodes.
+///
+/// Fails where memory runs out.
 pub fn keep_rows(rows: List<Production>) -> Result<Grammar, Memory>
     requires { AreRows rows }
     ensures { IfOk result (λ g. g ≡ kept rows) }
@@ -127,6 +130,8 @@ impl Grammar {
 
     /// The labels of the kept productions whose text begins with that constant, in their order. It takes time in
     /// proportion to their number.
+    ///
+    /// Fails where memory runs out.
     pub fn by_first(&self, first: Sym) -> Result<List<Label>, Memory>
         ensures { IfOk result (λ labels. labels ≡ spec.by_first self.now first) }
     {
@@ -139,7 +144,9 @@ impl Grammar {
         Ok(List::from_vec(labels))
     }
 
-    /// The labels of the kept chains that give that typecode, in their order.
+    /// The labels of the kept chains that give that typecode, in their order. It goes over all kept productions.
+    ///
+    /// Fails where memory runs out.
     pub fn chains(&self, to: Typecode) -> Result<List<Label>, Memory>
         ensures { IfOk result (λ labels. labels ≡ spec.chains_to self.now to) }
     {

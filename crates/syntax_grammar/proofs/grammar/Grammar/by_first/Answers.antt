@@ -1,8 +1,7 @@
-use Rattle.std.proofs.Common.{List, ◌≡◌, ◌∷◌, [], ◌++◌, Some, None, Vec, Global, slice_get, get_or, take, sym, ap, ◌∙◌, length}
+use Rattle.std.proofs.Common.{◌≡◌, ◌∷◌, [], ◌++◌, Some, None, Vec, Global, slice_get, get_or, sym, ap, ◌∙◌}
 use Rattle.std.proofs.lemmas.List.{take_all}
 use Rattle.mm_base.specs.declared.symbols.Label.{Label}
-use Rattle.mm_model.specs.declared.rows.Production.{Production}
-use Rattle.syntax_grammar.specs.Selections.{by_first, begins_const, numbers}
+use Rattle.syntax_grammar.specs.Selections.{begins_const, numbers}
 use Rattle.syntax_grammar.proofs.IndexLaws.{labels_of, labels_found, labels_none, by_first_of}
 use Rattle.syntax_grammar.proofs.grammar.Grammar.by_first.Goals as goal
 use Rattle.syntax_grammar.proofs.grammar.Grammar.by_first.Goals.{in-Some+in_ok-push, in_default}

@@ -1,8 +1,6 @@
-use Rattle.std.proofs.Common.{◌≡◌, ◌<◌, ◌≤◌, List, ℕ, [], ◌∷◌, Some, None, slice_get, get_or, sym, ap, ◌∙◌, length, arith, refl}
-use Rattle.std.specs.Option.{option_copied}
+use Rattle.std.proofs.Common.{◌≡◌, ◌<◌, ◌≤◌, List, ℕ, [], ◌∷◌, None, slice_get, get_or, sym, ap, ◌∙◌, length, arith, refl}
 use Rattle.mm_model.specs.declared.rows.Production.{Production}
 use Rattle.mm_model.specs.Texts.{row_of}
-use Rattle.syntax_grammar.specs.Selections.{has_label, numbers}
 use Rattle.syntax_grammar.proofs.IndexLaws.{first_row, row_of_label}
 use Rattle.syntax_grammar.proofs.grammar.Grammar.production.Goals as goal
 
