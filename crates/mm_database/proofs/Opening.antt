@@ -25,10 +25,15 @@ module _ (text : List ℕ) (held : Contents) (is : held ≡ contents_of text) wh
   pub has_positions : (length (positions (statements text)) ≡ length (labels (statements text))) × Rise (positions (statements text)) → HasPositions held
   has_positions h = subst HasPositions (sym is) (record { count = h.0; rise = h.1 })
 
-  module _ (kinds : Kinds) (rows : List Production) (parsed : List (Option Parsed)) where
-    pub are_parsed : (codes : KindCodes) (constants : List ℕ) (frames : List (Option Frame)) → codes ≡ kinds_in held.symbols kinds → constants ≡ held.constants → frames ≡ held.frames
-        → AreParsed codes rows constants frames parsed → AreParsed (kinds_in (symbols (statements text)) kinds) rows (constant_places (statements text)) (frames_of (statements text)) parsed
-    are_parsed codes constants frames k n f are =
-        let one = subst (λ (x : KindCodes). AreParsed x rows constants frames parsed) (k ∙ ap (λ (h : Contents). kinds_in h.symbols kinds) is) are in
-        let two = subst (λ (ns : List ℕ). AreParsed (kinds_in (symbols (statements text)) kinds) rows ns frames parsed) (n ∙ ap (λ (h : Contents). h.constants) is) one in
-        subst (λ (fs : List (Option Frame)). AreParsed (kinds_in (symbols (statements text)) kinds) rows (constant_places (statements text)) fs parsed) (f ∙ ap (λ (h : Contents). h.frames) is) two
+  pub are_parsed : (kinds : Kinds) (rows : List Production) (parsed : List (Option Parsed)) → AreParsed (kinds_in held.symbols kinds) rows held.constants held.frames parsed
+      → AreParsed (kinds_in (symbols (statements text)) kinds) rows (constant_places (statements text)) (frames_of (statements text)) parsed
+  are_parsed kinds rows parsed are = subst (λ (h : Contents). AreParsed (kinds_in h.symbols kinds) rows h.constants h.frames parsed) is are
+
+-- what was handed on is what is held
+pub parsed_as_held : (held : Contents) (kinds : Kinds) (rows : List Production) (parsed : List (Option Parsed)) (codes : KindCodes) (constants : List ℕ) (frames : List (Option Frame))
+    → codes ≡ kinds_in held.symbols kinds → constants ≡ held.constants → frames ≡ held.frames
+    → AreParsed codes rows constants frames parsed → AreParsed (kinds_in held.symbols kinds) rows held.constants held.frames parsed
+parsed_as_held held kinds rows parsed codes constants frames k n f are =
+    let one = subst (λ (x : KindCodes). AreParsed x rows constants frames parsed) k are in
+    let two = subst (λ (ns : List ℕ). AreParsed (kinds_in held.symbols kinds) rows ns frames parsed) n one in
+    subst (λ (fs : List (Option Frame)). AreParsed (kinds_in held.symbols kinds) rows held.constants fs parsed) f two

@@ -8,7 +8,8 @@ ghost use Rattle.mm_model.specs.Productions.{kept_rows};
 ghost use Rattle.mm_model.specs.Statements.{statements, database_fault};
 ghost use Rattle.mm_frames.specs.Contents.{contents_of};
 ghost use Rattle.mm_database.specs.Faults.{IsDbFault, IsTold};
-ghost use Rattle.mm_database.specs.Opened.{IsOpened};
+ghost use Rattle.mm_database.specs.Heads.{AreHeads};
+ghost use Rattle.mm_database.specs.Opened.{HasPositions, IsOpened};
 ghost use Rattle.mm_database.specs.Assertions.{AreParsed};
 ghost use Rattle.mm_database.specs.Books.{kinds_in};
 
@@ -163,7 +164,7 @@ fn trees_of(alloc: Global, text: &[u8], frames: &Frames, kinds: &Kinds) -> Resul
     ensures opened { IfOk result (λ trees. IsOpened kinds.now text.now
         (record { contents = frames.now; rows = trees.grammar; parsed = trees.parsed.items })) }
     ensures heads { IfOk result (λ trees. AreHeads trees.parsed.items trees.heads) }
-    ensures positions { HasPositions frames.now }
+    ensures positions { OnOk result (HasPositions frames.now) }
 {
     frames_have_own_expressions();
     positions_rise();
