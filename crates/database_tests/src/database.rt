@@ -153,6 +153,15 @@ fn are_usable(database: &Database, rows: &[(&'static [u8], bool)]) -> bool {
     rows.iter().all(|(name, usable)| database.usable(label(database, name)) == *usable)
 }
 
+// Whether the labels are these.
+fn are_labels(database: &Database, labels: &[Label], names: &[&'static [u8]]) -> bool {
+    labels.len() == names.len()
+        && labels
+            .iter()
+            .zip(names)
+            .all(|(found, name)| *found == label(database, name))
+}
+
 // Whether the assertions with that head and number of `$e` are these.
 fn have_head(
     database: &Database,
@@ -161,12 +170,7 @@ fn have_head(
     names: &[&'static [u8]],
 ) -> bool {
     let head = head.map(|name| label(database, name));
-    let labels = database.by_head(head, hyps).as_slice();
-    labels.len() == names.len()
-        && labels
-            .iter()
-            .zip(names)
-            .all(|(found, name)| *found == label(database, name))
+    are_labels(database, database.by_head(head, hyps).as_slice(), names)
 }
 
 const USABLE: &[(&[u8], bool)] = &[
@@ -256,13 +260,36 @@ fn keeps(database: &Database, name: &[u8]) -> bool {
         .any(|row| row.label == label)
 }
 
-fn leaves_cycle_out(database: &Database) -> bool {
-    keeps(database, b"cv") && !keeps(database, b"vc") && label(database, b"vc") == Label(29)
-}
-
 const WFF: Typecode = Typecode(Sym(4));
 
 const SETVAR: Typecode = Typecode(Sym(9));
+
+const CLASS: Typecode = Typecode(Sym(10));
+
+// `A.`
+const FOR_ALL: Sym = Sym(15);
+
+// The productions that begin with `A.`, and the chains that give classes and sets.
+fn looks_up(database: &Database) -> bool {
+    let grammar = database.grammar();
+    let (Ok(first), Ok(classes), Ok(sets)) = (
+        grammar.by_first(FOR_ALL),
+        grammar.chains(CLASS),
+        grammar.chains(SETVAR),
+    ) else {
+        return false;
+    };
+    are_labels(database, first.as_slice(), &[b"wal"])
+        && are_labels(database, classes.as_slice(), &[b"cv"])
+        && sets.as_slice().is_empty()
+}
+
+fn leaves_cycle_out(database: &Database) -> bool {
+    keeps(database, b"cv")
+        && !keeps(database, b"vc")
+        && label(database, b"vc") == Label(29)
+        && looks_up(database)
+}
 
 // `x = y`
 const EQUATION: &[Leaf] = &[
