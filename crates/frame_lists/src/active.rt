@@ -5,8 +5,8 @@ ghost use Rattle.mm_model.specs.Statements.{statements, statement_fault};
 ghost use Rattle.mm_model.specs.Frames as spec;
 ghost use Rattle.frame_lists.specs.Lists.{AreOf};
 ghost use Rattle.mm_model.specs.Names.{sym};
-ghost use Rattle.frame_lists.specs.Orders.{AreVariables};
-ghost use Rattle.frame_lists.specs.Steps.{scope_upto};
+ghost use Rattle.frame_lists.specs.Orders.{ArePairs, AreVariables};
+ghost use Rattle.frame_lists.specs.Steps.{hypothesis_at, scope_upto};
 
 use crate::hypotheses::active_hypotheses;
 use crate::listed::Listed;
@@ -53,6 +53,19 @@ fn in_order(alloc: Global, variables: &NumberSet) -> Result<List<Sym>, Memory>
     symbols_of(alloc, numbers.as_slice())
 }
 
+/// What is active in a scope.
+fn active_in(alloc: Global, listed: &Listed, scope: &Scope) -> Result<Active, Memory>
+    ensures variables { IfOk result (λ a. AreVariables scope.now.variables a.variables) }
+    ensures hyps { IfOk result (λ a. a.hyps ≡ map (hypothesis_at listed.now) scope.now.hyps) }
+    ensures pairs { IfOk result (λ a. ArePairs listed.now scope.now.distinct scope.now.variables a.pairs) }
+{
+    Ok(Active {
+        variables: in_order(alloc, &scope.variables)?,
+        hyps: active_hypotheses(alloc, listed, scope)?,
+        pairs: pairs_among(alloc, listed, scope.distinct.as_slice(), &scope.variables)?,
+    })
+}
+
 /// What is active at a place. It takes one pass over the statements below it.
 pub fn active_at(alloc: Global, listed: &Listed, place: u32) -> Result<Active, Memory>
     requires { place ≤ length listed.now.entries }
@@ -60,9 +73,5 @@ pub fn active_at(alloc: Global, listed: &Listed, place: u32) -> Result<Active, M
 {
     statements_are_sound();
     let scope = scope_at(alloc, listed, place)?;
-    Ok(Active {
-        variables: in_order(alloc, &scope.variables)?,
-        hyps: active_hypotheses(alloc, listed, &scope)?,
-        pairs: pairs_among(alloc, listed, scope.distinct.as_slice(), &scope.variables)?,
-    })
+    active_in(alloc, listed, &scope)
 }

@@ -1,6 +1,6 @@
 //! The frames of all assertions.
 
-ghost use Rattle.std.specs.Prelude.{◌≡◌, ◌<◌, ◌^◌, ℕ, List, length, None, IfOk, OnOk};
+ghost use Rattle.std.specs.Prelude.{◌≡◌, ◌<◌, ◌^◌, ℕ, List, [], length, None, IfOk, OnOk};
 ghost use Rattle.mm_model.specs.Statements.{statements, statement_fault};
 ghost use Rattle.frame_lists.specs.Lists.{AreOf};
 ghost use Rattle.frame_lists.specs.Listings.{frames_of};
@@ -81,16 +81,20 @@ fn add_frame(
     Ok(())
 }
 
-/// The frames by label; none where it is no label of an assertion. It takes one pass over the statements; at each assertion
-/// only its frame, the active `$e` and the active `$d` are looked at.
-pub fn frames_by_label(alloc: Global, listed: &Listed) -> Result<Stack<Option<Frame>>, Memory>
-    requires { length listed.now.entries < 2 ^ 32 }
-    ensures { (text : List ℕ) → statement_fault text ≡ None → AreOf listed.now (statements text) → IfOk result (λ fs. fs ≡ frames_of (statements text)) }
+/// Adds what each label has, in one pass over the statements, to an empty list. The set is used for mandatory variables.
+fn add_frames(
+    alloc: Global,
+    listed: &Listed,
+    scope: &mut Scope,
+    marked: &mut NumberSet,
+    frames: &mut Stack<Option<Frame>>,
+) -> Result<(), Memory>
+    requires number { length listed.now.entries < 2 ^ 32 }
+    requires nothing_active { scope.old ≡ step.first_scope }
+    requires no_frames { frames.old ≡ [] }
+    ensures { (text : List ℕ) → statement_fault text ≡ None → AreOf listed.now (statements text) → OnOk result (frames.new ≡ frames_of (statements text)) }
 {
     statements_are_sound();
-    let mut scope = Scope::new(alloc);
-    let mut marked = NumberSet::new(alloc);
-    let mut frames = Stack::new(alloc);
     let entries = listed.entries.as_slice();
     for number in 0..entries.len() {
         let entry = &entries[number];
@@ -98,14 +102,40 @@ pub fn frames_by_label(alloc: Global, listed: &Listed) -> Result<Stack<Option<Fr
         add_frame(
             alloc,
             listed,
-            &scope,
-            &mut marked,
-            &mut frames,
+            scope,
+            marked,
+            frames,
             entry,
             number as u32,
             label,
         )?;
         scope.pass(entry, number as u32, label)?;
     }
+    Ok(())
+}
+
+/// The same, with a scope and a set of its own.
+fn fill_frames(
+    alloc: Global,
+    listed: &Listed,
+    frames: &mut Stack<Option<Frame>>,
+) -> Result<(), Memory>
+    requires number { length listed.now.entries < 2 ^ 32 }
+    requires no_frames { frames.old ≡ [] }
+    ensures { (text : List ℕ) → statement_fault text ≡ None → AreOf listed.now (statements text) → OnOk result (frames.new ≡ frames_of (statements text)) }
+{
+    let mut scope = Scope::new(alloc);
+    let mut marked = NumberSet::new(alloc);
+    add_frames(alloc, listed, &mut scope, &mut marked, frames)
+}
+
+/// The frames by label; none where it is no label of an assertion. It takes one pass over the statements; at each assertion
+/// only its frame, the active `$e` and the active `$d` are looked at.
+pub fn frames_by_label(alloc: Global, listed: &Listed) -> Result<Stack<Option<Frame>>, Memory>
+    requires { length listed.now.entries < 2 ^ 32 }
+    ensures { (text : List ℕ) → statement_fault text ≡ None → AreOf listed.now (statements text) → IfOk result (λ fs. fs ≡ frames_of (statements text)) }
+{
+    let mut frames = Stack::new(alloc);
+    fill_frames(alloc, listed, &mut frames)?;
     Ok(frames)
 }

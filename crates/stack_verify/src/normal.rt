@@ -1,12 +1,12 @@
 //! Normal proofs: a list of labels as a code.
 
-ghost use Rattle.std.specs.Prelude.{◌≡◌, ℕ, ◌+◌, ◌-◌, ◌≤◌, ◌<◌, ◌^◌, List, length, false, codes, All, OnOk, IfOk};
+ghost use Rattle.std.specs.Prelude.{◌≡◌, ℕ, ◌+◌, ◌-◌, ◌≤◌, ◌<◌, ◌^◌, List, [], length, false, codes, All, OnOk, IfOk};
 ghost use Rattle.mm_model.specs.declared.frames.Hyp.{Hyp};
 ghost use Rattle.std.specs.Str.{bytes_eq};
 ghost use Rattle.proof_model.specs.Codes.{normal_code, normal_step, number_in, step};
 ghost use Rattle.proof_model.specs.ProofCode.{AreInRange};
 ghost use Rattle.stack_verify.specs.Lookups.{IsIndexOf};
-ghost use Rattle.stack_verify.specs.Normals.{with_name, with_other};
+ghost use Rattle.stack_verify.specs.Normals.{StepsSoFar, with_name, with_other};
 ghost use Rattle.stack_verify.specs.Proofs.{names_in};
 ghost use Rattle.stack_verify.specs.Stacks.{IsWithin};
 ghost use Rattle.stack_verify.specs.Theorems.{labels_of_hyps};
@@ -81,6 +81,45 @@ fn list_of(alloc: Global, names: &Names) -> Result<List<Name>, Memory>
     Ok(List::from_vec(list))
 }
 
+/// Reads the words in order: the labels that are none of the hypotheses are put in, and one unmarked step for each word.
+fn add_steps(
+    others: &mut Names,
+    steps: &mut Vec<Step>,
+    index: &HypLabels,
+    text: &[u8],
+    spans: &[Span],
+) -> Result<(), Memory>
+    requires spans { length spans.now < 2 ^ 32 - 1 }
+    requires within { All (IsWithin (length text.now)) spans.now }
+    requires no_others { others.old ≡ [] }
+    requires no_steps { steps.old.items ≡ [] }
+    ensures { (hyps : List Hyp) → IsIndexOf hyps index.now →
+        OnOk result (StepsSoFar (labels_of_hyps hyps) (names_in text.now spans.now) others.new steps.new.items) }
+{
+    for span in spans {
+        let step = step_of(others, index, &text[span.from..span.to])?;
+        steps.push(step)?;
+    }
+    Ok(())
+}
+
+/// The code of these words, by the labels of the hypotheses.
+fn code_with(alloc: Global, index: &HypLabels, text: &[u8], spans: &[Span]) -> Result<Code, Memory>
+    requires spans { length spans.now < 2 ^ 32 - 1 }
+    requires within { All (IsWithin (length text.now)) spans.now }
+    ensures { (hyps : List Hyp) → IsIndexOf hyps index.now →
+        IfOk result (λ code. code ≡ normal_code (labels_of_hyps hyps) (names_in text.now spans.now)) }
+{
+    let mut others = Names::new(alloc);
+    let mut steps = Vec::new(alloc);
+    add_steps(&mut others, &mut steps, index, text, spans)?;
+    let labels = list_of(alloc, &others)?;
+    Ok(Code {
+        labels,
+        steps: List::from_vec(steps),
+    })
+}
+
 /// The code of a normal proof with these words: one unmarked step for each.
 fn steps_of(alloc: Global, text: &[u8], spans: &[Span], hyps: &[Hyp]) -> Result<Code, Memory>
     requires spans { length spans.now < 2 ^ 32 - 1 }
@@ -89,16 +128,8 @@ fn steps_of(alloc: Global, text: &[u8], spans: &[Span], hyps: &[Hyp]) -> Result<
     ensures { IfOk result (λ code. code ≡ normal_code (labels_of_hyps hyps.now) (names_in text.now spans.now)) }
 {
     let index = HypLabels::of(alloc, hyps)?;
-    let mut others = Names::new(alloc);
-    let mut steps = Vec::new(alloc);
-    for span in spans {
-        let step = step_of(&mut others, &index, &text[span.from..span.to])?;
-        steps.push(step)?;
-    }
-    Ok(Code {
-        labels: list_of(alloc, &others)?,
-        steps: List::from_vec(steps),
-    })
+    let code = code_with(alloc, &index, text, spans)?;
+    Ok(code)
 }
 
 /// The same; each number of the code is in range.

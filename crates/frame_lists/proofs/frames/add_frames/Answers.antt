@@ -4,7 +4,7 @@ use Rattle.frame_lists.specs.declared.entry.Entry.{Entry}
 use Rattle.frame_lists.specs.Steps.{label_upto}
 use Rattle.frame_lists.proofs.Upto.{entry-here, scope-step}
 use Rattle.frame_lists.proofs.FrameLaws.{framed-next, framed-whole}
-use Rattle.frame_lists.proofs.frames.frames_by_label.Goals as goal
+use Rattle.frame_lists.proofs.frames.add_frames.Goals as goal
 
 pub loop-number-preserved : goal.loop-number-preserved
 loop-number-preserved c =
