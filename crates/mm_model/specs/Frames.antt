@@ -29,7 +29,7 @@ symbols ss = without_repeats [] (flat_map symbols_in (filter (has_one_of (codes 
 abbrev pub symbol_in : List Name → Name → Sym
 symbol_in names n = sym (position_or_len (bytes_eq n) names)
 
--- the labels by number are `labels ss`, in the order of the database
+-- the number of the statement, once for each of its labels, where the first statement has this number
 abbrev pub positions_from : ℕ → List Statement → List ℕ
 positions_from at [] = []
 positions_from at (s ∷ ss) = map (λ w. at) (labels_in s) ++ positions_from (suc at) ss
