@@ -27,6 +27,17 @@ fn add(places: &mut Vec<usize>, place: usize) -> Result<(), Memory>
     Ok(())
 }
 
+/// Adds the place behind a constant, if it stands at this place.
+fn add_behind(next: &mut Vec<usize>, leaves: &[Leaf], place: usize, sym: Sym) -> Result<(), Memory>
+    ensures stays { OnOk result (Stays next.old.items next.new.items) }
+    ensures stands { OnOk result (slice_get leaves.now place ≡ Some (Const sym) → IsIn next.new.items (place + 1)) }
+{
+    match leaves.get(place) {
+        Some(Leaf::Const(other)) if *other == sym => Ok(next.push(place + 1)?),
+        _ => Ok(()),
+    }
+}
+
 /// The places behind a constant.
 fn after_const(
     alloc: Global,
@@ -39,10 +50,7 @@ fn after_const(
 {
     let mut next = Vec::new(alloc);
     for place in places {
-        match leaves.get(*place) {
-            Some(Leaf::Const(other)) if *other == sym => next.push(*place + 1)?,
-            _ => {}
-        }
+        add_behind(&mut next, leaves, *place, sym)?;
     }
     Ok(next)
 }
@@ -66,6 +74,23 @@ pub fn can_lead(leaves: &[Leaf], items: &[Item], place: usize) -> bool
     }
 }
 
+/// Adds the end of an entry, if it has the typecode and the items behind can begin there.
+fn add_end(
+    next: &mut Vec<usize>,
+    entry: &Entry,
+    code: Typecode,
+    leaves: &[Leaf],
+    behind: &[Item],
+) -> Result<(), Memory>
+    ensures stays { OnOk result (Stays next.old.items next.new.items) }
+    ensures stands { OnOk result (entry.now.code ≡ code → CanLead leaves.now behind.now entry.now.end → IsIn next.new.items entry.now.end) }
+{
+    if entry.code == code && can_lead(leaves, behind, entry.end) {
+        add(next, entry.end)?;
+    }
+    Ok(())
+}
+
 /// Adds the ends of the entries of a typecode at which the items behind can begin.
 fn add_ends(
     next: &mut Vec<usize>,
@@ -79,9 +104,7 @@ fn add_ends(
         → IsIn next.new.items x.end) }
 {
     for entry in entries {
-        if entry.code == code && can_lead(leaves, behind, entry.end) {
-            add(next, entry.end)?;
-        }
+        add_end(next, entry, code, leaves, behind)?;
     }
     Ok(())
 }
