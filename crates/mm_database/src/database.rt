@@ -197,11 +197,13 @@ pub fn open_frames(
 {
     match trees_of(alloc, text, &frames, kinds) {
         Err(_) => Err(Memory),
-        Ok(Trees {
-            grammar,
-            parsed,
-            heads,
-        }) => Ok(Database {
+        Ok(
+            Trees {
+                grammar,
+                parsed,
+                heads,
+            },
+        ) => Ok(Database {
             frames,
             grammar,
             parsed,
