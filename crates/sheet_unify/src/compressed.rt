@@ -19,26 +19,57 @@ pub fn compressed_text(
 ) -> Result<Bytes, UnifyFault> {
     let mandatory = mandatory_hypotheses(alloc, scope, steps)?;
     let count = number_of(mandatory.len())?;
-    let references = references(alloc, graph)?;
-    let mut coder = Coder {
-        mandatory,
-        references,
-        kept: vec![in alloc; None; graph.nodes().len()]?,
-        marks: 0,
-        listed: IndexSet::new(alloc),
-        steps: Vec::new(alloc),
-        pending: Vec::new(alloc),
-    };
-    coder.run(graph)?;
-    let labels = names(alloc, scope, steps, &coder.listed)?;
-    let code = Code {
-        labels,
-        steps: List::from_vec(coder.steps),
-    };
+    match run_coder(alloc, graph, mandatory) {
+        Ok(coder) => encode_text(alloc, scope, steps, coder, count),
+        Err(fault) => Err(fault),
+    }
+}
+
+/// The coder of a graph's last node, once it is done.
+fn run_coder(
+    alloc: Global,
+    graph: &ProofGraph,
+    mandatory: IndexSet<Head>,
+) -> Result<Coder, UnifyFault> {
+    let mut coder = Coder::new(alloc, graph, mandatory)?;
+    match coder.run(graph) {
+        Ok(()) => Ok(coder),
+        Err(fault) => Err(fault),
+    }
+}
+
+/// The text of a finished code, where so many of its labels are mandatory.
+fn encode_text(
+    alloc: Global,
+    scope: &Scope,
+    steps: &[Step],
+    coder: Coder,
+    count: u32,
+) -> Result<Bytes, UnifyFault> {
+    let Coder {
+        listed, steps: code, ..
+    } = coder;
+    match names(alloc, scope, steps, &listed) {
+        Ok(labels) => encode_steps(alloc, labels, List::from_vec(code), count),
+        Err(fault) => Err(fault),
+    }
+}
+
+/// The text of a code with these labels in parentheses.
+fn encode_steps(
+    alloc: Global,
+    labels: List<Name>,
+    steps: List<CodeStep>,
+    count: u32,
+) -> Result<Bytes, UnifyFault> {
+    let code = Code { labels, steps };
     if code.labels.as_slice().len() > u32::MAX as usize {
         return Err(UnifyFault::Memory);
     }
-    Ok(encode(alloc, &code, count)?)
+    match encode(alloc, &code, count) {
+        Ok(text) => Ok(text),
+        Err(_) => Err(UnifyFault::Memory),
+    }
 }
 
 /// The mandatory hypotheses of the theorem, in order: the active `$f` of the variables of its hypotheses and of `qed`, and
@@ -143,6 +174,25 @@ struct Coder {
 }
 
 impl Coder {
+    /// A coder that has not begun.
+    fn new(
+        alloc: Global,
+        graph: &ProofGraph,
+        mandatory: IndexSet<Head>,
+    ) -> Result<Coder, UnifyFault> {
+        let references = references(alloc, graph)?;
+        let kept = vec![in alloc; None; graph.nodes().len()]?;
+        Ok(Coder {
+            mandatory,
+            references,
+            kept,
+            marks: 0,
+            listed: IndexSet::new(alloc),
+            steps: Vec::new(alloc),
+            pending: Vec::new(alloc),
+        })
+    }
+
     /// Codes the proof of the last node.
     fn run(&mut self, graph: &ProofGraph) -> Result<(), UnifyFault> {
         self.pending.push(Part::Proof(graph.last()))?;
