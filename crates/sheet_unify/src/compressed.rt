@@ -46,11 +46,8 @@ fn encode_text(
     coder: Coder,
     count: u32,
 ) -> Result<Bytes, UnifyFault> {
-    let Coder {
-        listed, steps: code, ..
-    } = coder;
-    match names(alloc, scope, steps, &listed) {
-        Ok(labels) => encode_steps(alloc, labels, List::from_vec(code), count),
+    match names(alloc, scope, steps, &coder.listed) {
+        Ok(labels) => encode_steps(alloc, labels, coder.into_steps(), count),
         Err(fault) => Err(fault),
     }
 }
@@ -81,17 +78,35 @@ fn mandatory_hypotheses(
 ) -> Result<IndexSet<Head>, UnifyFault> {
     let marks = mark_theorem(alloc, scope, steps)?;
     let mut mandatory = IndexSet::new(alloc);
+    match insert_mandatory(&mut mandatory, scope, steps, &marks) {
+        Ok(()) => Ok(mandatory),
+        Err(fault) => Err(fault),
+    }
+}
+
+/// Inserts the mandatory hypotheses, where these symbols are the variables of the theorem.
+fn insert_mandatory(
+    mandatory: &mut IndexSet<Head>,
+    scope: &Scope,
+    steps: &[Step],
+    marks: &[bool],
+) -> Result<(), UnifyFault> {
     for floating in &scope.floating {
         if marks.get(floating.variable.0 as usize) == Some(&true) {
             mandatory.insert(Head::Statement(floating.label.0))?;
         }
     }
+    insert_hypotheses(mandatory, steps)
+}
+
+/// Inserts the hypotheses of the worksheet.
+fn insert_hypotheses(mandatory: &mut IndexSet<Head>, steps: &[Step]) -> Result<(), UnifyFault> {
     for (number, step) in steps.iter().enumerate() {
         if step.is_hypothesis {
             mandatory.insert(Head::Hypothesis(number_of(number)?))?;
         }
     }
-    Ok(mandatory)
+    Ok(())
 }
 
 /// Marks by symbol the variables of the theorem's formulas.
@@ -243,6 +258,11 @@ impl Coder {
         }
         let (place, _) = self.listed.insert_full(head)?;
         Ok(What::Listed(number_of(place)?))
+    }
+
+    /// The steps of the code.
+    fn into_steps(self) -> List<CodeStep> {
+        List::from_vec(self.steps)
     }
 }
 
