@@ -1,7 +1,6 @@
 use Rattle.std.proofs.Common.{◌∙◌, sym, ap, subst}
 use Rattle.mm_frames.specs.Contents.{contents_of}
 use Rattle.mmp.specs.Unify.{IsAccepted}
-use Rattle.mmp.specs.Opened.{IsOpen}
 use Rattle.mmp.proofs.Texts.{may_refuse, no_fault_of}
 use Rattle.mmp.proofs.run.answer_unify.Goals as goal
 
