@@ -1,12 +1,12 @@
 //! Opening the file of a database.
 
-ghost use Rattle.std.specs.Prelude.{◌≡◌, ◌^◌, IfOk};
-ghost use Rattle.mm_base.specs.Outside.{NoneFell};
+ghost use Rattle.std.specs.Prelude.{◌≡◌, ◌<◌, ◌≤◌, ◌^◌, ℕ, List, Option, length, IfOk, IfSome, IsSomeAnd};
+ghost use Rattle.mm_base.specs.Outside.{Files, NoneFell, Rose};
 ghost use Rattle.mm_database.specs.Faults.{IsDbFault, IsTold};
 ghost use Rattle.mm_model.specs.Faults.{fault};
 ghost use Rattle.mm_model.specs.Statements.{database_fault};
 ghost use Rattle.mmp.specs.Answer.{refusal};
-ghost use Rattle.mmp.specs.Opened.{IsOpened};
+ghost use Rattle.mmp.specs.Opened.{Has, IsOpened};
 ghost use Rattle.mmp.specs.Unify.{IsDatabaseRefusal};
 ghost use Rattle.written_model.specs.FaultLines.{database_line};
 
@@ -51,28 +51,57 @@ fn refuse_fault(alloc: Global, text: &[u8], fault: DbFault) -> Result<Answer, Me
     }
 }
 
+// The answer that tells that the file of a database is too big.
+fn open_big(alloc: Global) -> Result<Opened, Memory>
+    ensures { IfOk result (λ opened. (told : Option Files) (before now : List ℕ → ℕ) (name : List ℕ)
+        → IfSome told (λ files. IsSomeAnd (files name) (λ text. 2 ^ 28 < length text)) → IsOpened told before now name opened) }
+{
+    let answer = refuse_size(alloc)?;
+    Ok(Opened::Refused(answer))
+}
+
+// The answer that tells that the file of a database could not be read.
+fn open_unread(alloc: Global, name: &str) -> Result<Opened, Memory>
+    ensures { IfOk result (λ opened. (told : Option Files) (before now : List ℕ → ℕ)
+        → Rose (before name.now) (now name.now) → IsOpened told before now name.now opened) }
+{
+    let answer = refuse_read(alloc, name)?;
+    Ok(Opened::Refused(answer))
+}
+
+// The answer that tells the first fault of the text of a database.
+fn open_fault(alloc: Global, text: &[u8], fault: DbFault) -> Result<Opened, Memory>
+    requires first { IsDbFault fault (database_fault text.now) }
+    requires told { IsTold fault }
+    ensures { IfOk result (λ opened. (told : Option Files) (before now : List ℕ → ℕ) (name : List ℕ)
+        → Has told name text.now → IsOpened told before now name opened) }
+{
+    let answer = refuse_fault(alloc, text, fault)?;
+    Ok(Opened::Refused(answer))
+}
+
+// Judges the text of a database.
+fn open_text(alloc: Global, text: Bytes) -> Result<Opened, Memory>
+    requires { length text ≤ 2 ^ 28 }
+    ensures { IfOk result (λ opened. (told : Option Files) (before now : List ℕ → ℕ) (name : List ℕ)
+        → Has told name text → IsOpened told before now name opened) }
+{
+    match read_frames(alloc, text.as_slice()) {
+        Ok(frames) => Ok(Opened::Database(text, frames)),
+        Err(fault) => open_fault(alloc, text.as_slice(), fault),
+    }
+}
+
 /// Reads and judges a database.
 pub fn open<S: Store>(alloc: Global, store: &mut S, name: &str) -> Result<Opened, Memory>
     ensures opened { IfOk result (IsOpened (S.told store.old) (S.read_faults store.old) (S.read_faults store.new) name.now) }
     ensures same_files { S.told store.new ≡ S.told store.old }
     ensures read_faults { NoneFell (S.read_faults store.old) (S.read_faults store.new) }
 {
-    let text = match read_file(alloc, store, name, MOST_DATABASE_BYTES)? {
-        Found::Text(text) => text,
-        Found::TooBig => {
-            let answer = refuse_size(alloc)?;
-            return Ok(Opened::Refused(answer));
-        }
-        Found::Fault => {
-            let answer = refuse_read(alloc, name)?;
-            return Ok(Opened::Refused(answer));
-        }
-    };
-    match read_frames(alloc, text.as_slice()) {
-        Ok(frames) => Ok(Opened::Database(text, frames)),
-        Err(fault) => {
-            let answer = refuse_fault(alloc, text.as_slice(), fault)?;
-            Ok(Opened::Refused(answer))
-        }
+    match read_file(alloc, store, name, MOST_DATABASE_BYTES) {
+        Ok(Found::Text(text)) => open_text(alloc, text),
+        Ok(Found::TooBig) => open_big(alloc),
+        Ok(Found::Fault) => open_unread(alloc, name),
+        Err(_) => Err(Memory),
     }
 }

@@ -1,8 +1,12 @@
-ghost use Rattle.std.specs.Prelude.{◌≡◌, ◌⊎◌, map, string_bytes, IfOk, IfSome, IsNone, IsSomeAnd};
+ghost use Rattle.std.specs.Prelude.{◌≡◌, ◌⊎◌, ℕ, List, Option, None, map, string_bytes, IfOk, IfSome, IsNone, IsSomeAnd};
+ghost use Rattle.mm_frames.specs.Contents.{contents_of};
+ghost use Rattle.mm_model.specs.Statements.{database_fault};
+ghost use Rattle.mmp.specs.Opened.{IsOpen};
+ghost use Rattle.mmp.specs.OpenedSheet.{IsOpenedSheet};
 ghost use Rattle.mmp.specs.Answer.{usage};
 ghost use Rattle.mmp.specs.Due.{MayAnswer, MayAnswerWords, IsSettled, Gives, IsGiven, NoReadFault, SaysReadFault, IsCutShort};
 ghost use Rattle.written_model.specs.CommandWords.{command_of};
-ghost use Rattle.mm_base.specs.Outside.{Rose};
+ghost use Rattle.mm_base.specs.Outside.{Files, NoneFell, Rose};
 ghost use Rattle.mmp.specs.Shown.{shown, unify_command, verify_command};
 
 use crate::answer::{Answer, refuse};
@@ -13,8 +17,49 @@ use crate::sheet::{OpenedSheet, open_sheet};
 use crate::unify::answer_sheet;
 use crate::verify::answer_theorem;
 use mm_base::{Memory, Sink, Status, Store};
+use mm_frames::Frames;
 use std::alloc::Global;
 use written_model::ProofStyle;
+
+// Unifies a sheet that was opened over the text of a database without a fault, which has these statements.
+fn answer_opened_sheet(
+    alloc: Global,
+    text: &[u8],
+    frames: Frames,
+    opened: OpenedSheet,
+    style: ProofStyle,
+) -> Result<Answer, Memory>
+    requires contents { frames ≡ contents_of text.now }
+    requires no_fault { database_fault text.now ≡ None }
+    ensures { (told : Option Files) (before mid now : List ℕ → ℕ) (name file : List ℕ) → IsOpen told name text.now → NoneFell before mid
+        → IsOpenedSheet told mid now file opened → IfOk result (MayAnswer (unify_command style name file) told before now) }
+{
+    match opened {
+        OpenedSheet::Sheet(sheet) => answer_sheet(alloc, text, frames, &sheet, style),
+        OpenedSheet::Refused(answer) => Ok(answer),
+    }
+}
+
+// Unifies the sheet of a file over the text of a database without a fault, which has these statements.
+fn answer_over<S: Store>(
+    alloc: Global,
+    store: &mut S,
+    style: ProofStyle,
+    text: &[u8],
+    frames: Frames,
+    sheet: &str,
+) -> Result<Answer, Memory>
+    requires contents { frames ≡ contents_of text.now }
+    requires no_fault { database_fault text.now ≡ None }
+    ensures answer { (name : List ℕ) (before : List ℕ → ℕ) → IsOpen (S.told store.old) name text.now → NoneFell before (S.read_faults store.old)
+        → IfOk result (MayAnswer (unify_command style name sheet.now) (S.told store.old) before (S.read_faults store.new)) }
+    ensures same_files { S.told store.new ≡ S.told store.old }
+{
+    match open_sheet(alloc, store, sheet) {
+        Ok(opened) => answer_opened_sheet(alloc, text, frames, opened, style),
+        Err(_) => Err(Memory),
+    }
+}
 
 // Unifies the sheet of a file over the database of another, with a proof in that style.
 fn answer_unify<S: Store>(
@@ -27,13 +72,11 @@ fn answer_unify<S: Store>(
     ensures answer { IfOk result (MayAnswer (unify_command style database.now sheet.now) (S.told store.old) (S.read_faults store.old) (S.read_faults store.new)) }
     ensures same_files { S.told store.new ≡ S.told store.old }
 {
-    let (text, frames) = match open(alloc, store, database)? {
-        Opened::Database(text, frames) => (text, frames),
-        Opened::Refused(answer) => return Ok(answer),
-    };
-    match open_sheet(alloc, store, sheet)? {
-        OpenedSheet::Sheet(sheet) => answer_sheet(alloc, text.as_slice(), frames, &sheet, style),
-        OpenedSheet::Refused(answer) => Ok(answer),
+    match open(alloc, store, database)? {
+        Opened::Database(text, frames) => {
+            answer_over(alloc, store, style, text.as_slice(), frames, sheet)
+        }
+        Opened::Refused(answer) => Ok(answer),
     }
 }
 

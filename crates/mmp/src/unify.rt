@@ -9,7 +9,7 @@ ghost use Rattle.mmp.specs.Unify.{IsSheetAnswer, IsTextStatus, IsUnbuilt, IsWrit
 
 use crate::answer::{Answer, refuse};
 use mm_base::{Bytes, Kinds, List, Memory, Status};
-use mm_database::open_frames;
+use mm_database::{Database, open_frames};
 use mm_frames::Frames;
 use sheet_text::Sheet;
 use sheet_unify::{Outcome, UnifyFault, report_lines, unify_sheet};
@@ -23,6 +23,15 @@ fn usual_kinds(alloc: Global) -> Result<Kinds, Memory>
     Ok(Kinds {
         provable: List::from_vec(Vec::from_slice(alloc, b"|-")?),
         logic: List::from_vec(Vec::from_slice(alloc, b"wff")?),
+    })
+}
+
+// The options with that style of proof.
+fn options_of(alloc: Global, style: ProofStyle) -> Result<Options, Memory> {
+    Ok(Options {
+        style,
+        kinds: usual_kinds(alloc)?,
+        dv: DvMode::Add,
     })
 }
 
@@ -84,6 +93,42 @@ fn refuse_unbuilt(alloc: Global) -> Result<Answer, Memory>
     refuse(alloc, Status::Sheet, "sheet error 91 NotBuilt at line 1")
 }
 
+// Unifies a sheet over an opened database.
+fn answer_opened(
+    alloc: Global,
+    database: &Database,
+    sheet: &Sheet,
+    options: &Options,
+) -> Result<Answer, Memory>
+    ensures answer { IfOk result (IsSheetAnswer sheet.now) }
+    ensures status { IfOk result (λ answer. IsTextStatus answer.status) }
+{
+    match unify_sheet(alloc, database, sheet, options) {
+        Ok(outcome) => answer_outcome(alloc, outcome),
+        Err(UnifyFault::NotBuilt) => refuse_unbuilt(alloc),
+        Err(UnifyFault::Memory) => Err(Memory),
+    }
+}
+
+// Opens the database of a text without a fault, and unifies a sheet over it.
+fn answer_with(
+    alloc: Global,
+    database: &[u8],
+    frames: Frames,
+    sheet: &Sheet,
+    options: &Options,
+) -> Result<Answer, Memory>
+    requires contents { frames ≡ contents_of database.now }
+    requires no_fault { database_fault database.now ≡ None }
+    ensures answer { IfOk result (IsSheetAnswer sheet.now) }
+    ensures status { IfOk result (λ answer. IsTextStatus answer.status) }
+{
+    match open_frames(alloc, database, frames, &options.kinds) {
+        Ok(database) => answer_opened(alloc, &database, sheet, options),
+        Err(_) => Err(Memory),
+    }
+}
+
 /// Unifies a sheet over a database without a fault, from its text and the statements that it has.
 pub fn answer_sheet(
     alloc: Global,
@@ -97,15 +142,8 @@ pub fn answer_sheet(
     ensures answer { IfOk result (IsSheetAnswer sheet.now) }
     ensures status { IfOk result (λ answer. IsTextStatus answer.status) }
 {
-    let options = Options {
-        style,
-        kinds: usual_kinds(alloc)?,
-        dv: DvMode::Add,
-    };
-    let database = open_frames(alloc, database, frames, &options.kinds)?;
-    match unify_sheet(alloc, &database, sheet, &options) {
-        Ok(outcome) => answer_outcome(alloc, outcome),
-        Err(UnifyFault::NotBuilt) => refuse_unbuilt(alloc),
-        Err(UnifyFault::Memory) => Err(Memory),
+    match options_of(alloc, style) {
+        Ok(options) => answer_with(alloc, database, frames, sheet, &options),
+        Err(_) => Err(Memory),
     }
 }

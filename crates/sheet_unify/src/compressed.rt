@@ -19,26 +19,54 @@ pub fn compressed_text(
 ) -> Result<Bytes, UnifyFault> {
     let mandatory = mandatory_hypotheses(alloc, scope, steps)?;
     let count = number_of(mandatory.len())?;
-    let references = references(alloc, graph)?;
-    let mut coder = Coder {
-        mandatory,
-        references,
-        kept: vec![in alloc; None; graph.nodes().len()]?,
-        marks: 0,
-        listed: IndexSet::new(alloc),
-        steps: Vec::new(alloc),
-        pending: Vec::new(alloc),
-    };
-    coder.run(graph)?;
-    let labels = names(alloc, scope, steps, &coder.listed)?;
-    let code = Code {
-        labels,
-        steps: List::from_vec(coder.steps),
-    };
+    match run_coder(alloc, graph, mandatory) {
+        Ok(coder) => encode_text(alloc, scope, steps, coder, count),
+        Err(fault) => Err(fault),
+    }
+}
+
+/// The coder of a graph's last node, once it is done.
+fn run_coder(
+    alloc: Global,
+    graph: &ProofGraph,
+    mandatory: IndexSet<Head>,
+) -> Result<Coder, UnifyFault> {
+    let mut coder = Coder::new(alloc, graph, mandatory)?;
+    match coder.run(graph) {
+        Ok(()) => Ok(coder),
+        Err(fault) => Err(fault),
+    }
+}
+
+/// The text of a finished code, where so many of its labels are mandatory.
+fn encode_text(
+    alloc: Global,
+    scope: &Scope,
+    steps: &[Step],
+    coder: Coder,
+    count: u32,
+) -> Result<Bytes, UnifyFault> {
+    match names(alloc, scope, steps, &coder.listed) {
+        Ok(labels) => encode_steps(alloc, labels, coder.into_steps(), count),
+        Err(fault) => Err(fault),
+    }
+}
+
+/// The text of a code with these labels in parentheses.
+fn encode_steps(
+    alloc: Global,
+    labels: List<Name>,
+    steps: List<CodeStep>,
+    count: u32,
+) -> Result<Bytes, UnifyFault> {
+    let code = Code { labels, steps };
     if code.labels.as_slice().len() > u32::MAX as usize {
         return Err(UnifyFault::Memory);
     }
-    Ok(encode(alloc, &code, count)?)
+    match encode(alloc, &code, count) {
+        Ok(text) => Ok(text),
+        Err(_) => Err(UnifyFault::Memory),
+    }
 }
 
 /// The mandatory hypotheses of the theorem, in order: the active `$f` of the variables of its hypotheses and of `qed`, and
@@ -50,17 +78,35 @@ fn mandatory_hypotheses(
 ) -> Result<IndexSet<Head>, UnifyFault> {
     let marks = mark_theorem(alloc, scope, steps)?;
     let mut mandatory = IndexSet::new(alloc);
+    match insert_mandatory(&mut mandatory, scope, steps, &marks) {
+        Ok(()) => Ok(mandatory),
+        Err(fault) => Err(fault),
+    }
+}
+
+/// Inserts the mandatory hypotheses, where these symbols are the variables of the theorem.
+fn insert_mandatory(
+    mandatory: &mut IndexSet<Head>,
+    scope: &Scope,
+    steps: &[Step],
+    marks: &[bool],
+) -> Result<(), UnifyFault> {
     for floating in &scope.floating {
         if marks.get(floating.variable.0 as usize) == Some(&true) {
             mandatory.insert(Head::Statement(floating.label.0))?;
         }
     }
+    insert_hypotheses(mandatory, steps)
+}
+
+/// Inserts the hypotheses of the worksheet.
+fn insert_hypotheses(mandatory: &mut IndexSet<Head>, steps: &[Step]) -> Result<(), UnifyFault> {
     for (number, step) in steps.iter().enumerate() {
         if step.is_hypothesis {
             mandatory.insert(Head::Hypothesis(number_of(number)?))?;
         }
     }
-    Ok(mandatory)
+    Ok(())
 }
 
 /// Marks by symbol the variables of the theorem's formulas.
@@ -143,6 +189,25 @@ struct Coder {
 }
 
 impl Coder {
+    /// A coder that has not begun.
+    fn new(
+        alloc: Global,
+        graph: &ProofGraph,
+        mandatory: IndexSet<Head>,
+    ) -> Result<Coder, UnifyFault> {
+        let references = references(alloc, graph)?;
+        let kept = vec![in alloc; None; graph.nodes().len()]?;
+        Ok(Coder {
+            mandatory,
+            references,
+            kept,
+            marks: 0,
+            listed: IndexSet::new(alloc),
+            steps: Vec::new(alloc),
+            pending: Vec::new(alloc),
+        })
+    }
+
     /// Codes the proof of the last node.
     fn run(&mut self, graph: &ProofGraph) -> Result<(), UnifyFault> {
         self.pending.push(Part::Proof(graph.last()))?;
@@ -193,6 +258,11 @@ impl Coder {
         }
         let (place, _) = self.listed.insert_full(head)?;
         Ok(What::Listed(number_of(place)?))
+    }
+
+    /// The steps of the code.
+    fn into_steps(self) -> List<CodeStep> {
+        List::from_vec(self.steps)
     }
 }
 

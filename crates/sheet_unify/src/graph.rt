@@ -54,16 +54,26 @@ impl ProofGraph {
             nodes: IndexSet::new(alloc),
             last: 0,
         };
-        let mut proofs = Vec::with_capacity(alloc, steps.len())?;
-        for (number, (step, judgement)) in steps.iter().zip(judgements).enumerate() {
-            if below.get(number) == Some(&true) {
-                let node = graph.step(scope, number_of(number)?, step, judgement, &proofs)?;
-                proofs.push(Some(node))?;
-            } else {
-                proofs.push(None)?;
-            }
+        match graph.add_steps(scope, steps, judgements, below) {
+            Ok(()) => Ok(graph),
+            Err(fault) => Err(fault),
         }
-        Ok(graph)
+    }
+
+    /// Adds the proofs of the steps that are below the last one.
+    fn add_steps(
+        &mut self,
+        scope: &Scope,
+        steps: &[Step],
+        judgements: &[Judgement],
+        below: &[bool],
+    ) -> Result<(), UnifyFault> {
+        let mut proofs = Vec::with_capacity(self.alloc, steps.len())?;
+        for (number, (step, judgement)) in steps.iter().zip(judgements).enumerate() {
+            let is_below = below.get(number) == Some(&true);
+            proofs.push(self.step(scope, number, is_below, step, judgement, &proofs)?)?;
+        }
+        Ok(())
     }
 
     /// The nodes, by their numbers.
@@ -98,20 +108,27 @@ impl ProofGraph {
         Ok(self.last)
     }
 
-    /// The proof of a step, where the earlier ones have these.
+    /// The proof of a step, where the earlier ones have these; none where the step is not below the last one.
     fn step(
         &mut self,
         scope: &Scope,
-        number: u32,
+        number: usize,
+        is_below: bool,
         step: &Step,
         judgement: &Judgement,
         proofs: &[Option<u32>],
-    ) -> Result<u32, UnifyFault> {
-        match judgement {
-            Judgement::Hypothesis => self.add(Head::Hypothesis(number), Vec::new(self.alloc)),
-            Judgement::Fits(fit) => self.fitting(scope, step, fit, proofs),
-            Judgement::SetAside(_) => Err(UnifyFault::NotBuilt),
+    ) -> Result<Option<u32>, UnifyFault> {
+        if !is_below {
+            return Ok(None);
         }
+        let node = match judgement {
+            Judgement::Hypothesis => {
+                self.add(Head::Hypothesis(number_of(number)?), Vec::new(self.alloc))?
+            }
+            Judgement::Fits(fit) => self.fitting(scope, step, fit, proofs)?,
+            Judgement::SetAside(_) => return Err(UnifyFault::NotBuilt),
+        };
+        Ok(Some(node))
     }
 
     /// The proof of a step that fits its reference.

@@ -45,24 +45,64 @@ pub fn unify_sheet(
     ensures { IfOk result (λ outcome. IsLaidOut sheet.now outcome.text) }
 {
     let scope = Scope::at_end(alloc, db, &options.kinds)?;
-    let steps = read_steps(alloc, &scope, sheet)?;
-    let judgements = judge_all(alloc, &scope, steps.as_slice())?;
-    let proof = proof_of(
-        alloc,
-        options,
-        &scope,
-        steps.as_slice(),
-        judgements.as_slice(),
-    )?;
-    let text = match &proof {
-        None => written_text(alloc, sheet, None)?,
-        Some(proof) => written_text(alloc, sheet, Some(proof.as_slice()))?,
-    };
-    Ok(Outcome {
-        text,
-        report: report_of(alloc, steps.as_slice(), judgements.as_slice())?,
-        finished: proof.is_some(),
-    })
+    unify_in(alloc, &scope, sheet, options)
+}
+
+/// Unifies a worksheet in a scope.
+fn unify_in(
+    alloc: Global,
+    scope: &Scope,
+    sheet: &Sheet,
+    options: &Options,
+) -> Result<Outcome, UnifyFault>
+    ensures { IfOk result (λ outcome. IsLaidOut sheet.now outcome.text) }
+{
+    let steps = read_steps(alloc, scope, sheet)?;
+    unify_steps(alloc, scope, sheet, options, steps.as_slice())
+}
+
+/// Unifies a worksheet that has these steps.
+fn unify_steps(
+    alloc: Global,
+    scope: &Scope,
+    sheet: &Sheet,
+    options: &Options,
+    steps: &[Step],
+) -> Result<Outcome, UnifyFault>
+    ensures { IfOk result (λ outcome. IsLaidOut sheet.now outcome.text) }
+{
+    let judgements = judge_all(alloc, scope, steps)?;
+    outcome_of(alloc, scope, sheet, options, steps, judgements.as_slice())
+}
+
+/// What comes of a worksheet from the judgements on its steps.
+fn outcome_of(
+    alloc: Global,
+    scope: &Scope,
+    sheet: &Sheet,
+    options: &Options,
+    steps: &[Step],
+    judgements: &[Judgement],
+) -> Result<Outcome, UnifyFault>
+    ensures { IfOk result (λ outcome. IsLaidOut sheet.now outcome.text) }
+{
+    let proof = proof_of(alloc, options, scope, steps, judgements)?;
+    let text = written_text(alloc, sheet, bytes_of(&proof))?;
+    match report_of(alloc, steps, judgements) {
+        Ok(report) => Ok(Outcome {
+            text,
+            report,
+            finished: proof.is_some(),
+        }),
+        Err(_) => Err(UnifyFault::Memory),
+    }
+}
+
+fn bytes_of(text: &Option<Bytes>) -> Option<&[u8]> {
+    match text {
+        None => None,
+        Some(text) => Some(text.as_slice()),
+    }
 }
 
 /// The worksheet as it is written.
