@@ -1,6 +1,6 @@
 //! The faults of the labels in the brackets.
 
-ghost use Rattle.std.specs.Prelude.{◌≡◌, ℕ, ◌≤◌, ◌<◌, ◌^◌, List, length, None, false, IfOk, IfErr, OnOk};
+ghost use Rattle.std.specs.Prelude.{◌≡◌, ℕ, ◌≤◌, ◌<◌, ◌^◌, List, [], length, None, false, IfOk, IfErr, OnOk};
 ghost use Rattle.mm_model.specs.Names.{contains};
 ghost use Rattle.proof_model.specs.ProofCode.{label_fault};
 ghost use Rattle.compressed_proof.specs.Parts.{IsLabelFault, IsFaultAt};
@@ -50,6 +50,28 @@ fn check_label(
     Ok(())
 }
 
+/// Looks at the labels in order, and puts each among those before it, which are none at first.
+fn check_each(
+    alloc: Global,
+    labels: &[Name],
+    listed: &Names,
+    before: &mut Names,
+) -> Result<(), CodeFault>
+    requires labels { length labels.now ≤ 2 ^ 28 }
+    requires none_before { before.old ≡ [] }
+    ensures sound { (mandatory : List (List ℕ)) → ((name : List ℕ) → contains listed.now name ≡ contains mandatory name) →
+        OnOk result (label_fault mandatory labels.now ≡ None) }
+    ensures fault { (mandatory : List (List ℕ)) → ((name : List ℕ) → contains listed.now name ≡ contains mandatory name) →
+        IfErr result (λ e. IsLabelFault mandatory labels.now e) }
+{
+    for (place, label) in labels.iter().enumerate() {
+        let label = label.as_slice();
+        check_label(alloc, listed, before, place as u32, label)?;
+        before.add(label)?;
+    }
+    Ok(())
+}
+
 /// Looks at the labels in order: none is a mandatory hypothesis, and none stands before.
 pub(crate) fn check_labels(
     alloc: Global,
@@ -63,10 +85,5 @@ pub(crate) fn check_labels(
 {
     let listed = names_of(alloc, mandatory)?;
     let mut before = Names::new(alloc);
-    for (place, label) in labels.iter().enumerate() {
-        let label = label.as_slice();
-        check_label(alloc, &listed, &before, place as u32, label)?;
-        before.add(label)?;
-    }
-    Ok(())
+    check_each(alloc, labels, &listed, &mut before)
 }
