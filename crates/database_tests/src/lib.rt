@@ -1,5 +1,5 @@
-//! Tests of the libraries that read databases, formulas and proofs: examples from outside, and each public call once
-//! where memory is ample.
+//! Tests of the libraries that read databases, formulas and proofs: examples from outside, and the public calls, by
+//! themselves or through others, where memory is ample.
 #![tactic(auto)]
 
 #[cfg(test)]

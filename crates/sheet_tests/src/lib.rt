@@ -1,5 +1,5 @@
 //! Tests of the libraries that read, write and fill worksheets, and of the store of terms: examples from outside, and
-//! each public call once where memory is ample.
+//! the public calls, by themselves or through others, where memory is ample.
 #![tactic(auto)]
 
 #[cfg(test)]
