@@ -146,8 +146,14 @@ module _ (e : List Statement) (each : EachBefore IsChecked e) (provable : Sym) w
   fold_kept [] older h k = h
   fold_kept (r ∷ rest) older h k = fold_kept rest (keep older r) (kept_by (chain_from r) older r h k.0) k.1
 
-  kept_own : AllByRecursion (IsRowIn provable ss) (kept all_rows)
+  pub kept_own : AllByRecursion (IsRowIn provable ss) (kept all_rows)
   kept_own = all-reverse (IsRowIn provable ss) (fold keep [] all_rows) (fold_kept all_rows [] tt rows_own)
+
+  pub kept_row : (l : Label) (r : Production) → row_of (kept all_rows) l ≡ Some r → (f : Frame) × (frame_of ss l ≡ Some f) × (row_of_frame provable f ≡ Some r)
+  kept_row l r is =
+      let at = row_stands (kept all_rows) l r is in
+      let own = all_at (IsRowIn provable ss) (kept all_rows) at.place r kept_own at.stands in
+      (own.frame, ap (frame_of ss) (sym at.label_is) ∙ own.frame_is, own.row_is)
 
   pub kept_frame : (l : Label) (r : Production) → row_of (kept all_rows) l ≡ Some r → (f : Frame) × (frame_of ss l ≡ Some f) × IsRowFrame r f
   kept_frame l r is =

@@ -134,7 +134,7 @@ IsShort (a ∷ []) = Unit {0}
 IsShort (a ∷ v ∷ []) = Unit {0}
 IsShort (a ∷ v ∷ x ∷ ns) = ⊥
 
-abbrev FloatShort : Statement → Type 0
+abbrev pub FloatShort : Statement → Type 0
 FloatShort s = is_float s ≡ true → IsShort (symbols_in s)
 
 short_by : (e : List Statement) (ns : List Name) → FloatIsNew e ns → IsShort ns
@@ -143,7 +143,7 @@ short_by e (a ∷ []) h = tt
 short_by e (a ∷ v ∷ []) h = tt
 short_by e (a ∷ v ∷ x ∷ ns) h = h
 
-floats_short : (e : List Statement) → EachBefore IsChecked e → AllByRecursion FloatShort (active e)
+pub floats_short : (e : List Statement) → EachBefore IsChecked e → AllByRecursion FloatShort (active e)
 floats_short e h = all_active FloatShort e (each_with IsChecked (λ b s. FloatShort s) (λ b s c f. short_by b (symbols_in s) (float_is_new b s c f)) e h) (path e)
 
 pub record IsMandatory (mandatory : List Name) (h : Statement) : Type 0 where

@@ -1,19 +1,15 @@
 -- The laws of the frames of a text.
-use Rattle.std.proofs.Common.{◌≡◌, ℕ, not, List, reverse, Some, None, sym, ap, ◌∙◌, subst, arith}
+use Rattle.std.proofs.Common.{◌≡◌, not, sym, ◌∙◌, subst, arith}
 use Rattle.std.proofs.lemmas.Option.{slice_get_within}
 use Rattle.mm_base.specs.declared.symbols.Sym.{Sym}
-use Rattle.mm_base.specs.declared.symbols.Label.{Label}
-use Rattle.mm_base.specs.declared.kinds.Kinds.{Kinds}
 use Rattle.mm_model.specs.declared.frames.Hyp.{Hyp}
-use Rattle.mm_model.specs.declared.frames.Frame.{Frame}
-use Rattle.mm_model.specs.Statements.{statements, statement_fault, symbols_in}
+use Rattle.mm_model.specs.Statements.{statements, symbols_in}
 use Rattle.mm_model.specs.Frames.{symbols, positions, symbol_in, below, frame_at, mandatory_hypotheses}
-use Rattle.mm_model.specs.Productions.{rows, essentials}
-use Rattle.mm_model.specs.Rows.{AreRows}
-use Rattle.mm_model.specs.Book.{Database, expression_at}
+use Rattle.mm_model.specs.Productions.{essentials}
+use Rattle.mm_model.specs.Book.{expression_at}
 use Rattle.mm_model.specs.BookFacts.{IsKnownAt}
-use Rattle.model_laws.specs.FrameLaws.{own_expression, IsOwn, ShowsText, HasOwnExpressions, FramesHaveOwnExpressions, FramesGiveRows}
-use Rattle.model_laws.proofs.Checked.{EachBefore, IsChecked, last_first, text_checked, found, no_statement_fault}
+use Rattle.model_laws.specs.FrameLaws.{own_expression, IsOwn, HasOwnExpressions, FramesHaveOwnExpressions, FramesGiveRows}
+use Rattle.model_laws.proofs.Checked.{IsChecked, last_first, text_checked, found, no_statement_fault}
 use Rattle.model_laws.proofs.FrameFacts.{frame_known, mandatory_at}
 use Rattle.model_laws.proofs.KnownFacts.{assertion_known, mandatory_known}
 use Rattle.model_laws.proofs.DatabaseFacts.{are_rows}

@@ -50,7 +50,7 @@ module _ (ss : List Statement) (at : ℕ) where
   abbrev pub b : List Statement
   b = below ss at
 
-  declares : (k : List ℕ) → list_any (bytes_eq k) (codes "$c" ∷ codes "$v" ∷ []) ≡ true → (n : Name) → list_any (λ x. has_keyword k x && contains (symbols_in x) n) b ≡ true → contains names n ≡ true
+  pub declares : (k : List ℕ) → list_any (bytes_eq k) (codes "$c" ∷ codes "$v" ∷ []) ≡ true → (n : Name) → list_any (λ x. has_keyword k x && contains (symbols_in x) n) b ≡ true → contains names n ≡ true
   declares k listed_ n h =
       let whole = any-take _ at ss (any-reverse _ (take at ss) h) in
       let some = any-with (λ x. has_keyword k x && contains (symbols_in x) n) (λ x. has_one_of (codes "$c" ∷ codes "$v" ∷ []) x && contains (symbols_in x) n)
@@ -68,7 +68,7 @@ module _ (ss : List Statement) (at : ℕ) where
       declares (codes "$v") refl n
       (any-active _ (path b) b (any-filter (λ x. contains (symbols_in x) n) (has_keyword (codes "$v")) (active b) (sym (any-flat (bytes_eq n) symbols_in (with_keyword (codes "$v") (active b))) ∙ h)))
 
-  number_known : (n : Name) → contains names n ≡ true → (symbol_in names n).0 < length names
+  pub number_known : (n : Name) → contains names n ≡ true → (symbol_in names n).0 < length names
   number_known n h = first_within (bytes_eq n) names h
 
   pub name_back : (n : Name) → contains names n ≡ true → get_or names (symbol_in names n).0 [] ≡ n

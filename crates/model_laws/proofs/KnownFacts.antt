@@ -115,7 +115,7 @@ hypotheses_known b c = hypotheses_from b c [] (active b) refl
 
 -- ---- an assertion's own formula
 
-either_keyword : (j k : List ℕ) (ws : List Word) → list_any (is_one_of (j ∷ k ∷ [])) ws ≡ true → (list_any (is j) ws ≡ true) ⊎ (list_any (is k) ws ≡ true)
+pub either_keyword : (j k : List ℕ) (ws : List Word) → list_any (is_one_of (j ∷ k ∷ [])) ws ≡ true → (list_any (is j) ws ≡ true) ⊎ (list_any (is k) ws ≡ true)
 either_keyword j k [] h = absurd cc
 either_keyword j k (w ∷ ws) h = elim (or_cases (is_one_of (j ∷ k ∷ []) w) (list_any (is_one_of (j ∷ k ∷ [])) ws) h) [
   | inl d ↦ elim (or_cases (is j w) (is k w || false) d) [

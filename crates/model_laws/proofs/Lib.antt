@@ -1,16 +1,20 @@
-mod Checked
-mod DatabaseFacts
-mod FrameFacts
-mod FrameForms
-mod KnownAt
-mod KnownFacts
-mod LabelFacts
-mod Listed
+pub mod Checked
+pub mod DatabaseFacts
+pub mod FrameFacts
+pub mod FrameForms
+pub mod KnownAt
+pub mod KnownFacts
+pub mod LabelFacts
+pub mod Listed
+mod NameWords
 mod OneDatabase
-mod OwnLeaves
-mod Passing
+pub mod OwnLeaves
+pub mod Passing
 pub mod PathLaws
-mod RowFacts
-mod Shapes
-mod StatementFacts
-mod Symbols
+mod PlaceFacts
+pub mod RowFacts
+pub mod Shapes
+mod StandFacts
+pub mod StatementFacts
+mod SymbolFacts
+pub mod Symbols

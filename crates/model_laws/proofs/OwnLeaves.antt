@@ -1,9 +1,9 @@
 -- The variables of a frame's formulas have in the frame the typecodes that they have at its place.
-use Rattle.std.proofs.Common.{◌≡◌, ◌<◌, ◌==◌, ℕ, Bool, true, false, cond, not, ◌&&◌, ◌||◌, List, [], ◌∷◌, ◌++◌, length, map, take, reverse, Option, Some, None, option_map, refl, sym, ap, ◌∙◌, subst, inl, inr, ◌⊎◌, codes, flat_map, get_or, arith, append_assoc}
+use Rattle.std.proofs.Common.{◌≡◌, ◌<◌, ◌==◌, ℕ, Bool, true, false, cond, not, ◌&&◌, ◌||◌, List, [], ◌∷◌, ◌++◌, length, map, take, reverse, Option, Some, None, option_map, refl, sym, ap, ◌∙◌, subst, inl, inr, codes, flat_map, get_or, arith, append_assoc}
 use Rattle.std.specs.Prelude.{find}
 use Rattle.std.specs.List.{AllByRecursion, list_any, filter, position_or_len, filter_map, cons_option}
 use Rattle.std.specs.Str.{bytes_eq}
-use Rattle.std.proofs.lemmas.Bool.{cases_Bool, and_parts, and_from, or_cases, or_left, or_right, eqb-true}
+use Rattle.std.proofs.lemmas.Bool.{cases_Bool, and_from, or_left, or_right, eqb-true}
 use Rattle.std.proofs.lemmas.List.Sums.{passes_at_first}
 use Rattle.std.proofs.lemmas.List.Folds.{list_any-append}
 use Rattle.mm_base.specs.declared.symbols.Sym.{Sym}
@@ -15,11 +15,11 @@ use Rattle.mm_model.specs.declared.rows.Leaf.{Leaf}
 use Rattle.mm_model.specs.declared.rows.Leaf.TheVariants as leaf
 use Rattle.mm_model.specs.Names.{Name}
 use Rattle.mm_model.specs.Statements.{Statement, body, has_keyword, with_keyword, symbols_in, second, contains, constants, variables, active}
-use Rattle.mm_model.specs.Frames.{symbols, symbol_in, below, hypothesis_of, formula_of, is_hypothesis, active_at, is_constant_at, frame_at, mandatory_variables, mandatory_hypotheses}
-use Rattle.mm_model.specs.Productions.{TypedVariable, typed_by, typed_variables, floats, essentials}
+use Rattle.mm_model.specs.Frames.{symbols, symbol_in, below, hypothesis_of, formula_of, is_hypothesis, active_at, is_constant_at, frame_at, mandatory_hypotheses}
+use Rattle.mm_model.specs.Productions.{TypedVariable, typed_by, typed_variables, essentials}
 use Rattle.mm_model.specs.Book.{Database, declared_leaf, float_of, expression_at}
 use Rattle.model_laws.specs.FrameLaws.{own_leaf, own_expression}
-use Rattle.model_laws.proofs.Listed.{first_within, same_names, name_self, contains-filter, all_and, all_with, all_pass, all-filter, all-reverse}
+use Rattle.model_laws.proofs.Listed.{first_within, same_names, name_self, contains-filter, all_with, all_pass, all-filter, all-reverse}
 use Rattle.model_laws.proofs.Passing.{any_kept, any-with}
 use Rattle.model_laws.proofs.FrameFacts.{is_float, filter-map, counts, mandatory_at}
 use Rattle.model_laws.proofs.Symbols.{Meant, FormulaKnown}
@@ -39,7 +39,7 @@ find_behind p [] ys zs e = e
 find_behind p (x ∷ xs) ys zs e = ap (λ o. cond (p x) (Some x) o) (find_behind p xs ys zs e)
 
 -- what an element passes, some element passes
-members : {X : Type 0} (front xs : List X) → AllByRecursion (λ x. (q : X → Bool) → q x ≡ true → list_any q (front ++ xs) ≡ true) xs
+pub members : {X : Type 0} (front xs : List X) → AllByRecursion (λ x. (q : X → Bool) → q x ≡ true → list_any q (front ++ xs) ≡ true) xs
 members front [] = tt
 members {X} front (x ∷ xs) = (
   (λ q h. list_any-append q front (x ∷ xs) ∙ or_right (list_any q front) (q x || list_any q xs) (or_left (q x) (list_any q xs) h)),
@@ -66,7 +66,7 @@ uncounted true f a h g = absurd cc
 uncounted false true a h g = h
 uncounted false false a h g = absurd cc
 
-float_is_hypothesis : (h : Statement) → is_float h ≡ true → is_hypothesis h ≡ true
+pub float_is_hypothesis : (h : Statement) → is_float h ≡ true → is_hypothesis h ≡ true
 float_is_hypothesis h f = one_of_two (codes "$f") (codes "$e") (codes "$f") refl (take 1 (body h)) f
 
 module _ (names mandatory : List Name) (n : Name) (known : contains names n ≡ true) (wanted : contains mandatory n ≡ true) where
@@ -168,7 +168,7 @@ module _ (ss : List Statement) (l : Label) (at : ℕ) (s : Statement) (db : Data
   abbrev Counts : Name → Type 0
   Counts n = list_any (λ (x : Statement). contains (symbols_in x) n) (s ∷ with_keyword (codes "$e") (active b)) ≡ true
 
-  is_mandatory : (n : Name) → contains (variables b) n ≡ true → Counts n → contains mandatory n ≡ true
+  pub is_mandatory : (n : Name) → contains (variables b) n ≡ true → Counts n → contains mandatory n ≡ true
   is_mandatory n v c =
       let q = λ (m : Name). contains (variables b) m && list_any (λ (x : Statement). contains (symbols_in x) m) (s ∷ with_keyword (codes "$e") (active b)) in
       let own : q n ≡ true = and_from _ _ v c in

@@ -246,7 +246,7 @@ all_none p (x ∷ xs) e = elim (cases_Bool (p x)) [
   | inr d ↦ let bad : ◌≡◌ {A = List _} (x ∷ filter (λ x. not (p x)) xs) [] = rw d at e in absurd cc
 ]
 
-typed_from : (names mandatory : List Name) (hs : List Statement) → AllByRecursion (IsMandatory mandatory) hs → (k : ℕ) (v : TypedVariable) → slice_get (typed_list names mandatory hs) k ≡ Some v
+pub typed_from : (names mandatory : List Name) (hs : List Statement) → AllByRecursion (IsMandatory mandatory) hs → (k : ℕ) (v : TypedVariable) → slice_get (typed_list names mandatory hs) k ≡ Some v
     → (n : Name) × (contains mandatory n ≡ true) × (v.sym ≡ symbol_in names n)
 typed_from names mandatory [] ms k v e = absurd cc
 typed_from names mandatory (h ∷ hs) ms zero v e =

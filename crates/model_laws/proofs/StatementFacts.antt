@@ -1,18 +1,18 @@
 -- What the rules say of the labels and the keyword of a statement.
-use Rattle.std.proofs.Common.{◌≡◌, ◌≤◌, ℕ, zero, suc, Bool, true, false, not, ◌&&◌, ◌||◌, List, [], ◌∷◌, ◌++◌, length, take, drop, reverse, map, refl, sym, ap, ◌∙◌, arith, subst, inl, inr, codes, None}
-use Rattle.std.specs.List.{list_any, prefix_len, take_while}
+use Rattle.std.proofs.Common.{◌≡◌, ◌≤◌, ℕ, Bool, true, false, not, ◌||◌, List, [], ◌∷◌, ◌++◌, length, take, drop, map, refl, sym, ap, ◌∙◌, arith, subst, inl, inr, codes}
+use Rattle.std.specs.List.{list_any, take_while}
 use Rattle.std.specs.Str.{bytes_eq}
 use Rattle.std.proofs.lemmas.Bool.{cases_Bool}
-use Rattle.std.proofs.lemmas.List.{append-nil, reverse-reverse}
+use Rattle.std.proofs.lemmas.List.{reverse-reverse}
 use Rattle.std.proofs.lemmas.Slice.Eq.{bytes_eq-Decides}
 use Rattle.mm_model.specs.Words.{Word}
 use Rattle.mm_model.specs.Names.{Name, contains}
-use Rattle.mm_model.specs.Statements.{Statement, is, is_one_of, is_word, is_empty, is_label_alone, unended, labels_in, body, has_keyword, has_one_of, in_proof, symbols_in, second, typed, variables, labelled, label_missing, stray_token, can_stand, statements, statement_fault}
+use Rattle.mm_model.specs.Statements.{Statement, is, is_one_of, is_word, is_label_alone, unended, labels_in, body, has_keyword, has_one_of, symbols_in, second, typed, variables, labelled, label_missing, stray_token, can_stand}
 use Rattle.model_laws.specs.StatementLaws.{statement_keywords, IsSound, AreSound, StatementsAreSound}
 use Rattle.model_laws.proofs.Checked.{rules_fail, At, IsChecked, EachBefore, text_checked, last_first}
 use Rattle.model_laws.proofs.Listed.{same_names}
 use Rattle.model_laws.proofs.Symbols.{FloatKnown, float_known}
-use Rattle.model_laws.proofs.Shapes.{taken-front, Parts, parts, AreWords, Stops, Shape, shape, at_split, LabelIsNew, label_is_new, FloatIsNew, float_is_new}
+use Rattle.model_laws.proofs.Shapes.{taken-front, parts, AreWords, Stops, shape, at_split, LabelIsNew, label_is_new, FloatIsNew, float_is_new}
 
 few : (e : List Statement) (ls : List Word) → LabelIsNew e ls → length ls ≤ 1
 few e [] h = omega arith
@@ -38,7 +38,7 @@ label_there e ls kw after a h =
 labels_are : (s : Statement) (k : List ℕ) (h : has_keyword k s ≡ true) → labels_in s ≡ (shape s k h).ls
 labels_are s k h = let sh = shape s k h in ap labels_in sh.whole ∙ taken-front is_word sh.ls (sh.kw ∷ (sh.us ++ sh.tail)) sh.labels_pass sh.keyword_stops
 
-has_label : (e : List Statement) (s : Statement) → IsChecked e s → (k : List ℕ) → list_any (bytes_eq k) labelled ≡ true → has_keyword k s ≡ true → length (labels_in s) ≡ 1
+pub has_label : (e : List Statement) (s : Statement) → IsChecked e s → (k : List ℕ) → list_any (bytes_eq k) labelled ≡ true → has_keyword k s ≡ true → length (labels_in s) ≡ 1
 has_label e s c k listed_ h =
     let sh = shape s k h in
     let at = at_split e s sh.ls sh.kw (sh.us ++ sh.tail) c sh.whole in

@@ -27,7 +27,7 @@ declared_by false true e = inr refl
 declared_by false false e = absurd cc
 
 -- `A` holds, and `A && B` does not
-other_fails : (a b : Bool) → a ≡ true → (a && b) ≡ false → b ≡ false
+pub other_fails : (a b : Bool) → a ≡ true → (a && b) ≡ false → b ≡ false
 other_fails true b h e = e
 other_fails false b h e = absurd cc
 

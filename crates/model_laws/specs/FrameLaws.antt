@@ -1,5 +1,5 @@
 -- Laws of the frames of a text without a fault: their formulas by their own variables, and the productions that they give.
-use Rattle.std.specs.Prelude.{◌≡◌, ◌<◌, ℕ, List, length, drop, Option, Some, None, option_map, if◌then◌else◌}
+use Rattle.std.specs.Prelude.{◌≡◌, ◌<◌, ◌⊎◌, ℕ, List, length, drop, slice_get, Contains, false, Option, Some, None, option_map, if◌then◌else◌}
 use Rattle.std.specs.List.{AllByRecursion, filter_map}
 use Rattle.mm_base.specs.declared.symbols.Sym.{Sym}
 use Rattle.mm_base.specs.declared.symbols.Label.{Label}
@@ -10,7 +10,7 @@ use Rattle.mm_model.specs.declared.rows.Leaf.{Leaf}
 use Rattle.mm_model.specs.declared.rows.Leaf.TheVariants as leaf
 use Rattle.mm_model.specs.Statements.{statements, labels, database_fault}
 use Rattle.mm_model.specs.Frames.{symbols, end_of, frame_of, active_at, is_constant_at}
-use Rattle.mm_model.specs.Productions.{essentials, rows}
+use Rattle.mm_model.specs.Productions.{TypedVariable, typed_variables, essentials, rows}
 use Rattle.mm_model.specs.Rows.{AreRows}
 use Rattle.mm_model.specs.Book.{Database, float_of, expression_at}
 
@@ -47,3 +47,13 @@ FramesHaveOwnExpressions =
 -- the productions that the frames give are rows of which a grammar can be made
 abbrev pub FramesGiveRows : Type 0
 FramesGiveRows = (kinds : Kinds) (text : List ℕ) → database_fault text ≡ None → AreRows (rows kinds.provable (statements text))
+
+-- a variable stands in the formula behind its typecode, or so in one of the `$e`
+abbrev pub StandsInFrame : Frame → Sym → Type 0
+StandsInFrame f v = Contains (drop 1 f.formula) v ⊎ ((j : ℕ) × (h : Hyp) × (slice_get (essentials f.hyps) j ≡ Some h) × Contains (drop 1 h.formula) v)
+
+-- each mandatory variable of a frame is no constant at its place, and stands in its formulas
+abbrev pub MandatoryVariablesStand : Type 0
+MandatoryVariablesStand =
+    (text : List ℕ) (db : Database) → ShowsText text db → database_fault text ≡ None → (l : Label) (f : Frame) → db.frame l ≡ Some f
+    → (v : TypedVariable) → Contains (typed_variables f.hyps) v → (db.is_constant_at v.sym f.at ≡ false) × StandsInFrame f v.sym

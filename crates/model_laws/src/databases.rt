@@ -1,4 +1,4 @@
-ghost use Rattle.model_laws.specs.DatabaseLaws.{FramesAreWhole, HasDatabaseFacts, LabelsAreDistinct, PositionsRise, RowsAreAGrammar, RowsAreFrames, SymbolsAreDistinct, DatabasesOfATextAgree};
+ghost use Rattle.model_laws.specs.DatabaseLaws.{ActiveNamesArePlain, NamesAreWords, FramesAreWhole, HasDatabaseFacts, LabelsAreDistinct, PositionsRise, RowsAreAGrammar, RowsAreFrames, SymbolsAreDistinct, DatabasesOfATextAgree, HavePlaces, HaveSymbols};
 ghost use Rattle.model_laws.specs.StatementLaws.{StatementsAreSound};
 
 /// No two labels of a database without a fault are one.
@@ -20,6 +20,16 @@ pub fn positions_rise()
 /// of its formulas are known at its place.
 pub fn frames_are_whole()
     ensures { FramesAreWhole }
+{}
+
+/// Its labels have the bytes of labels, and its symbols are words without a dollar.
+pub fn names_are_words()
+    ensures { NamesAreWords }
+{}
+
+/// The labels of what is active at a place have no white space.
+pub fn active_names_are_plain()
+    ensures { ActiveNamesArePlain }
 {}
 
 /// Its kept productions are a grammar.
@@ -46,4 +56,14 @@ pub fn databases_of_a_text_agree()
 /// no other active `$f`.
 pub fn statements_are_sound()
     ensures { StatementsAreSound }
+{}
+
+/// What its places say of constants, rows and typecodes.
+pub fn databases_have_places()
+    ensures { HavePlaces }
+{}
+
+/// Its symbols are few enough, its constants are symbols of it, and the typecodes of active variables are those of the `$f` below the place.
+pub fn databases_have_symbols()
+    ensures { HaveSymbols }
 {}
