@@ -1,14 +1,14 @@
-mod AcceptedLaw
+pub mod AcceptedLaw
 mod CodeBackLaws
 pub mod CodeEndsLaw
 mod CodeLaws
-mod LabelLaws
+pub mod LabelLaws
 mod LetterLaws
 pub mod NormalLaws
 pub mod NumberLaws
 mod ReadLaws
 pub mod RunLaws
 mod StepLaws
-mod TextLaws
+pub mod TextLaws
 mod UniqueLaws
-mod WrittenLaw
+pub mod WrittenLaw

@@ -63,7 +63,7 @@ any_by : {X : Type 0} (p : X → Bool) (x y : X) (xs : List X) (b : Bool) → (f
 any_by p x y xs true h e = refl
 any_by p x y xs false h e = h e
 
-find_any : {X : Type 0} (p : X → Bool) (xs : List X) (y : X) → find p xs ≡ Some y → list_any p xs ≡ true
+pub find_any : {X : Type 0} (p : X → Bool) (xs : List X) (y : X) → find p xs ≡ Some y → list_any p xs ≡ true
 find_any p [] y e = absurd (cc)
 find_any p (x ∷ xs) y e = any_by p x y xs (p x) (find_any p xs y) e
 
@@ -71,7 +71,7 @@ none_by : {X : Type 0} (p : X → Bool) (x : X) (xs : List X) (b : Bool) → (fi
 none_by p x xs true h e = absurd (cc)
 none_by p x xs false h e = h e
 
-find_none : {X : Type 0} (p : X → Bool) (xs : List X) → find p xs ≡ None → list_any p xs ≡ false
+pub find_none : {X : Type 0} (p : X → Bool) (xs : List X) → find p xs ≡ None → list_any p xs ≡ false
 find_none p [] e = refl
 find_none p (x ∷ xs) e = none_by p x xs (p x) (find_none p xs) e
 
@@ -83,13 +83,13 @@ pub record Pushes (run : State → Outcome) (fs : List Formula) (f : Formula) : 
 abbrev pub Shown : (State → Outcome) → List Formula → State → List Formula → List Formula → Type 0
 Shown run fs st s k = (f : Formula) × (st ≡ state (f ∷ s) k) × Pushes run fs f
 
-abbrev apply_with : (List Formula → Result Formula MachineFault) → ℕ → List Formula → List Formula → Outcome
+abbrev pub apply_with : (List Formula → Result Formula MachineFault) → ℕ → List Formula → List Formula → Outcome
 apply_with run n stack k = cond (nat_lt (length stack) n) (Err underflow) (and_then (λ r. Ok (state (r ∷ drop n stack) k)) (run (reverse (take n stack))))
 
 enough : (fs s : List Formula) → nat_lt (length (onto fs s)) (length fs) ≡ false
 enough fs s = let long : length (onto fs s) ≡ length fs + length s = length-onto fs s in grind (arith, nat_tests)
 
-apply_onto : (run : List Formula → Result Formula MachineFault) (n : ℕ) (fs s k : List Formula) → length fs ≡ n
+pub apply_onto : (run : List Formula → Result Formula MachineFault) (n : ℕ) (fs s k : List Formula) → length fs ≡ n
     → apply_with run n (onto fs s) k ≡ and_then (λ r. Ok (state (r ∷ s) k)) (run fs)
 apply_onto run n fs s k e = subst (λ (m : ℕ). apply_with run m (onto fs s) k ≡ and_then (λ r. Ok (state (r ∷ s) k)) (run fs)) e
     (rw (enough, drop-onto, taken-onto) refl)

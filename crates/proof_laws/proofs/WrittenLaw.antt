@@ -49,7 +49,7 @@ mark_ink : (marked : Bool) → AllByRecursion IsInk (mark marked)
 mark_ink true = (refl, tt)
 mark_ink false = tt
 
-letters_ink : (m n : ℕ) (letters : List ℕ) (steps : List Step) → SpellsSteps m n letters steps → AllByRecursion IsInk letters
+pub letters_ink : (m n : ℕ) (letters : List ℕ) (steps : List Step) → SpellsSteps m n letters steps → AllByRecursion IsInk letters
 letters_ink m n letters [] s = subst (AllByRecursion IsInk) (sym s) tt
 letters_ink m n letters (x ∷ xs) (front, rest, whole, one, others) =
     let here : AllByRecursion IsInk front = subst (AllByRecursion IsInk) (sym one.whole) (ink_append one.front (mark x.marked) (what_ink m n one.front x.what one.what) (mark_ink x.marked)) in

@@ -200,7 +200,7 @@ clean : (proof : Option (List ℕ)) → IsOneLine proof → IsClean proof
 clean None h = tt
 clean (Some bytes) h = clean_proof bytes h
 
-ready : (s : Sheet) (proof : Option (List ℕ)) → IsSpellable s → IsOneLine proof → IsReady s proof
+pub ready : (s : Sheet) (proof : Option (List ℕ)) → IsSpellable s → IsOneLine proof → IsReady s proof
 ready s proof h o = record {
   theorem = h.theorem;
   loc = h.loc;

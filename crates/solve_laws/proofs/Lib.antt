@@ -1,9 +1,9 @@
-mod Elements
-mod NewVariables
-mod NoFresh
+pub mod Elements
+pub mod NewVariables
+pub mod NoFresh
 pub mod OneJudgement
-mod OneValuation
-mod PairSetLaws
+pub mod OneValuation
+pub mod PairSetLaws
 pub mod ReplaceLaws
 pub mod ReplacedTypes
 pub mod SameTrees

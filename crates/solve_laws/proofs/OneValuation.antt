@@ -77,7 +77,7 @@ module _ (r : Refinement) (x y : Open) where
       (λ c n m o. rw replace-Fresh (passes_leaf (fresh c n) (rw open_leaves-Fresh at m) o))
       (λ l c ts h m o. rw (replace-Node, open_leaves-Node) (passes_all ts h (rw open_leaves-Node at m) o))
 
-occurs_leaf : (y : Open) → Occurs y (leaf_tree y)
+pub occurs_leaf : (y : Open) → Occurs y (leaf_tree y)
 occurs_leaf (work c n) = rw open_leaves-Work (0, omega arith, refl)
 occurs_leaf (fresh c n) = rw open_leaves-Fresh (0, omega arith, refl)
 

@@ -16,7 +16,7 @@ pair v w = record { a = symbol v; b = symbol w }
 same_numbers : (a b c d : ℕ) → ((a == c) && (b == d)) ≡ true → (a ≡ c) × (b ≡ d)
 same_numbers a b c d h = (grind (arith, nat_tests, h), grind (arith, nat_tests, h))
 
-same_is : (p q : Pair) → same_pair p q ≡ true → p ≡ q
+pub same_is : (p q : Pair) → same_pair p q ≡ true → p ≡ q
 unfolding pair
 same_is p q h = let e = same_numbers p.a.0 p.b.0 q.a.0 q.b.0 h in joined p.a.0 p.b.0 q.a.0 q.b.0 e.0 e.1
   where

@@ -1,5 +1,5 @@
--- Laws (not proved yet): what the proof of a tree, and of a step, leaves on the stack.
-use Rattle.std.specs.Prelude.{◌≡◌, ℕ, true, None, find, List, [], ◌∷◌, flat_map, slice_get, slice_index_or, Contains, Some, Result, Ok}
+-- Laws: what the proof of a tree, and of a step, leaves on the stack.
+use Rattle.std.specs.Prelude.{◌≡◌, ℕ, true, false, codes, None, find, List, [], ◌∷◌, flat_map, slice_get, slice_index_or, Contains, Some, Result, Ok}
 use Rattle.std.specs.Str.{bytes_eq}
 use Rattle.mm_base.specs.declared.symbols.Sym.{Sym}
 use Rattle.mm_base.specs.declared.symbols.Typecode.{Typecode}
@@ -43,12 +43,13 @@ leaf_symbols (leaf.Work c n) = []
 abbrev pub tree_formula : Database → Tree → Formula
 tree_formula db t = (code_of t).0 ∷ flat_map leaf_symbols (text db.rows t)
 
--- the first `$f` of a variable among these hypotheses has this typecode, and its label names no other one
+-- the first `$f` of a variable among these hypotheses has this typecode, and its label names no other one and is no `?`
 pub record HasFloat (hyps : List Hyp) (s : Sym) (c : Typecode) : Type 0 where
   pub hyp : Hyp
   pub is_float : find (is_float_of s) hyps ≡ Some hyp
   pub formula : hyp.formula ≡ c.0 ∷ s ∷ []
   pub named : find (λ (h : Hyp). bytes_eq h.name hyp.name) hyps ≡ Some hyp
+  pub no_gap : bytes_eq hyp.name (codes "?") ≡ false
 
 -- so has each variable of the tree
 abbrev pub HasFloats : Database → List Hyp → Tree → Type 0
