@@ -1,0 +1,15 @@
+pub mod LeastLeaves
+pub mod Reading
+pub mod General
+pub mod Agreement
+pub mod Chained
+pub mod Candidates
+pub mod Closing
+pub mod Listed
+pub mod Grown
+pub mod Built
+pub mod Usable
+pub mod Growth
+pub mod Copies
+pub mod Added
+pub mod Prepared
