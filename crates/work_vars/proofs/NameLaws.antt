@@ -183,6 +183,12 @@ code_once c d e = elim (lettered c) [
   ]
 ]
 
+-- a name of a work variable is that of one alone
+pub spelled_once : (c d : Name) (m n : ℕ) → m < 2 ^ 32 → n < 2 ^ 32 → spelling c m ≡ spelling d n → (c ≡ d) × (m ≡ n)
+spelled_once c d m n low small e =
+    let p = parted_once (prefix_of c) (prefix_of d) (decimal m) (decimal n) (prefix_plain c) (prefix_plain d) (decimal_digits m (omega (arith, low))) (decimal_digits n (omega (arith, small))) e in
+    (code_once c d p.0, decimal_injective m n (omega (arith, low)) (omega (arith, small)) p.1)
+
 -- ---- the whole name
 
 module _ (token : List ℕ) (k : ℕ) (h : k ≤ length token) (d : all_ascii_digits (drop k token) ≡ true) (b : 0 < k → is_ascii_digit (get_or token (k - 1) 0) ≡ false) where

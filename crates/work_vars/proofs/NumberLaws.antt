@@ -90,13 +90,13 @@ chained : (o : Option (List ℕ)) (n : ℕ) → option_and_then work_number_of o
 chained None n e = absurd (cc)
 chained (Some digits) n e = (digits, refl, e)
 
-number_told : (token code : Name) (n : ℕ) → work_number code token ≡ Some n → IsNameOf token code n
+pub number_told : (token code : Name) (n : ℕ) → work_number code token ≡ Some n → IsNameOf token code n
 number_told token code n e =
     let t = chained (after_prefix (prefix_of code) token) n e in
     let r = read_digits t.0 n t.2 in
     record { from_one = r.0; in_range = r.1; spelled = parted (prefix_of code) token t.0 t.1 ∙ ap (λ l. prefix_of code ++ l) r.2 }
 
-told_number : (token code : Name) (n : ℕ) → IsNameOf token code n → work_number code token ≡ Some n
+pub told_number : (token code : Name) (n : ℕ) → IsNameOf token code n → work_number code token ≡ Some n
 told_number token code n is =
     ap (option_and_then work_number_of) (behind (prefix_of code) token (decimal n) is.spelled) ∙ digits_read (decimal n) n is.from_one is.in_range refl
 
