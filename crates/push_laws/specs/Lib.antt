@@ -1,0 +1,2 @@
+pub mod QedProof
+pub mod WrittenProof
