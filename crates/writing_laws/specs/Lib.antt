@@ -1,0 +1,12 @@
+pub mod Decisions
+pub mod HasNames
+pub mod HasSearch
+pub mod HasEnd
+pub mod HasWriting
+pub mod HasLate
+pub mod TokenCounts
+pub mod HasLong
+pub mod StoreCounts
+pub mod HasTrees
+pub mod HasBinding
+pub mod HasAnswers
