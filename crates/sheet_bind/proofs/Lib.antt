@@ -1,0 +1,15 @@
+pub mod Lists
+pub mod Named
+pub mod Compared
+pub mod FirstLaws
+pub mod JudgeLaws
+pub mod MarkLaws
+pub mod TokenLaws
+pub mod RuleLaws
+pub mod RunLaws
+pub mod BindLaws
+pub mod TheoremLaws
+pub mod SizeLaws
+pub mod OpenLaws
+pub mod PlaceLaws
+pub mod CodeLaws

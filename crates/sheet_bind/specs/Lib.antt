@@ -1,0 +1,14 @@
+pub mod Found
+pub mod Judging
+pub mod Lists
+pub mod Marks
+pub mod Named
+pub mod PairKeys
+pub mod Places
+pub mod Results
+pub mod Rules
+pub mod Seen
+pub mod Shown
+pub mod Sizes
+pub mod Tests
+pub mod Theorems
