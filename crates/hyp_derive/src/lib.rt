@@ -7,4 +7,5 @@ mod same;
 
 pub use filling::fill;
 pub use naming::step_name;
+pub use same::is_same;
 pub use written_model::Filled;

@@ -1,0 +1,12 @@
+pub mod ChoiceLaws
+pub mod EndLaws
+pub mod FitLaws
+pub mod GroundLaws
+pub mod LabelLaws
+pub mod Lists
+pub mod MatchLaws
+pub mod PairLaws
+pub mod PlaceLaws
+pub mod SearchLaws
+pub mod ShapeLaws
+pub mod ValueLaws

@@ -1,0 +1,5 @@
+pub mod Completing
+pub mod Matching
+pub mod Placing
+pub mod Searching
+pub mod Wholes

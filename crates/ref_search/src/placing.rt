@@ -1,0 +1,220 @@
+ghost use Rattle.std.specs.Prelude.{◌≡◌, ◌<◌, ◌∷◌, [], ℕ, List as ListOf, length, remove, IfOk, OnOk};
+ghost use Rattle.std.specs.List.{AllByRecursion, range_with_len};
+ghost use Rattle.std.specs.Option.{option_copied};
+ghost use Rattle.mm_base.specs.declared.tree.Tree.{Tree as TreeOf};
+ghost use Rattle.mm_model.specs.Book.{Assertion};
+ghost use Rattle.solve_model.specs.Firsts.{orders};
+ghost use Rattle.ref_search.specs.Matching.{AreBound, AreGround, AllBecome, IsLonger, IsMatched};
+ghost use Rattle.ref_search.specs.Completing.{IsRule};
+ghost use Rattle.ref_search.specs.Placing.{IsClosed, IsFirstFit, IsFitOf};
+
+use crate::completing::complete;
+use crate::matching::matches;
+use crate::shapes::may_become;
+use crate::wanted::Wanted;
+use mm_base::{List, Memory, Pair, Sym, Tree};
+use mm_model::Frame;
+use std::alloc::Global;
+
+/// An order in which given trees fit the `$e` of a frame, with the values of the frame's variables.
+#[derive(Drop)]
+pub struct Fit {
+    pub order: List<u32>,
+    pub trees: List<Tree>,
+}
+
+fn copied(alloc: Global, places: &[u32]) -> Result<List<u32>, Memory>
+    ensures { IfOk result (λ copy. copy ≡ places.now) }
+{
+    Ok(List::from_vec(places.to_vec(alloc)?))
+}
+
+fn without(alloc: Global, places: &[u32], i: usize) -> Result<Vec<u32>, Memory>
+    requires { i < length places.now }
+    ensures { IfOk result (λ left. left.items ≡ remove places.now i) }
+{
+    let mut left = places.to_vec(alloc)?;
+    left.remove(i);
+    Ok(left)
+}
+
+/// The fit with a place before those of its order.
+fn preceded(place: u32, fit: Fit) -> Result<Fit, Memory>
+    ensures { IfOk result (λ f. f ≡ record { order = place ∷ fit.order; trees = fit.trees }) }
+{
+    let Fit { order, trees } = fit;
+    let mut order = order.into_vec();
+    order.insert(0, place)?;
+    Ok(Fit {
+        order: List::from_vec(order),
+        trees,
+    })
+}
+
+/// The fit where no `$e` is left.
+fn end(
+    alloc: Global,
+    frame: &Frame,
+    vars: &List<Sym>,
+    bindings: &[(Sym, &Tree)],
+    given: Option<&List<Pair>>,
+) -> Result<Option<Fit>, Memory>
+    ensures { IfOk result (λ o. (a : Assertion) (wanted : ListOf TreeOf) → IsRule a frame.now vars.now → AreBound vars.now bindings.now
+        → IsFirstFit a (option_copied given.entry) bindings.now [] wanted ([] ∷ []) o) }
+{
+    match complete(alloc, frame, vars, bindings, given)? {
+        None => Ok(None),
+        Some(trees) => Ok(Some(Fit {
+            order: List::from_vec(Vec::new(alloc)),
+            trees,
+        })),
+    }
+}
+
+/// The first order of these places in which the wanted trees there fit the `$e` of a frame. What is bound to its
+/// variables stays, and more may be bound behind it. It tries no order further than to the first `$e` that does not
+/// fit.
+pub fn place<'w>(
+    alloc: Global,
+    frame: &Frame,
+    vars: &List<Sym>,
+    hyps: &[Tree],
+    wanted: &'w [Tree],
+    places: &[u32],
+    bindings: &mut Vec<(Sym, &'w Tree)>,
+    given: Option<&List<Pair>>,
+) -> Result<Option<Fit>, Memory>
+    requires closed { AreGround wanted.now }
+    requires inside { AllByRecursion (λ k. k < length wanted.now) places.now }
+    ensures longer { OnOk result (IsLonger bindings.old.items bindings.new.items) }
+    ensures first { IfOk result (λ o. (a : Assertion) → IsRule a frame.now vars.now → AreBound vars.now bindings.old.items
+        → IsFirstFit a (option_copied given.entry) bindings.old.items hyps.now wanted.now (orders (length hyps.now) places.now) o) }
+{
+    let Some((first, others)) = hyps.split_first() else {
+        return end(alloc, frame, vars, bindings.as_slice(), given);
+    };
+    let mark = bindings.len();
+    for i in 0..places.len() {
+        let at = places[i];
+        if !matches(vars.as_slice(), first, &wanted[at as usize], bindings)? {
+            bindings.truncate(mark);
+            continue;
+        }
+        let left = without(alloc, places, i)?;
+        match place(
+            alloc,
+            frame,
+            vars,
+            others,
+            wanted,
+            left.as_slice(),
+            bindings,
+            given,
+        )? {
+            None => bindings.truncate(mark),
+            Some(fit) => return Ok(Some(preceded(at, fit)?)),
+        }
+    }
+    Ok(None)
+}
+
+/// Whether all trees of a frame become these trees, as `matches` says it of one.
+fn match_all<'w>(
+    vars: &[Sym],
+    patterns: &[Tree],
+    trees: &'w [Tree],
+    bindings: &mut Vec<(Sym, &'w Tree)>,
+) -> Result<bool, Memory>
+    requires closed { AreGround trees.now }
+    requires count { length patterns.now ≡ length trees.now }
+    ensures { IfOk result (IsMatched vars.now (AllBecome patterns.now trees.now) bindings.old.items bindings.new.items) }
+{
+    for (i, pattern) in patterns.iter().enumerate() {
+        if !matches(vars, pattern, &trees[i], bindings)? {
+            return Ok(false);
+        }
+    }
+    Ok(true)
+}
+
+/// The fit where the wanted trees fit the `$e` of a frame as they are listed.
+fn listed<'w>(
+    alloc: Global,
+    frame: &Frame,
+    vars: &List<Sym>,
+    hyps: &[Tree],
+    wanted: &'w [Tree],
+    places: &[u32],
+    bindings: &mut Vec<(Sym, &'w Tree)>,
+    given: Option<&List<Pair>>,
+) -> Result<Option<Fit>, Memory>
+    requires closed { AreGround wanted.now }
+    requires count { length hyps.now ≡ length wanted.now }
+    requires places { places.now ≡ range_with_len 0 (length wanted.now) }
+    ensures { IfOk result (λ o. (a : Assertion) → IsRule a frame.now vars.now → AreBound vars.now bindings.old.items
+        → IsFirstFit a (option_copied given.entry) bindings.old.items hyps.now wanted.now (places.now ∷ []) o) }
+{
+    if !match_all(vars.as_slice(), hyps, wanted, bindings)? {
+        return Ok(None);
+    }
+    let order = copied(alloc, places)?;
+    match complete(alloc, frame, vars, bindings.as_slice(), given)? {
+        None => Ok(None),
+        Some(trees) => Ok(Some(Fit { order, trees })),
+    }
+}
+
+/// The most hypotheses that are tried in each order.
+const MOST_ORDERED: usize = 6;
+
+/// The first order in which an assertion with these trees fits, where it has as many `$e` as there are wanted hypotheses.
+/// Where its conclusion has another shape than the wanted formula it takes no memory.
+pub fn fit_to(
+    alloc: Global,
+    frame: &Frame,
+    vars: &List<Sym>,
+    tree: &Tree,
+    hyps: &List<Tree>,
+    wanted: &Wanted,
+    places: &[u32],
+    given: Option<&List<Pair>>,
+) -> Result<Option<Fit>, Memory>
+    requires closed { IsClosed wanted.now }
+    requires count { length hyps.now ≡ length wanted.now.hyps }
+    requires places { places.now ≡ range_with_len 0 (length wanted.now.hyps) }
+    ensures { IfOk result (λ o. (a : Assertion) → IsRule a frame.now vars.now → a.tree ≡ tree.now → a.hyps ≡ hyps.now
+        → IsFitOf a (option_copied given.entry) wanted.now o) }
+{
+    if !may_become(tree, &wanted.formula) {
+        return Ok(None);
+    }
+    let mut bindings = Vec::new(alloc);
+    if !matches(vars.as_slice(), tree, &wanted.formula, &mut bindings)? {
+        return Ok(None);
+    }
+    let patterns = hyps.as_slice();
+    let trees = wanted.hyps.as_slice();
+    if places.len() <= MOST_ORDERED {
+        place(
+            alloc,
+            frame,
+            vars,
+            patterns,
+            trees,
+            places,
+            &mut bindings,
+            given,
+        )
+    } else {
+        listed(
+            alloc,
+            frame,
+            vars,
+            patterns,
+            trees,
+            places,
+            &mut bindings,
+            given,
+        )
+    }
+}

@@ -1,0 +1,180 @@
+ghost use Rattle.std.specs.Prelude.{◌≡◌, ◌<◌, length, IfOk};
+ghost use Rattle.std.specs.List.{AllByRecursion, range_with_len};
+ghost use Rattle.std.specs.Option.{option_copied};
+ghost use Rattle.mm_database.specs.ByHead.{by_head};
+ghost use Rattle.ref_search.specs.Placing.{IsClosed};
+ghost use Rattle.ref_search.specs.Searching.{ForEachText, IsCandidate, IsFirstAmong, IsFirstBelow, IsLabelFit, RiseFrom, head_of, upto};
+ghost use Rattle.ref_search.specs.Wholes.{IsAnswer};
+
+use crate::placing::{Fit, fit_to};
+use crate::wanted::{Found, Wanted};
+use hyp_order::first_order;
+use mm_base::{Label, List, Memory, Pair, Tree};
+use mm_database::Database;
+use model_laws::frames_are_whole;
+use std::alloc::Global;
+
+/// The first order in which the assertion of a label fits.
+fn fit_label(
+    alloc: Global,
+    db: &Database,
+    label: Label,
+    wanted: &Wanted,
+    places: &[u32],
+    given: Option<&List<Pair>>,
+) -> Result<Option<Fit>, Memory>
+    requires closed { IsClosed wanted.now }
+    requires candidate { IsCandidate db.now.parsed (length wanted.now.hyps) label }
+    requires places { places.now ≡ range_with_len 0 (length wanted.now.hyps) }
+    ensures { IfOk result (λ o. ForEachText db.now (λ d. IsLabelFit d (option_copied given.entry) wanted.now label o)) }
+{
+    frames_are_whole();
+    match db.frames().frame(label) {
+        None => Ok(None),
+        Some(frame) => fit_to(
+            alloc,
+            frame,
+            db.vars(label),
+            db.tree(label),
+            db.hyp_trees(label),
+            wanted,
+            places,
+            given,
+        ),
+    }
+}
+
+fn found_by(label: Label, fit: Fit) -> Found
+    ensures { result ≡ record { label = label; trees = fit.trees; order = fit.order } }
+{
+    let Fit { order, trees } = fit;
+    Found {
+        label,
+        trees,
+        order,
+    }
+}
+
+/// The first of these labels that is below the bound and whose assertion fits.
+fn first_among(
+    alloc: Global,
+    db: &Database,
+    labels: &[Label],
+    bound: u32,
+    wanted: &Wanted,
+    places: &[u32],
+    given: Option<&List<Pair>>,
+) -> Result<Option<Found>, Memory>
+    requires closed { IsClosed wanted.now }
+    requires candidates { AllByRecursion (IsCandidate db.now.parsed (length wanted.now.hyps)) labels.now }
+    requires rise { RiseFrom 0 labels.now }
+    requires places { places.now ≡ range_with_len 0 (length wanted.now.hyps) }
+    ensures { IfOk result (λ o. ForEachText db.now (λ d. IsFirstAmong d (option_copied given.entry) wanted.now labels.now bound o)) }
+{
+    for label in labels {
+        if label.0 >= bound {
+            return Ok(None);
+        }
+        match fit_label(alloc, db, *label, wanted, places, given)? {
+            None => {}
+            Some(fit) => return Ok(Some(found_by(*label, fit))),
+        }
+    }
+    Ok(None)
+}
+
+/// The first label below the bound whose assertion has this head and fits.
+fn first_at(
+    alloc: Global,
+    db: &Database,
+    head: Option<Label>,
+    bound: u32,
+    wanted: &Wanted,
+    places: &[u32],
+    given: Option<&List<Pair>>,
+) -> Result<Option<Found>, Memory>
+    requires closed { IsClosed wanted.now }
+    requires places { places.now ≡ range_with_len 0 (length wanted.now.hyps) }
+    ensures { IfOk result (λ o. ForEachText db.now (λ d. IsFirstAmong d (option_copied given.entry) wanted.now
+        (by_head db.now.parsed head (length wanted.now.hyps)) bound o)) }
+{
+    let count = wanted.hyps.as_slice().len();
+    if count > u32::MAX as usize {
+        return Err(Memory);
+    }
+    let labels = db.by_head(head, count as u32).as_slice();
+    first_among(alloc, db, labels, bound, wanted, places, given)
+}
+
+fn head(tree: &Tree) -> Option<Label>
+    ensures { result ≡ head_of tree.now }
+{
+    match tree {
+        Tree::Var(_, _) => None,
+        Tree::Work(_, _) => None,
+        Tree::Fresh(_, _) => None,
+        Tree::Node(label, _, _) => Some(*label),
+    }
+}
+
+/// The number of the label that is found, else the bound.
+fn below(found: &Option<Found>, bound: u32) -> u32
+    ensures { result ≡ upto bound found.now }
+{
+    match found {
+        None => bound,
+        Some(found) => found.label.0,
+    }
+}
+
+/// The first label below the bound whose assertion fits: an assertion whose conclusion is a variable, or one with the
+/// head of the wanted formula. The other ones never fit.
+fn first_below(
+    alloc: Global,
+    db: &Database,
+    bound: u32,
+    wanted: &Wanted,
+    places: &[u32],
+    given: Option<&List<Pair>>,
+) -> Result<Option<Found>, Memory>
+    requires closed { IsClosed wanted.now }
+    requires places { places.now ≡ range_with_len 0 (length wanted.now.hyps) }
+    ensures { IfOk result (λ o. ForEachText db.now (λ d. IsFirstBelow d (option_copied given.entry) wanted.now bound o)) }
+{
+    let early = first_at(alloc, db, None, bound, wanted, places, given)?;
+    let Some(label) = head(&wanted.formula) else {
+        return Ok(early);
+    };
+    let bound = below(&early, bound);
+    match first_at(alloc, db, Some(label), bound, wanted, places, given)? {
+        None => Ok(early),
+        Some(late) => Ok(Some(late)),
+    }
+}
+
+/// The first usable assertion before a place, in database order, that has as many `$e` as there are wanted hypotheses,
+/// and of which one substitution makes the conclusion the wanted formula and the `$e` the wanted hypotheses in some
+/// order, without a clash; where pairs are given, each needed pair has to be among them. Two to six hypotheses are tried
+/// in each order, in lexicographic order of their places, else as they are listed. None exactly where there is none.
+///
+/// It goes through the assertions whose conclusion is a variable and those with the head of the wanted formula. It takes
+/// memory for one order, for the bindings of an assertion whose conclusion has the wanted formula's shape, and for copies
+/// of the values where all trees fit. `Memory`: there is no room for them.
+pub fn first(
+    alloc: Global,
+    db: &Database,
+    place: u32,
+    wanted: &Wanted,
+    allowed: Option<&List<Pair>>,
+) -> Result<Option<Found>, Memory>
+    requires { IsClosed wanted.now }
+    ensures { IfOk result (IsAnswer db.now place wanted.now (option_copied allowed.entry)) }
+{
+    let count = wanted.hyps.as_slice().len();
+    if count > u32::MAX as usize {
+        return Err(Memory);
+    }
+    let places = first_order(alloc, count as u32)?;
+    let bound = db.before(place);
+    first_below(alloc, db, bound, wanted, places.as_slice(), allowed)
+}
