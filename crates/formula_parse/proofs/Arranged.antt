@@ -1,7 +1,7 @@
 -- Children in the order of the frame, from trees in the order of the text.
-use Rattle.std.specs.Prelude.{◌≡◌, ◌≢◌, ◌<◌, ◌==◌, ℕ, zero, suc, Bool, true, false, List, [], ◌∷◌, length, Some, slice_get, refl}
+use Rattle.std.specs.Prelude.{◌≡◌, ◌≢◌, ◌<◌, ◌+◌, ◌==◌, ℕ, zero, suc, Bool, true, false, List, [], ◌∷◌, length, Some, slice_get, refl}
 use Rattle.std.specs.List.{cons_option}
-use Rattle.std.proofs.Common.{arith, sym, ap, ◌∙◌, get_or, subst, cond}
+use Rattle.std.proofs.Common.{arith, sym, ap, ◌∙◌, get_or, subst, cond, zero-add}
 use Rattle.std.proofs.lemmas.Bool.Decides.{nat_tests}
 use Rattle.std.proofs.lemmas.Option.{slice_get_within}
 use Rattle.mm_base.specs.declared.symbols.Typecode.{Typecode}
@@ -15,7 +15,7 @@ use Rattle.formula_parse.specs.declared.found.Found.{Found}
 use Rattle.formula_parse.specs.declared.found.Found.TheVariants.{Nothing, One, Two}
 use Rattle.formula_parse.specs.Finds.{Finds}
 use Rattle.formula_parse.specs.Fits.{pick, Fits, IsOf}
-use Rattle.formula_parse.specs.Made.{IsMade, AreMade}
+use Rattle.formula_parse.specs.Made.{IsInOrder, IsMade, AreMade}
 use Rattle.formula_parse.proofs.Places.{some_at, same_by_get}
 
 -- what stands at each place of the order is picked
@@ -32,6 +32,15 @@ pub pick_arranged : (ts : List Tree) (order : List ℕ) (us : List Tree) (n : �
     → ((k : ℕ) → k < n → slice_get ts k ≡ slice_get us (place_of k order)) → pick ts order ≡ us
 pick_arranged ts order us n once e h =
     pick_is ts order us e (λ j l. h (get_or order j 0) (once.within j l) ∙ ap (slice_get us) (once.once j l))
+
+in_order_at : (next : ℕ) (order : List ℕ) → IsInOrder next order → (j : ℕ) → j < length order → get_or order j 0 ≡ next + j
+in_order_at next [] h j l = absurd (omega arith)
+in_order_at next (k ∷ order) h zero l = h.0 ∙ (let same : next ≡ next + 0 = omega arith in same)
+in_order_at next (k ∷ order) h (suc j) l = in_order_at (next + 1) order h.1 j (omega arith) ∙ (let same : next + 1 + j ≡ next + suc j = omega arith in same)
+
+-- trees for slots that stand in order are picked as they are
+pub pick_in_order : (ts : List Tree) (order : List ℕ) → length ts ≡ length order → IsInOrder 0 order → pick ts order ≡ ts
+pick_in_order ts order count h = pick_is ts order ts (sym count) (λ j l. ap (slice_get ts) (in_order_at 0 order h j l ∙ zero-add j))
 
 get_place_by : (k x : ℕ) (order : List ℕ) (b : Bool) → (k == x) ≡ b → cond b 0 (suc (place_of k order)) < suc (length order) → (place_of k order < length order → get_or order (place_of k order) 0 ≡ k)
     → get_or (x ∷ order) (cond b 0 (suc (place_of k order))) 0 ≡ k

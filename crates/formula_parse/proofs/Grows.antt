@@ -32,9 +32,9 @@ module _ (leaves : List Leaf) (chart : List (List Entry)) (rows : List Productio
       let same : its ≡ rest = (let a = is in cc) in
       take_all (length (i ∷ its) - 1) its (omega arith) ∙ same
 
-  pub enters_from : (row place : ℕ) (new : List Entry) (p : Production) (its : List Item) (slots : List Typecode) (ends : List ℕ) → slice_get rows row ≡ Some p → its ≡ p.items → slots ≡ p.slots
-      → ((e : ℕ) → Reaches leaves chart slots (take (length its - 1) (drop 1 its)) place e → IsIn ends e) → ((e : ℕ) → IsIn ends e → IsIn new (entry_of e p.gives row)) → Enters leaves chart rows row place new
-  enters_from row place new p its slots ends at items same reached entered r first rest e stands is reach =
+  pub enters_from : (row place : ℕ) (new : List Entry) (p : Production) (its : List Item) (slots : List Typecode) (Ends : ℕ → Type 0) → slice_get rows row ≡ Some p → its ≡ p.items → slots ≡ p.slots
+      → ((e : ℕ) → Reaches leaves chart slots (take (length its - 1) (drop 1 its)) place e → Ends e) → ((e : ℕ) → Ends e → IsIn new (entry_of e p.gives row)) → Enters leaves chart rows row place new
+  enters_from row place new p its slots Ends at items same reached entered r first rest e stands is reach =
       let one : r ≡ p = cc in
       let tail = tail_of its rest first (items ∙ ap (λ (x : Production). x.items) (sym one) ∙ is) in
       let own : Reaches leaves chart slots rest place e = subst (λ xs. Reaches leaves chart xs rest place e) (ap (λ (x : Production). x.slots) one ∙ sym same) reach in

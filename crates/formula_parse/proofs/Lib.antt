@@ -14,8 +14,10 @@ mod Parts
 mod Places
 mod Reaching
 mod Searches
+mod Slots
 mod Spans
 mod Steps
 mod Trees
 mod Weights
 mod LastSlot
+mod Leading

@@ -10,6 +10,7 @@ use Rattle.mm_model.specs.declared.rows.Leaf.TheVariants as leaf
 use Rattle.mm_model.specs.declared.rows.Production.{Production}
 use Rattle.mm_model.specs.Substitution.{HasCode}
 use Rattle.mm_model.specs.Typed.{Parses}
+use Rattle.syntax_grammar.specs.Selections.{first_sym, next_const}
 use Rattle.formula_parse.specs.declared.reach.Entry.{Entry}
 use Rattle.formula_parse.specs.Fits.{IsOf}
 
@@ -46,6 +47,10 @@ IsOnce entries = (i j : ℕ) (x : Entry) → slice_get entries i ≡ Some x → 
 abbrev pub IsRowBelow : List Production → ℕ → ℕ → Type 0
 IsRowBelow rows before i = (r : Production) × (slice_get rows i ≡ Some r) × (r.at < before)
 
+-- and begins with the symbol, as a constant or as a slot's typecode
+abbrev pub IsStart : List Production → ℕ → Sym → ℕ → Type 0
+IsStart rows before first i = (r : Production) × (slice_get rows i ≡ Some r) × (r.at < before) × (first_sym r.slots r.items ≡ Some first)
+
 abbrev pub entry_of : ℕ → Typecode → ℕ → Entry
 entry_of e code i = record { end = e; code = code; row = i }
 
@@ -66,6 +71,15 @@ module _ (leaves : List Leaf) (chart : List (List Entry)) where
   abbrev pub Enters : List Production → ℕ → ℕ → List Entry → Type 0
   Enters rows i place entries = (r : Production) (first : Item) (rest : List Item) (e : ℕ) → slice_get rows i ≡ Some r → r.items ≡ first ∷ rest
       → Reaches r.slots rest place e → IsIn entries (entry_of e r.gives i)
+
+  -- each row below a place that begins with a symbol is entered from a place of the text
+  abbrev pub EntersFirst : List Production → ℕ → Sym → ℕ → List Entry → Type 0
+  EntersFirst rows before first place entries = (i : ℕ) → IsStart rows before first i → Enters rows i place entries
+
+  -- so is each of them that has the next constant that stands at another place
+  abbrev pub EntersNext : List Production → ℕ → Sym → ℕ → ℕ → List Entry → Type 0
+  EntersNext rows before first place at entries = (s : Sym) → slice_get leaves at ≡ Some (leaf.Const s) → (i : ℕ) (r : Production) → slice_get rows i ≡ Some r → r.at < before
+      → first_sym r.slots r.items ≡ Some first → next_const r.items ≡ Some s → Enters rows i place entries
 
   -- each row below a place that begins with a slot of an entry's typecode is entered behind the entry
   abbrev pub Follows : List Production → ℕ → Entry → List Entry → Type 0

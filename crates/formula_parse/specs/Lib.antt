@@ -1,5 +1,6 @@
 pub mod Answers
 pub mod Charts
+pub mod Ends
 pub mod Finds
 pub mod Fits
 pub mod Made

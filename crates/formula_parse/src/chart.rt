@@ -1,23 +1,29 @@
-ghost use Rattle.std.specs.Prelude.{◌≡◌, ◌<◌, ◌+◌, ◌^◌, ◌∷◌, [], ℕ, length, IfOk, IsTrue, OnOk, slice_get, Some};
+ghost use Rattle.std.specs.Prelude.{◌≡◌, ◌<◌, ◌+◌, ◌^◌, ◌∷◌, [], ℕ, List, length, IfOk, IsTrue, OnOk, slice_get, Some};
+ghost use Rattle.mm_base.specs.declared.symbols.Sym.{Sym};
+ghost use Rattle.mm_model.specs.declared.rows.Leaf.TheVariants.{Const};
 ghost use Rattle.mm_model.specs.Rows.{IsGrammar};
+ghost use Rattle.formula_parse.specs.declared.reach.Entry.{Entry};
+ghost use Rattle.formula_parse.specs.Ends.{IsReached};
 ghost use Rattle.formula_parse.specs.Charts.{
   entry_of,
   Stays,
   IsIn,
   IsOnce,
-  IsRowBelow,
+  IsStart,
   Enters,
+  EntersFirst,
+  EntersNext,
   Follows,
   IsBegun,
   IsFilled,
   IsChart,
 };
 
-use crate::reach::{Entry, can_lead, reach_from};
-use mm_base::{List, Memory, Typecode};
+use crate::reach::{Entry, Reached, can_lead, reach_from};
+use mm_base::{List, Memory, Sym, Typecode};
 use mm_model::{Leaf, Production};
 use std::alloc::Global;
-use syntax_grammar::Grammar;
+use syntax_grammar::{Grammar, first_sym};
 
 /// Adds an entry that does not stand there.
 fn add_entry(entries: &mut Vec<Entry>, entry: Entry) -> Result<(), Memory>
@@ -56,6 +62,32 @@ fn add_ends(
     Ok(())
 }
 
+/// Adds the entries of a row that was found to end somewhere.
+fn add_reached(
+    entries: &mut Vec<Entry>,
+    reached: &Reached,
+    production: &Production,
+    row: usize,
+) -> Result<(), Memory>
+    ensures stays { OnOk result (Stays entries.old.items entries.new.items) }
+    ensures once { OnOk result (IsOnce entries.old.items → IsOnce entries.new.items) }
+    ensures stand { OnOk result ((e : ℕ) → IsReached reached.now e
+        → IsIn entries.new.items (record { end = e; code = production.now.gives; row = row })) }
+{
+    match reached {
+        Reached::Nowhere => Ok(()),
+        Reached::Only(end) => add_entry(
+            entries,
+            Entry {
+                end: *end,
+                code: production.gives,
+                row,
+            },
+        ),
+        Reached::Several(ends) => add_ends(entries, ends.as_slice(), production, row),
+    }
+}
+
 /// Enters each end of a row whose items after the first begin at a place.
 fn enter(
     alloc: Global,
@@ -75,7 +107,7 @@ fn enter(
             if !can_lead(leaves, rest, place) {
                 return Ok(());
             }
-            let ends = reach_from(
+            let reached = reach_from(
                 alloc,
                 leaves,
                 chart,
@@ -83,28 +115,29 @@ fn enter(
                 production.slots.as_slice(),
                 place,
             )?;
-            add_ends(entries, &ends, production, row)?;
+            add_reached(entries, &reached, production, row)?;
         }
     }
     Ok(())
 }
 
-/// Whether the production of a number is below a place of the database.
-fn is_below(g: &Grammar, row: usize, before: u32) -> bool
-    ensures { IsRowBelow g.now before row → IsTrue result }
+/// Whether the production of a number is below a place of the database and begins with the symbol.
+fn is_start(g: &Grammar, row: usize, before: u32, first: Sym) -> bool
+    ensures { IsStart g.now before first row → IsTrue result }
 {
     match g.row(row) {
         None => false,
-        Some(production) => production.at < before,
+        Some(production) => production.at < before && first_sym(production) == Some(first),
     }
 }
 
-/// Enters the productions of these numbers that are below a place of the database, where their items after the first
-/// begin at a place of the text.
+/// Enters those productions of these numbers that are below a place of the database and begin with the symbol, where
+/// their items after the first begin at a place of the text.
 fn enter_all(
     alloc: Global,
     g: &Grammar,
     before: u32,
+    first: Sym,
     numbers: &[usize],
     leaves: &[Leaf],
     chart: &[List<Entry>],
@@ -113,14 +146,128 @@ fn enter_all(
 ) -> Result<(), Memory>
     ensures stays { OnOk result (Stays entries.old.items entries.new.items) }
     ensures once { OnOk result (IsOnce entries.old.items → IsOnce entries.new.items) }
-    ensures entered { OnOk result ((j i : ℕ) → slice_get numbers.now j ≡ Some i → IsRowBelow g.now before i
+    ensures entered { OnOk result ((j i : ℕ) → slice_get numbers.now j ≡ Some i → IsStart g.now before first i
         → Enters leaves.now chart.now g.now i place entries.new.items) }
 {
     for number in numbers {
-        if is_below(g, *number, before) {
+        if is_start(g, *number, before, first) {
             enter(alloc, g, leaves, chart, *number, place, entries)?;
         }
     }
+    Ok(())
+}
+
+/// The constant at a place.
+fn const_at(leaves: &[Leaf], place: usize) -> Option<Sym>
+    ensures { (s : Sym) → slice_get leaves.now place ≡ Some (Const s) → result ≡ Some s }
+{
+    match leaves.get(place) {
+        Some(Leaf::Const(sym)) => Some(*sym),
+        _ => None,
+    }
+}
+
+/// Enters those whose next constant stands at a place of the text.
+fn enter_next(
+    alloc: Global,
+    g: &Grammar,
+    before: u32,
+    first: Sym,
+    leaves: &[Leaf],
+    chart: &[List<Entry>],
+    place: usize,
+    at: usize,
+    entries: &mut Vec<Entry>,
+) -> Result<(), Memory>
+    ensures stays { OnOk result (Stays entries.old.items entries.new.items) }
+    ensures once { OnOk result (IsOnce entries.old.items → IsOnce entries.new.items) }
+    ensures entered { OnOk result (EntersNext leaves.now chart.now g.now before first place at entries.new.items) }
+{
+    match const_at(leaves, at) {
+        None => Ok(()),
+        Some(sym) => enter_all(
+            alloc,
+            g,
+            before,
+            first,
+            g.rows_by_next(sym),
+            leaves,
+            chart,
+            place,
+            entries,
+        ),
+    }
+}
+
+/// Enters those whose next constant stands behind one of these entries.
+fn enter_behind(
+    alloc: Global,
+    g: &Grammar,
+    before: u32,
+    first: Sym,
+    leaves: &[Leaf],
+    chart: &[List<Entry>],
+    place: usize,
+    starts: &[Entry],
+    entries: &mut Vec<Entry>,
+) -> Result<(), Memory>
+    ensures stays { OnOk result (Stays entries.old.items entries.new.items) }
+    ensures once { OnOk result (IsOnce entries.old.items → IsOnce entries.new.items) }
+    ensures entered { OnOk result ((j : ℕ) (x : Entry) → slice_get starts.now j ≡ Some x
+        → EntersNext leaves.now chart.now g.now before first place x.end entries.new.items) }
+{
+    for start in starts {
+        enter_next(
+            alloc, g, before, first, leaves, chart, place, start.end, entries,
+        )?;
+    }
+    Ok(())
+}
+
+/// The entries that begin at a place.
+fn entries_from<'c>(chart: &'c [List<Entry>], place: usize) -> &'c [Entry]
+    ensures { (xs : List Entry) → slice_get chart.now place ≡ Some xs → result.now ≡ xs }
+{
+    match chart.get(place) {
+        None => &[],
+        Some(entries) => entries.as_slice(),
+    }
+}
+
+/// Enters the productions below a place of the database that begin with the symbol, where their items after the first
+/// begin at a place of the text. Only those are tried whose next constant is there.
+fn enter_first(
+    alloc: Global,
+    g: &Grammar,
+    before: u32,
+    first: Sym,
+    leaves: &[Leaf],
+    chart: &[List<Entry>],
+    place: usize,
+    entries: &mut Vec<Entry>,
+) -> Result<(), Memory>
+    ensures stays { OnOk result (Stays entries.old.items entries.new.items) }
+    ensures once { OnOk result (IsOnce entries.old.items → IsOnce entries.new.items) }
+    ensures entered { OnOk result (EntersFirst leaves.now chart.now g.now before first place entries.new.items) }
+{
+    enter_all(
+        alloc,
+        g,
+        before,
+        first,
+        g.lone_rows(first),
+        leaves,
+        chart,
+        place,
+        entries,
+    )?;
+    enter_next(
+        alloc, g, before, first, leaves, chart, place, place, entries,
+    )?;
+    let starts = entries_from(chart, place);
+    enter_behind(
+        alloc, g, before, first, leaves, chart, place, starts, entries,
+    )?;
     Ok(())
 }
 
@@ -167,11 +314,11 @@ fn begin_entries(
         Leaf::Work(code, _) => variable_entry(alloc, begin, code, g.kept().as_slice().len()),
         Leaf::Const(sym) => {
             let mut entries = Vec::new(alloc);
-            enter_all(
+            enter_first(
                 alloc,
                 g,
                 before,
-                g.rows_by_const(sym),
+                sym,
                 leaves,
                 chart,
                 begin + 1,
@@ -196,17 +343,19 @@ fn follow(
     ensures once { OnOk result (IsOnce entries.old.items → IsOnce entries.new.items) }
     ensures followed { OnOk result (Follows leaves.now chart.now g.now before entry entries.new.items) }
 {
-    enter_all(
+    if g.rows_by_slot(entry.code).is_empty() {
+        return Ok(());
+    }
+    enter_first(
         alloc,
         g,
         before,
-        g.rows_by_slot(entry.code),
+        entry.code.0,
         leaves,
         chart,
         entry.end,
         entries,
-    )?;
-    Ok(())
+    )
 }
 
 fn entry_at(entries: &[Entry], k: usize) -> Entry

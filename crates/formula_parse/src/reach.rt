@@ -2,6 +2,7 @@ ghost use Rattle.std.specs.Prelude.{◌≡◌, ◌+◌, ℕ, IfOk, IsTrue, OnOk,
 ghost use Rattle.mm_base.specs.declared.symbols.Typecode.{Typecode};
 ghost use Rattle.mm_model.specs.declared.rows.Leaf.TheVariants.{Const};
 ghost use Rattle.formula_parse.specs.Charts.{IsIn, Stays, IsEntry, CanLead, Reaches};
+ghost use Rattle.formula_parse.specs.Ends.{IsAmong, IsReached};
 
 use mm_base::{List, Memory, Sym, Typecode};
 use mm_model::{Item, Leaf};
@@ -161,7 +162,89 @@ fn reach(
     }
 }
 
-/// Where the items may end, from one place on.
+/// Which places were found, where one of them is the usual case.
+#[derive(Clone, Copy)]
+pub enum Ends {
+    Nowhere,
+    Only(usize),
+    Several,
+}
+
+/// Where items may end.
+#[derive(Debug, Drop)]
+pub enum Reached {
+    Nowhere,
+    Only(usize),
+    Several(Vec<usize>),
+}
+
+/// Whether the items may end at a place.
+pub fn has_end(reached: &Reached, end: usize) -> bool
+    ensures { IsReached reached.now end → IsTrue result }
+{
+    match reached {
+        Reached::Nowhere => false,
+        Reached::Only(other) => *other == end,
+        Reached::Several(ends) => ends.contains(&end),
+    }
+}
+
+/// One more place.
+fn or_end(ends: Ends, end: usize) -> Ends
+    ensures old { (m : ℕ) → IsAmong ends m → IsAmong result m }
+    ensures this { IsAmong result end }
+{
+    match ends {
+        Ends::Nowhere => Ends::Only(end),
+        Ends::Only(other) => if other == end {
+            Ends::Only(other)
+        } else {
+            Ends::Several
+        },
+        Ends::Several => Ends::Several,
+    }
+}
+
+/// The ends of the entries of a typecode, at which the items behind can begin.
+fn ends_of(entries: &[Entry], code: Typecode, leaves: &[Leaf], behind: &[Item]) -> Ends
+    ensures { (x : Entry) → IsIn entries.now x → x.code ≡ code → CanLead leaves.now behind.now x.end
+        → IsAmong result x.end }
+{
+    let mut ends = Ends::Nowhere;
+    for entry in entries {
+        if entry.code == code && can_lead(leaves, behind, entry.end) {
+            ends = or_end(ends, entry.end);
+        }
+    }
+    ends
+}
+
+/// The ends of the entries of a typecode that begin at a place, at which the items behind can begin.
+pub fn ends_from(
+    chart: &[List<Entry>],
+    place: usize,
+    code: Typecode,
+    leaves: &[Leaf],
+    behind: &[Item],
+) -> Ends
+    ensures { (m : ℕ) → IsEntry chart.now place m code → CanLead leaves.now behind.now m → IsAmong result m }
+{
+    match chart.get(place) {
+        None => Ends::Nowhere,
+        Some(entries) => ends_of(entries.as_slice(), code, leaves, behind),
+    }
+}
+
+/// A place alone.
+fn alone(alloc: Global, place: usize) -> Result<Vec<usize>, Memory>
+    ensures { IfOk result (λ places. IsIn places.items place) }
+{
+    let mut places = Vec::new(alloc);
+    places.push(place)?;
+    Ok(places)
+}
+
+/// Where the items may end, from one place on. As long as there is one place, no list is made.
 pub fn reach_from(
     alloc: Global,
     leaves: &[Leaf],
@@ -169,10 +252,11 @@ pub fn reach_from(
     items: &[Item],
     slots: &[Typecode],
     place: usize,
-) -> Result<Vec<usize>, Memory>
-    ensures { IfOk result (λ ends. (e : ℕ) → Reaches leaves.now chart.now slots.now items.now place e → IsIn ends.items e) }
+) -> Result<Reached, Memory>
+    ensures { IfOk result (λ ends. (e : ℕ) → Reaches leaves.now chart.now slots.now items.now place e → IsReached ends e) }
 {
     match items {
+        [] => Ok(Reached::Only(place)),
         [Item::Const(sym), rest @ ..] => match leaves.get(place) {
             Some(Leaf::Const(other)) if *other == *sym => reach_from(
                 alloc,
@@ -182,12 +266,19 @@ pub fn reach_from(
                 slots,
                 place + 1,
             ),
-            _ => Ok(Vec::new(alloc)),
+            _ => Ok(Reached::Nowhere),
         },
-        _ => {
-            let mut places = Vec::new(alloc);
-            places.push(place)?;
-            reach(alloc, leaves, chart, items, slots, places)
-        }
+        [Item::Slot(k), rest @ ..] => match slots.get(*k as usize) {
+            None => Ok(Reached::Nowhere),
+            Some(code) => match ends_from(chart, place, *code, leaves, rest) {
+                Ends::Nowhere => Ok(Reached::Nowhere),
+                Ends::Only(end) => reach_from(alloc, leaves, chart, rest, slots, end),
+                Ends::Several => {
+                    let places = alone(alloc, place)?;
+                    let ends = reach(alloc, leaves, chart, items, slots, places)?;
+                    Ok(Reached::Several(ends))
+                }
+            },
+        },
     }
 }

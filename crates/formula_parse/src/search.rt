@@ -4,11 +4,12 @@ ghost use Rattle.mm_model.specs.Rows.{IsGrammar};
 ghost use Rattle.mm_model.specs.Typed.{Parses};
 ghost use Rattle.formula_parse.specs.Finds.{Finds};
 ghost use Rattle.formula_parse.specs.Fits.{Fits, IsLeaf, IsDivided};
-ghost use Rattle.formula_parse.specs.Charts.{span, IsChart, IsEntry, Reaches};
+ghost use Rattle.formula_parse.specs.Charts.{span, IsChart, IsEntry, CanLead, Reaches};
+ghost use Rattle.formula_parse.specs.Ends.{IsAmong};
 
 use crate::found::{Found, add_pairs, discard, write_last};
 use crate::making::add_nodes;
-use crate::reach::{Entry, reach_from};
+use crate::reach::{Ends, Entry, can_lead, ends_from, has_end, reach_from};
 use mm_base::{List, Memory, Sym, Tree, Typecode};
 use mm_model::{Item, Leaf, Production};
 use std::alloc::Global;
@@ -73,8 +74,19 @@ fn may_fit(
     if items.is_empty() {
         return Ok(begin == end);
     }
-    let ends = reach_from(alloc, leaves, chart, items, slots, begin)?;
-    Ok(ends.contains(&end))
+    let reached = reach_from(alloc, leaves, chart, items, slots, begin)?;
+    Ok(has_end(&reached, end))
+}
+
+/// Whether a place is one of those that were found, and the items can begin there.
+fn may_divide(ends: Ends, leaves: &[Leaf], items: &[Item], middle: usize) -> bool
+    ensures { IsAmong ends middle → CanLead leaves.now items.now middle → IsTrue result }
+{
+    match ends {
+        Ends::Nowhere => false,
+        Ends::Only(end) => end == middle,
+        Ends::Several => can_lead(leaves, items, middle),
+    }
 }
 
 /// Finds the trees of a part of a text, of a typecode, over the rows below a place. What it finds is written and not
@@ -228,8 +240,12 @@ fn divisions(
     if end - begin < items.len() {
         return Ok(());
     }
+    let ends = ends_from(chart, begin, code, leaves, items);
     for n in 0..end - begin - items.len() {
         let middle = begin + n + 1;
+        if !may_divide(ends, leaves, items, middle) {
+            continue;
+        }
         if !may_fit(alloc, leaves, chart, items, slots, middle, end)? {
             continue;
         }

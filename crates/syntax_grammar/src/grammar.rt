@@ -5,7 +5,7 @@ ghost use Rattle.mm_model.specs.Rows.{AreRows, IsGrammar};
 ghost use Rattle.mm_model.specs.Texts.{row_of};
 ghost use Rattle.syntax_grammar.specs.Selections as spec;
 
-use crate::index::{RowIndex, const_index, label_index, slot_index};
+use crate::index::{RowIndex, const_index, label_index, lone_index, next_index, slot_index};
 use crate::joins::{leads, take_chain};
 use mm_base::{Label, List, Memory, Sym, Typecode};
 use mm_model::{Item, Production};
@@ -19,13 +19,15 @@ pub struct Grammar {
     by_label: RowIndex,
     by_const: RowIndex,
     by_slot: RowIndex,
+    by_next: RowIndex,
+    lone: RowIndex,
 }
 
 impl Model for Grammar {
     ghost use Rattle.std.specs.Prelude.{List};
     ghost use Rattle.mm_model.specs.declared.rows.Production.{Production};
     ghost use Rattle.mm_model.specs.Rows.{IsGrammar};
-    ghost use Rattle.syntax_grammar.specs.Selections.{has_label, begins_const, begins_slot};
+    ghost use Rattle.syntax_grammar.specs.Selections.{has_label, begins_const, begins_slot, has_next, is_lone};
     ghost use Rattle.syntax_grammar.specs.Index.{IsIndex};
 
     ghost Value = { List Production };
@@ -33,7 +35,8 @@ impl Model for Grammar {
     ghost view = { λ g. g.rows };
 
     ghost invariant = { λ g. IsGrammar g.rows × IsIndex has_label g.rows g.by_label
-        × IsIndex begins_const g.rows g.by_const × IsIndex begins_slot g.rows g.by_slot };
+        × IsIndex begins_const g.rows g.by_const × IsIndex begins_slot g.rows g.by_slot
+        × IsIndex has_next g.rows g.by_next × IsIndex is_lone g.rows g.lone };
 }
 
 /// The typecode of a chain's variable.
@@ -54,11 +57,15 @@ fn indexed(alloc: Global, rows: List<Production>) -> Result<Grammar, Memory>
     let by_label = label_index(alloc, rows.as_slice())?;
     let by_const = const_index(alloc, rows.as_slice())?;
     let by_slot = slot_index(alloc, rows.as_slice())?;
+    let by_next = next_index(alloc, rows.as_slice())?;
+    let lone = lone_index(alloc, rows.as_slice())?;
     Ok(Grammar {
         rows,
         by_label,
         by_const,
         by_slot,
+        by_next,
+        lone,
     })
 }
 
@@ -126,6 +133,22 @@ impl Grammar {
         ensures { result.now ≡ spec.numbers (spec.begins_slot first.0.0) 0 self.now }
     {
         self.by_slot.at(first.0.0)
+    }
+
+    /// The numbers, from 0, of the kept productions that have that constant behind their first item, or behind the slot
+    /// that follows their first item, in their order. It takes constant time.
+    pub fn rows_by_next(&self, next: Sym) -> &[usize]
+        ensures { result.now ≡ spec.numbers (spec.has_next next.0) 0 self.now }
+    {
+        self.by_next.at(next.0)
+    }
+
+    /// The numbers, from 0, of the kept productions that have no such constant and begin with that symbol, as a constant
+    /// or as a slot's typecode, in their order. It takes constant time.
+    pub fn lone_rows(&self, first: Sym) -> &[usize]
+        ensures { result.now ≡ spec.numbers (spec.is_lone first.0) 0 self.now }
+    {
+        self.lone.at(first.0)
     }
 
     /// The labels of the kept productions whose text begins with that constant, in their order. It takes time in

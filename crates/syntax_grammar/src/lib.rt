@@ -8,4 +8,5 @@ mod joins;
 
 pub use checks::{are_rows, slot_place};
 pub use grammar::{Grammar, keep_rows};
+pub use index::first_sym;
 pub use mm_model::{Item, Production};

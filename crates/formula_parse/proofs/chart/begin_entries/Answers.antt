@@ -1,4 +1,4 @@
-use Rattle.std.proofs.Common.{◌≡◌, ◌∷◌, [], ◌+◌, Some, ap, sym, ◌∙◌, subst, length, List, slice_get}
+use Rattle.std.proofs.Common.{◌≡◌, ◌∷◌, [], ◌+◌, Some, ap, sym, ◌∙◌, subst, length, List}
 use Rattle.std.proofs.lemmas.Result.{IfOk-weaker}
 use Rattle.formula_parse.specs.declared.reach.Entry.{Entry}
 use Rattle.formula_parse.specs.Charts.{IsBegun, IsOnce, entry_of}
@@ -21,9 +21,9 @@ returns-in-Work c =
     (λ v. IsBegun c.args.leaves.now c.args.chart.now c.args.g.now c.args.before c.args.begin v.items)
     (λ v is. subst (λ (xs : List Entry). IsBegun c.args.leaves.now c.args.chart.now c.args.g.now c.args.before c.args.begin xs) (sym is) begun) c.variable_entry-in-Work.ensures
 
-pub returns-in_ok-enter_all-in-Const : goal.returns-in_ok-enter_all-in-Const
-returns-in_ok-enter_all-in-Const c =
+pub returns-in_ok-enter_first-in-Const : goal.returns-in_ok-enter_first-in-Const
+returns-in_ok-enter_first-in-Const c =
     let here = c.leaf_at.ensures ∙ ap (λ x. Some x) c.in-Const.is in
-    let e = c.in_ok-enter_all-in-Const.ensures in
-    begun_const c.args.leaves.now c.args.chart.now c.args.g.now c.args.before c.args.begin c.in-Const.sym c.enter_all.new.entries.items here
-    (λ j i at b. e.entered j i (subst (λ ns. slice_get ns j ≡ Some i) (sym c.rows_by_const.ensures) at) b) (e.once (subst IsOnce (sym c.new-entries.ensures.items) once_none))
+    let e = c.in_ok-enter_first-in-Const.ensures in
+    begun_const c.args.leaves.now c.args.chart.now c.args.g.now c.args.before c.args.begin c.in-Const.sym c.enter_first.new.entries.items here
+    e.entered (e.once (subst IsOnce (sym c.new-entries.ensures.items) once_none))

@@ -7,10 +7,11 @@ use Rattle.formula_parse.proofs.LastSlot.{last_slot}
 use Rattle.formula_parse.specs.Fits.{Splits, Fits, IsDivided}
 use Rattle.formula_parse.specs.Charts.{span, IsComplete}
 use Rattle.formula_parse.proofs.Divisions.{place_begin, place_none, place_stop}
-use Rattle.formula_parse.proofs.Parts.{part_skip, part_skip_rest, part_found, part_end}
+use Rattle.formula_parse.proofs.Parts.{part_skip, part_skip_rest, part_skip_both, part_found, part_end}
 use Rattle.formula_parse.proofs.Spans.{span_length}
 use Rattle.formula_parse.proofs.Consts.{off, const_turn, const_none, end_none}
 use Rattle.formula_parse.proofs.EntryTurns.{chart_entries, IsSoFar, nothing_there, entry_skip, entry_found, entry_stop, entry_end}
+use Rattle.formula_parse.proofs.Lists.{can_of}
 use Rattle.formula_parse.proofs.Places.{cons_of}
 use Rattle.formula_parse.proofs.Lengths.{fits_count}
 use Rattle.formula_parse.proofs.Searches.{each_found}
@@ -44,6 +45,14 @@ pub divisions-loop-n-preserved-then-not-has : goal.divisions-loop-n-preserved-th
 divisions-loop-n-preserved-then-not-has t c =
     part_skip c.args.rows.now c.args.before c.requires.grammar.rows_hold c.args.leaves.now c.args.chart.now c.requires.full c.args.slots.now c.args.items.now c.args.code c.args.begin c.args.end c.requires.order c.requires.within
     c.loop-n.n (omega arith) (λ h. off c.has.result (c.has.ensures h) c.if-not-has.true) c.loop-n.found c.loop-n.invariant
+
+pub divisions-loop-n-preserved-then-not-may_divide : goal.divisions-loop-n-preserved-then-not-may_divide
+divisions-loop-n-preserved-then-not-may_divide t c =
+    let middle = c.args.begin + c.loop-n.n + 1 in
+    part_skip_both c.args.rows.now c.args.before c.requires.grammar.rows_hold c.args.leaves.now c.args.chart.now c.requires.full c.args.slots.now c.args.items.now c.args.code c.args.begin c.args.end c.requires.order c.requires.within
+    c.loop-n.n (omega arith) (λ has reach.
+    let can = can_of c.args.leaves.now c.args.chart.now c.args.slots.now c.args.items.now middle c.args.end reach in
+    off c.may_divide.result (c.may_divide.ensures (c.ends_from-ends.ensures middle has can) can) c.if-not-may_divide.true) c.loop-n.found c.loop-n.invariant
 
 pub divisions-loop-n-preserved-then-not-branch : goal.divisions-loop-n-preserved-then-not-branch
 divisions-loop-n-preserved-then-not-branch t c =

@@ -1,6 +1,6 @@
 use Rattle.std.proofs.Common.{◌≡◌, ◌<◌, ◌≤◌, ℕ, length, slice_get}
 use Rattle.mm_model.specs.Rows.{place_of, slot_order}
-use Rattle.formula_parse.proofs.making.node.Given as goal
+use Rattle.formula_parse.proofs.making.rearranged.Given as goal
 
 abbrev pub invariant-loop-k : goal.invariant-loop-k
 invariant-loop-k l =
