@@ -80,20 +80,19 @@ ORDER = [
         ("Opened", "the databases that laws speak of", ""),
         ("Again", "what a written worksheet becomes when it is unified again", ""),
         ("ReadBack", "laws: what a text without a fault reads as, and that a laid out worksheet reads back", ""),
-        ("ProofsPush", "laws, not proved yet: what a proof leaves on the stack", ""),
+        ("ProofsPush", "laws: what a proof leaves on the stack", ""),
         ("Existence", "laws, not proved yet: a most general valuation exists, and each worksheet has an answer", ""),
         ("WrittenAgain", "laws, not proved yet: written again as itself, and the answer is one", ""),
     ]),
 ]
 
-LAWS = ["model_laws", "proof_laws", "solve_laws", "sheet_laws"]
+LAWS = ["model_laws", "proof_laws", "solve_laws", "sheet_laws", "answer_laws", "push_laws"]
 
 # The statements that no contract names yet, by crate and file.
 STATED = [
     ("written_model", "Headline", ["IsAnswered"]),
     ("written_model", "Existence", ["HasMostGeneral", "HasAnswer"]),
-    ("written_model", "ProofsPush", ["TreeProofPushes", "StepProofPushes", "StepProofHasArities"]),
-    ("written_model", "WrittenAgain", ["ValuesStay", "VerdictsStay", "NothingIsMade", "SearchStays", "IsWrittenAgain", "AnswersAreOne"]),
+    ("written_model", "WrittenAgain", ["ValuesStay", "VerdictsStay", "IsWrittenAgain"]),
 ]
 
 HEAD = """# Definitions
