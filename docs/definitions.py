@@ -10,6 +10,7 @@ CRATES = os.path.join(HERE, "..", "crates")
 ORDER = [
     ("mm_base", "What every other definition speaks of: trees, files, faults of devices.", [
         ("Trees", "trees in general", ""),
+        ("SameTrees", "two typecodes, or two trees, are equal", ""),
         ("Pairs", "pairs of distinct variables", "book 4.2.4"),
         ("Outside", "what a store and a sink tell, and the causes of their faults", ""),
         ("Files", "files as a list of names and bytes", ""),
@@ -54,7 +55,7 @@ ORDER = [
     ]),
     ("solve_model", "What a worksheet asks of its formulas.", [
         ("Firsts", "the first of several", ""),
-        ("Trees", "leaves of trees: replaced, listed, compared", ""),
+        ("Trees", "leaves of trees: replaced, listed", ""),
         ("Formulas", "what a token says, and the trees of a formula", "FORMAT, What a formula says"),
         ("PairSets", "sets of pairs", ""),
         ("Binding", "the place and the theorem of a worksheet", "FORMAT, The place of a theorem"),

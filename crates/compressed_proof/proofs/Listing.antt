@@ -68,7 +68,7 @@ pub lists_open : (front : List (List ℕ)) (rest all : List Word) → rest ≡ [
 lists_open front rest all r h = h.closed ∙ ap (list_any closes) r
 
 -- a label that was copied
-pub lists_pushed : (front new : List (List ℕ)) (start : ℕ) (bytes name copy : List ℕ) (ws rest all : List Word) → new ≡ front ++ name ∷ [] → name ≡ copy → copy ≡ bytes
+pub lists_pushed : (front new : List (List ℕ)) (start : ℕ) (bytes name : List ℕ) (ws rest all : List Word) → new ≡ front ++ name ∷ [] → name ≡ bytes
     → rest ≡ word start bytes ∷ ws → bytes_eq bytes (codes ")") ≡ false → Lists front rest all → Lists new ws all
-lists_pushed front new start bytes name copy ws rest all n e f r differs h =
-    subst (λ (l : List (List ℕ)). Lists l ws all) (sym (n ∙ ap (λ (l : List ℕ). front ++ l ∷ []) (e ∙ f))) (lists_more front (word start bytes) ws rest all r differs h)
+lists_pushed front new start bytes name ws rest all n e r differs h =
+    subst (λ (l : List (List ℕ)). Lists l ws all) (sym (n ∙ ap (λ (l : List ℕ). front ++ l ∷ []) e)) (lists_more front (word start bytes) ws rest all r differs h)

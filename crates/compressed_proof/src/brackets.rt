@@ -46,7 +46,7 @@ fn read_labels(alloc: Global, text: &[u8], from: usize) -> Result<Brackets, Code
         if is_close(word) {
             return Ok(Brackets { labels, end });
         }
-        labels.push(List::from_vec(Vec::from_slice(alloc, word)?))?;
+        labels.push(List::copy_of(alloc, word)?)?;
     }
     Err(CodeFault::NoBracket(0))
 }

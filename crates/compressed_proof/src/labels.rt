@@ -8,7 +8,7 @@ ghost use Rattle.compressed_proof.specs.Parts.{IsLabelFault, IsFaultAt};
 use crate::fault::CodeFault;
 use mm_base::{List, Memory, Name};
 use names::Names;
-use std::alloc::{AllocError, Global};
+use std::alloc::Global;
 
 /// The names of a list, for look-ups.
 fn names_of(alloc: Global, list: &[Name]) -> Result<Names, Memory>
@@ -24,12 +24,6 @@ fn names_of(alloc: Global, list: &[Name]) -> Result<Names, Memory>
     Ok(names)
 }
 
-fn copy_of(alloc: Global, name: &[u8]) -> Result<Name, AllocError>
-    ensures { IfOk result (λ copy. copy ≡ name.now) }
-{
-    Ok(List::from_vec(Vec::from_slice(alloc, name)?))
-}
-
 /// Looks at one label, with the labels before it.
 fn check_label(
     alloc: Global,
@@ -42,10 +36,10 @@ fn check_label(
     ensures fault { IfErr result (λ e. IsFaultAt mandatory.now before.now place label.now e) }
 {
     if mandatory.contains(label) {
-        return Err(CodeFault::MandatoryListed(place, copy_of(alloc, label)?));
+        return Err(CodeFault::MandatoryListed(place, List::copy_of(alloc, label)?));
     }
     if before.contains(label) {
-        return Err(CodeFault::LabelTwice(place, copy_of(alloc, label)?));
+        return Err(CodeFault::LabelTwice(place, List::copy_of(alloc, label)?));
     }
     Ok(())
 }

@@ -1,5 +1,5 @@
 use mm_base::{
-    Bytes, HostSink, HostStore, Label, List, MemSink, MemStore, Memory, Pair, ReadStop,
+    Bytes, HostSink, HostStore, Label, List, MOST_DATABASE_BYTES, MemSink, MemStore, Memory, Pair, ReadStop,
     ReplaceStop, Sink, Store, Sym, Tree, Typecode,
 };
 use std::alloc::{AllocError, Global};
@@ -31,7 +31,7 @@ fn reads<S: Store>(
     most: u64,
     want: (Result<(), ReadStop>, &[u8]),
 ) -> bool {
-    if most > 1 << 28 {
+    if most > MOST_DATABASE_BYTES {
         return false;
     }
     let mut into = Vec::new(alloc);

@@ -1,6 +1,6 @@
 use crate::formulas::{Answer, are_two, is_spelled, parsed};
 use formula_parse::Leaf;
-use mm_base::{Kinds, Label, List, Memory, Sym, Typecode};
+use mm_base::{Kinds, Label, List, MOST_DATABASE_BYTES, Memory, Sym, Typecode};
 use mm_database::{Database, DbFault, db_fault_line, open_database};
 use mm_frames::ReadFault;
 use std::alloc::Global;
@@ -85,7 +85,7 @@ fn kinds(alloc: Global) -> Result<Kinds, Memory> {
 }
 
 fn open_text(alloc: Global, text: &[u8]) -> Result<Database, DbFault> {
-    if text.len() > 1 << 28 {
+    if text.len() as u64 > MOST_DATABASE_BYTES {
         return Err(DbFault::Memory);
     }
     match kinds(alloc) {

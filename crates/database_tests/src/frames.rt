@@ -1,11 +1,11 @@
-use mm_base::{Label, Memory, Pair, Sym};
+use mm_base::{Label, MOST_DATABASE_BYTES, Memory, Pair, Sym};
 use mm_frames::{Frames, Hyp, ReadFault, read};
 use mm_tokens::tokens;
 use std::alloc::{AllocError, Global};
 use std::test::Fail;
 
 fn read_text(alloc: Global, text: &[u8]) -> Result<Frames, Option<ReadFault>> {
-    if text.len() > 1 << 28 {
+    if text.len() as u64 > MOST_DATABASE_BYTES {
         return Err(None);
     }
     match tokens(alloc, text) {

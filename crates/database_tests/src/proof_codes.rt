@@ -1,5 +1,5 @@
 use compressed_proof::{Code, CodeFault, decode, decode_undoes_encode, encode, letters};
-use mm_base::{Bytes, List, Memory, Name};
+use mm_base::{Bytes, List, MOST_DATABASE_BYTES, Memory, Name};
 use std::alloc::Global;
 use std::test::Fail;
 
@@ -44,7 +44,7 @@ fn names(alloc: Global, words: &[&'static [u8]]) -> Result<List<Name>, Memory> {
 // The code that a text spells where these are the mandatory hypotheses.
 fn decoded(alloc: Global, text: &[u8], mandatory: &[&'static [u8]]) -> Result<Code, CodeFault> {
     let mandatory = names(alloc, mandatory)?;
-    if text.len() > 1 << 28 || mandatory.as_slice().len() > 1 << 28 {
+    if text.len() as u64 > MOST_DATABASE_BYTES || mandatory.as_slice().len() as u64 > MOST_DATABASE_BYTES {
         return Err(CodeFault::Memory);
     }
     decode(alloc, text, &mandatory)

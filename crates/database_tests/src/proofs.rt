@@ -3,7 +3,7 @@ ghost use Rattle.mm_frames.specs.Contents.{contents_of};
 
 use crate::proof_codes::{Told, place, tells};
 use compressed_proof::CodeFault;
-use mm_base::{Label, List, Memory, Sym};
+use mm_base::{Label, List, MOST_DATABASE_BYTES, Memory, Sym};
 use mm_frames::{Frames, read};
 use mm_tokens::tokens;
 use stack_verify::{ProofFault, proof_code, theorem_of, verify};
@@ -43,7 +43,7 @@ fn judge(alloc: Global, text: &[u8], frames: &Frames, label: Label) -> Answer
 }
 
 fn judge_text(alloc: Global, text: &[u8]) -> Answer {
-    if text.len() > 1 << 28 {
+    if text.len() as u64 > MOST_DATABASE_BYTES {
         return Answer::Memory;
     }
     let Ok(tokens) = tokens(alloc, text) else {

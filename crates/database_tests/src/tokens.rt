@@ -1,9 +1,10 @@
+use mm_base::MOST_DATABASE_BYTES;
 use mm_tokens::{Token, TokenFault, TokenKind, is_white, next_word, tokens};
 use std::alloc::Global;
 use std::test::Fail;
 
 fn fault_of(alloc: Global, text: &[u8]) -> Option<TokenFault> {
-    if text.len() > 1 << 28 {
+    if text.len() as u64 > MOST_DATABASE_BYTES {
         return None;
     }
     tokens(alloc, text).err()

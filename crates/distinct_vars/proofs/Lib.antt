@@ -1,4 +1,4 @@
-pub mod KeyLaws
+pub mod NeededLaws
 pub mod SetLaws
 pub mod SharedLaws
 pub mod UseLaws

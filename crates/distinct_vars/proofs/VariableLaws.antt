@@ -8,7 +8,7 @@ use Rattle.mm_base.specs.declared.symbols.Sym.{Sym}
 use Rattle.mm_base.specs.declared.tree.Tree.{Tree}
 use Rattle.solve_model.specs.Trees.{variables, flatten}
 use Rattle.mm_model.specs.Names.{sym as symbol}
-use Rattle.distinct_vars.specs.NeededKeys.{distinct, put_number}
+use Rattle.distinct_vars.specs.NeededPairs.{distinct, put_number}
 use Rattle.distinct_vars.specs.Values.{value_at, variables_at}
 
 module _ {X : Type 0} (f : X → Sym → X) where

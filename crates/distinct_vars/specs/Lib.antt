@@ -1,5 +1,5 @@
 pub mod Clashes
-pub mod NeededKeys
+pub mod NeededPairs
 pub mod Shared
 pub mod Uses
 pub mod Values

@@ -1,21 +1,18 @@
 ghost use Rattle.std.specs.Prelude.{◌≡◌, [], fold, map, IfOk, OnOk};
 ghost use Rattle.mm_model.specs.Names.{sym};
-ghost use Rattle.solve_model.specs.PairSets.{ordered};
 ghost use Rattle.solve_model.specs.Trees.{variables};
 ghost use Rattle.written_model.specs.Pairs.{needed as needed_by_use};
 ghost use Rattle.written_model.specs.WrittenSteps.{Use};
-ghost use Rattle.distinct_vars.specs.NeededKeys.{distinct, pair_of, pairs_of, put_all, put_needed, put_number, put_of, put_row};
+ghost use Rattle.distinct_vars.specs.NeededPairs.{distinct, put_all, put_needed, put_number, put_of, put_row};
 ghost use Rattle.distinct_vars.specs.Uses.{IsUseOf};
 ghost use Rattle.distinct_vars.specs.Values.{variables_at};
 
 use crate::values::value;
 use mm_base::{List, Memory, Pair, Sym, Tree};
+use pair_set::PairSet;
 use solve_laws::pair_sets_are_sorted;
 use std::alloc::Global;
 use std::collections::BTreeSet;
-
-/// The numbers of two variables, the lesser first.
-type Keys = BTreeSet<(u32, u32)>;
 
 /// Puts in the numbers of a tree's variables.
 fn add_variables(tree: &Tree, numbers: &mut BTreeSet<u32>) -> Result<(), Memory>
@@ -63,41 +60,30 @@ fn variables_of(
     }
 }
 
-fn key_of(one: Sym, other: Sym) -> (u32, u32)
-    ensures { pair_of result ≡ ordered one other }
-{
-    if one.0 < other.0 {
-        (one.0, other.0)
-    } else {
-        (other.0, one.0)
-    }
-}
-
 /// Puts in the pair of two variables that differ.
-fn add_crossing(keys: &mut Keys, one: Sym, other: Sym) -> Result<(), Memory>
-    ensures { OnOk result (pairs_of keys.new ≡ put_needed (pairs_of keys.old) (one, other)) }
+fn add_crossing(set: &mut PairSet, one: Sym, other: Sym) -> Result<(), Memory>
+    ensures { OnOk result (set.new ≡ put_needed set.old (one, other)) }
 {
     if one == other {
         return Ok(());
     }
-    keys.insert(key_of(one, other))?;
-    Ok(())
+    set.add(one, other)
 }
 
-fn add_row(keys: &mut Keys, one: Sym, others: &[Sym]) -> Result<(), Memory>
-    ensures { OnOk result (pairs_of keys.new ≡ put_row others.now (pairs_of keys.old) one) }
+fn add_row(set: &mut PairSet, one: Sym, others: &[Sym]) -> Result<(), Memory>
+    ensures { OnOk result (set.new ≡ put_row others.now set.old one) }
 {
     for other in others {
-        add_crossing(keys, one, *other)?;
+        add_crossing(set, one, *other)?;
     }
     Ok(())
 }
 
-fn add_crossings(keys: &mut Keys, ones: &[Sym], others: &[Sym]) -> Result<(), Memory>
-    ensures { OnOk result (pairs_of keys.new ≡ put_all ones.now others.now (pairs_of keys.old)) }
+fn add_crossings(set: &mut PairSet, ones: &[Sym], others: &[Sym]) -> Result<(), Memory>
+    ensures { OnOk result (set.new ≡ put_all ones.now others.now set.old) }
 {
     for one in ones {
-        add_row(keys, *one, others)?;
+        add_row(set, *one, others)?;
     }
     Ok(())
 }
@@ -105,39 +91,31 @@ fn add_crossings(keys: &mut Keys, ones: &[Sym], others: &[Sym]) -> Result<(), Me
 /// Puts in what a pair of the frame needs.
 fn add_needed(
     alloc: Global,
-    keys: &mut Keys,
+    set: &mut PairSet,
     pair: Pair,
     vars: &[Sym],
     trees: &[Tree],
 ) -> Result<(), Memory>
-    ensures { OnOk result (pairs_of keys.new ≡ put_of vars.now trees.now (pairs_of keys.old) pair) }
+    ensures { OnOk result (set.new ≡ put_of vars.now trees.now set.old pair) }
 {
     let ones = variables_of(alloc, vars, trees, pair.a)?;
     let others = variables_of(alloc, vars, trees, pair.b)?;
-    add_crossings(keys, ones.as_slice(), others.as_slice())
+    add_crossings(set, ones.as_slice(), others.as_slice())
 }
 
-fn listed(alloc: Global, keys: &Keys) -> Result<List<Pair>, Memory>
-    ensures { IfOk result (λ pairs. pairs ≡ pairs_of keys.now) }
+fn needed_set(
+    alloc: Global,
+    pairs: &[Pair],
+    vars: &[Sym],
+    trees: &[Tree],
+) -> Result<PairSet, Memory>
+    ensures { IfOk result (λ set. set ≡ fold (put_of vars.now trees.now) [] pairs.now) }
 {
-    let pairs = keys
-        .iter()
-        .map(|key| Pair {
-            a: Sym(key.0),
-            b: Sym(key.1),
-        })
-        .collect(alloc)?;
-    Ok(List::from_vec(pairs))
-}
-
-fn needed_keys(alloc: Global, pairs: &[Pair], vars: &[Sym], trees: &[Tree]) -> Result<Keys, Memory>
-    ensures { IfOk result (λ keys. pairs_of keys ≡ fold (put_of vars.now trees.now) [] pairs.now) }
-{
-    let mut keys = BTreeSet::new(alloc);
+    let mut set = PairSet::new(alloc);
     for pair in pairs {
-        add_needed(alloc, &mut keys, *pair, vars, trees)?;
+        add_needed(alloc, &mut set, *pair, vars, trees)?;
     }
-    Ok(keys)
+    Ok(set)
 }
 
 /// The pairs that a use of an assertion needs, by lesser and then greater symbol number, each once: of each pair of its
@@ -154,6 +132,6 @@ pub fn needed(
     ensures { IfOk result (λ list. (u : Use) → IsUseOf u pairs.now vars.now trees.now → list ≡ needed_by_use u) }
 {
     pair_sets_are_sorted();
-    let keys = needed_keys(alloc, pairs.as_slice(), vars.as_slice(), trees.as_slice())?;
-    listed(alloc, &keys)
+    let set = needed_set(alloc, pairs.as_slice(), vars.as_slice(), trees.as_slice())?;
+    set.listed(alloc)
 }

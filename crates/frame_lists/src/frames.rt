@@ -37,7 +37,7 @@ fn assertion(
         label: Label(label),
         is_axiom: is_axiom(entry.kind),
         at: number,
-        formula: List::from_vec(Vec::from_slice(alloc, entry.symbols.as_slice())?),
+        formula: List::copy_of(alloc, entry.symbols.as_slice())?,
         hyps: mandatory_hypotheses(alloc, listed, scope, marked)?,
         pairs: pairs_among(alloc, listed, scope.distinct.as_slice(), marked)?,
     })

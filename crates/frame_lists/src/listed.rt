@@ -67,9 +67,9 @@ impl Listed {
     {
         let number = self.position(label);
         Ok(Hyp {
-            name: List::from_vec(Vec::from_slice(alloc, self.name(label))?),
+            name: List::copy_of(alloc, self.name(label))?,
             floating: self.is_floating(number),
-            formula: List::from_vec(Vec::from_slice(alloc, self.symbols(number))?),
+            formula: List::copy_of(alloc, self.symbols(number))?,
         })
     }
 

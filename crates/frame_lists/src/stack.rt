@@ -92,6 +92,6 @@ impl<T: Copy> Stack<T> {
     pub fn copied(&self) -> Result<List<T>, Memory>
         ensures { IfOk result (λ list. list ≡ self.now) }
     {
-        Ok(List::from_vec(Vec::from_slice(*self.items.allocator(), self.items.as_slice())?))
+        List::copy_of(*self.items.allocator(), self.items.as_slice())
     }
 }

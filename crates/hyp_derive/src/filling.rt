@@ -4,8 +4,7 @@ ghost use Rattle.solve_model.specs.Trees.{same_tree};
 ghost use Rattle.written_model.specs.Filled.{fill as filled_by};
 ghost use Rattle.hyp_derive.specs.Filling.{with_tree};
 
-use crate::same::is_same;
-use mm_base::{List, Memory, Tree};
+use mm_base::{List, Memory, Tree, is_same};
 use solve_laws::same_trees_are_equal;
 use std::alloc::Global;
 use written_model::Filled;

@@ -3,9 +3,7 @@
 
 mod filling;
 mod naming;
-mod same;
 
 pub use filling::fill;
 pub use naming::step_name;
-pub use same::is_same;
 pub use written_model::Filled;

@@ -1,4 +1,6 @@
+pub mod NumberTests
 mod Places
+pub mod SameTrees
 pub mod TreeFacts
 pub mod TreeFolds
 pub mod TreeInduction

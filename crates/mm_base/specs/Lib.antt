@@ -7,4 +7,5 @@ pub mod MemStore
 pub mod Outside
 pub mod OutsideExamples
 pub mod Pairs
+pub mod SameTrees
 pub mod Trees

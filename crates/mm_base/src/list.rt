@@ -1,5 +1,6 @@
-ghost use Rattle.std.specs.Prelude.{◌≡◌};
+ghost use Rattle.std.specs.Prelude.{◌≡◌, IfOk};
 
+use crate::errors::Memory;
 use std::alloc::Global;
 use std::marker::Model;
 
@@ -52,5 +53,14 @@ impl<T> List<T> {
     /// The allocator that the list took its memory from.
     pub fn allocator(&self) -> Global {
         *self.items.allocator()
+    }
+}
+
+impl<T: Copy> List<T> {
+    /// A list of equal items, in memory of its own.
+    pub fn copy_of(alloc: Global, items: &[T]) -> Result<List<T>, Memory>
+        ensures { IfOk result (λ copy. copy ≡ items.now) }
+    {
+        Ok(List::from_vec(Vec::from_slice(alloc, items)?))
     }
 }

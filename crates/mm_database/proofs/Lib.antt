@@ -4,7 +4,7 @@ mod Constants
 mod Counts
 mod Floats
 mod HeadLaws
-mod Lists
+pub mod Lists
 mod Named
 mod Opening
 mod Repeats

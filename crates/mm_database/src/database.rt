@@ -2,7 +2,6 @@ ghost use Rattle.std.specs.Prelude.{◌≡◌, ◌<◌, ◌≤◌, ◌^◌, ◌�
 ghost use Rattle.std.specs.List.{range_with_len};
 ghost use Rattle.std.specs.Str.{bytes_eq};
 ghost use Rattle.mm_model.specs.BookFacts.{Rise};
-ghost use Rattle.mm_model.specs.Frames.{symbol_in};
 ghost use Rattle.mm_model.specs.Names.{sym, typecode, symbol_named};
 ghost use Rattle.mm_model.specs.Productions.{kept_rows};
 ghost use Rattle.mm_model.specs.Statements.{statements, database_fault};
@@ -75,23 +74,13 @@ pub fn read_frames(alloc: Global, text: &[u8]) -> Result<Frames, DbFault>
     }
 }
 
-/// The symbol of a name; the number past the last where the database declares none.
-fn symbol_or_end(frames: &Frames, name: &[u8]) -> Sym
-    ensures { result ≡ symbol_in frames.now.symbols name.now }
-{
-    match frames.symbol(name) {
-        None => Sym(frames.symbols()),
-        Some(symbol) => symbol,
-    }
-}
-
 /// The two typecodes that the program gives a meaning to.
 fn kind_codes(frames: &Frames, kinds: &Kinds) -> KindCodes
     ensures { result ≡ kinds_in frames.now.symbols kinds.now }
 {
     KindCodes {
         provable: frames.symbol(kinds.provable.as_slice()),
-        logic: Typecode(symbol_or_end(frames, kinds.logic.as_slice())),
+        logic: Typecode(frames.symbol_or_end(kinds.logic.as_slice())),
     }
 }
 
@@ -103,7 +92,7 @@ fn grammar_of(alloc: Global, text: &[u8], frames: &Frames, kinds: &Kinds) -> Res
 {
     let _ = text;
     frames_give_rows();
-    let provable = symbol_or_end(frames, kinds.provable.as_slice());
+    let provable = frames.symbol_or_end(kinds.provable.as_slice());
     let rows = rows(alloc, provable, frames.frames())?;
     keep_rows(List::from_vec(rows))
 }

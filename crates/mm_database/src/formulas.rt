@@ -6,7 +6,7 @@ ghost use Rattle.mm_database.specs.Formulas.{IsAnswer, IsReadBy};
 
 use crate::variables::{FrameVariable, code_of};
 use formula_parse::{ParseFault, parse};
-use mm_base::{List, Memory, Sym, Tree, Typecode};
+use mm_base::{List, MOST_FORMULA_TOKENS, Memory, Sym, Tree, Typecode};
 use mm_model::Leaf;
 use std::alloc::Global;
 use syntax_grammar::Grammar;
@@ -86,7 +86,7 @@ fn is_assertion(provable: Option<Sym>, formula: &[Sym]) -> bool
     ensures { result ≡ spec.is_assertion provable formula.now }
 {
     match (provable, formula) {
-        (Some(sym), [first, ..]) => *first == sym && formula.len() <= 4096,
+        (Some(sym), [first, ..]) => *first == sym && formula.len() as u64 <= MOST_FORMULA_TOKENS,
         _ => false,
     }
 }

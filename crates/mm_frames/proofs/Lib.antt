@@ -14,6 +14,7 @@ pub mod Codes
 pub mod Growth
 pub mod Grown
 pub mod Marks
+pub mod Named
 pub mod Names
 pub mod Numbers
 pub mod SoFar

@@ -56,7 +56,7 @@ impl Frames {
     ghost use Rattle.mm_model.specs.Names.{sym, label};
     ghost use Rattle.mm_model.specs.Statements.{statements, statement_fault};
     ghost use Rattle.mm_model.specs.Frames as spec;
-    ghost use Rattle.mm_model.specs.Frames.{proof_range};
+    ghost use Rattle.mm_model.specs.Frames.{proof_range, symbol_in};
     ghost use Rattle.frame_lists.specs.Lists.{AreOf};
     ghost use Rattle.mm_frames.specs.Contents.{contents_of, place_byte, proof_at, frame_at};
 
@@ -98,6 +98,16 @@ impl Frames {
         match self.symbols.number(name) {
             None => None,
             Some(number) => Some(Sym(number)),
+        }
+    }
+
+    /// The symbol of a name; the number past the last where the database declares none. It takes constant time.
+    pub fn symbol_or_end(&self, name: &[u8]) -> Sym
+        ensures { result ≡ symbol_in self.now.symbols name.now }
+    {
+        match self.symbol(name) {
+            None => Sym(self.symbols()),
+            Some(symbol) => symbol,
         }
     }
 

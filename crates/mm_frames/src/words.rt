@@ -1,27 +1,14 @@
 //! Reading a word: a label, a symbol of a statement, or a part of a proof.
 
 ghost use Rattle.std.specs.Prelude.{◌≡◌, slice_get, unwrap_or, false};
-ghost use Rattle.std.specs.List.{list_all};
-ghost use Rattle.mm_model.specs.Labels.{is_label_byte};
 ghost use Rattle.mm_frames.specs.Kinds.{wants_label, is_extra};
 
 use crate::fault::ReadFault;
 use crate::reader::{Meaning, Reader, Stage};
 use frame_lists::StatementKind;
 use mm_base::Sym;
+use mm_model::are_label_bytes;
 use mm_tokens::TokenKind;
-
-fn is_label_byte(byte: u8) -> bool
-    ensures { result ≡ is_label_byte byte }
-{
-    matches!(byte, b'a'..=b'z' | b'A'..=b'Z' | b'0'..=b'9' | b'-' | b'_' | b'.')
-}
-
-fn is_label(name: &[u8]) -> bool
-    ensures { result ≡ list_all is_label_byte name.now }
-{
-    name.iter().all(|b| is_label_byte(*b))
-}
 
 fn wants_label(kind: TokenKind) -> bool
     ensures { result ≡ wants_label kind }
@@ -81,7 +68,7 @@ impl Reader {
         if is_extra(next) {
             return Err(ReadFault::LabelExtra(start));
         }
-        if !is_label(name) {
+        if !are_label_bytes(name) {
             return Err(ReadFault::BadLabel(start));
         }
         let position = self.entries.len() as u32;

@@ -3,8 +3,7 @@ ghost use Rattle.std.specs.Option.{option_copied};
 ghost use Rattle.written_model.specs.Found.{is_ground};
 ghost use Rattle.ref_search.specs.Matching.{is_among, bound_to, IsMatched, IsValue, Becomes};
 
-use hyp_derive::is_same;
-use mm_base::{Memory, Sym, Tree};
+use mm_base::{Memory, Sym, Tree, is_same};
 use solve_laws::same_trees_are_equal;
 
 fn is_variable(vars: &[Sym], symbol: Sym) -> bool

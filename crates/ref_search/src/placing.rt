@@ -23,12 +23,6 @@ pub struct Fit {
     pub trees: List<Tree>,
 }
 
-fn copied(alloc: Global, places: &[u32]) -> Result<List<u32>, Memory>
-    ensures { IfOk result (λ copy. copy ≡ places.now) }
-{
-    Ok(List::from_vec(places.to_vec(alloc)?))
-}
-
 fn without(alloc: Global, places: &[u32], i: usize) -> Result<Vec<u32>, Memory>
     requires { i < length places.now }
     ensures { IfOk result (λ left. left.items ≡ remove places.now i) }
@@ -157,7 +151,7 @@ fn listed<'w>(
     if !match_all(vars.as_slice(), hyps, wanted, bindings)? {
         return Ok(None);
     }
-    let order = copied(alloc, places)?;
+    let order = List::copy_of(alloc, places)?;
     match complete(alloc, frame, vars, bindings.as_slice(), given)? {
         None => Ok(None),
         Some(trees) => Ok(Some(Fit { order, trees })),

@@ -31,25 +31,3 @@ left_from p acc (x ∷ xs) = left_from p (cond (p x) acc (acc ++ x ∷ [])) xs �
 -- a fold that leaves out what passes
 pub fold_left_out : {X : Type 0} (p : X → Bool) (xs : List X) → fold (λ a x. cond (p x) a (a ++ x ∷ [])) [] xs ≡ filter (λ x. not (p x)) xs
 fold_left_out p xs = left_from p [] xs
-
-some_there : {Y : Type 0} (f : ℕ → Y) (b : Bool) (k : ℕ) → option_map f (cond b (Some k) None) ≡ None → b ≡ false
-some_there f true k e = absurd (cc)
-some_there f false k e = refl
-
--- a name that is not found is past the last
-pub past_last : {X Y : Type 0} (f : ℕ → Y) (p : X → Bool) (xs : List X) → option_map f (position p xs) ≡ None → position_or_len p xs ≡ length xs
-past_last f p xs e =
-    let none = some_there f (nat_lt (position_or_len p xs) (length xs)) (position_or_len p xs) e in
-    let most = prefix_len-le-length (λ x. not (p x)) xs in
-    elim (cases_lt (position_or_len p xs) (length xs)) [
-      | inl l ↦ let some = lt-ltb (position_or_len p xs) (length xs) l in let bad : true ≡ false = sym some ∙ none in absurd (cc)
-      | inr l ↦ omega (arith, l, most)
-    ]
-
-longer : {Y : Type 0} (o : Option Y) (ys : List Y) → length (cons_option o ys) ≤ suc (length ys)
-longer None ys = omega arith
-longer (Some y) ys = omega arith
-
-pub length-filter_map : {X Y : Type 0} (h : X → Option Y) (xs : List X) → length (filter_map h xs) ≤ length xs
-length-filter_map h [] = omega arith
-length-filter_map h (x ∷ xs) = let more = length-filter_map h xs in let one = longer (h x) (filter_map h xs) in omega (arith, more, one)

@@ -10,7 +10,7 @@ use Rattle.mm_base.specs.declared.symbols.Label.{Label}
 use Rattle.mm_model.specs.declared.frames.Frame.{Frame}
 use Rattle.mm_model.specs.Frames.{frame_of, place_after}
 use Rattle.mm_model.specs.Names.{Name, label_named}
-use Rattle.mm_model.specs.Faults.{Fault, fault, or_else}
+use Rattle.mm_model.specs.Faults.{Fault}
 use Rattle.mm_model.specs.Tokens.{token_fault}
 use Rattle.mm_model.specs.Statements.{Statement, statements, statement_fault, database_fault}
 use Rattle.mm_frames.specs.Contents.{Contents, contents_of, frame_at}
@@ -43,20 +43,6 @@ behind_within p at n = elim (cases_lt n at) [
 
 after_within : (ss : List Statement) (l : Label) → place_after ss l ≤ length ss
 after_within ss l = behind_within _ _ (length ss)
-
--- ---- no fault of the statements
-
-behind_limit : (b : Bool) (f : Fault) (o : Option Fault) → cond b (Some f) o ≡ None → o ≡ None
-behind_limit true f o e = absurd (cc)
-behind_limit false f o e = e
-
-behind_first : (a b : Option Fault) → or_else a b ≡ None → b ≡ None
-behind_first None b e = e
-behind_first (Some f) b e = absurd (cc)
-
-pub no_statement_fault : (text : List ℕ) → database_fault text ≡ None → statement_fault text ≡ None
-no_statement_fault text e =
-    behind_first (token_fault text) (statement_fault text) (behind_limit (nat_lt (2 ^ 28) (length text)) (fault (2 ^ 28) 30) (or_else (token_fault text) (statement_fault text)) e)
 
 -- ---- existing theorems
 

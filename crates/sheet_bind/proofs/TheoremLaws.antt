@@ -11,6 +11,7 @@ use Rattle.std.proofs.lemmas.List.Folds.{fold-map}
 use Rattle.std.proofs.lemmas.List.Sums.{fold-append}
 use mathlib.Core.Path.{fun_ext}
 use Rattle.mm_base.specs.declared.symbols.Sym.{Sym}
+use Rattle.mm_base.proofs.NumberTests.{is_less, no_less, no_self, is_equal, differs, differs_above}
 use Rattle.mm_base.specs.declared.symbols.Pair.{Pair}
 use Rattle.mm_model.specs.declared.frames.Hyp.{Hyp}
 use Rattle.mm_model.specs.Names.{Name, symbol_named}
@@ -22,7 +23,7 @@ use Rattle.sheet_text.specs.declared.sheet.SheetStep.{SheetStep}
 use Rattle.sheet_text.specs.Layout.{step_of_item}
 use Rattle.solve_model.specs.Binding.{two_of, is_mandatory, mandatory_of}
 use Rattle.solve_model.specs.PairSets.{ordered, put_pair}
-use Rattle.sheet_bind.specs.PairKeys.{put_row, put_two, put_line}
+use Rattle.sheet_bind.specs.GivenPairs.{put_row, put_two, put_line}
 use Rattle.sheet_bind.specs.Theorems.{hyp_of, grown, put_item, put_number, put_essential, has_number, is_needed, used_in, names_needed}
 
 -- ---- pairs
@@ -107,24 +108,6 @@ or_change false b c = refl
 or_assoc : (a b c : Bool) → ((a || b) || c) ≡ (a || (b || c))
 or_assoc true b c = refl
 or_assoc false b c = refl
-
-is_less : (a b : ℕ) → a < b → nat_lt a b ≡ true
-is_less a b h = grind (arith, nat_tests)
-
-no_less : (a b : ℕ) → b < a → nat_lt a b ≡ false
-no_less a b h = grind (arith, nat_tests)
-
-no_self : (a b : ℕ) → a ≡ b → nat_lt a b ≡ false
-no_self a b h = grind (arith, nat_tests)
-
-is_equal : (a b : ℕ) → a ≡ b → (a == b) ≡ true
-is_equal a b h = grind (arith, nat_tests)
-
-differs : (a b : ℕ) → a < b → (a == b) ≡ false
-differs a b h = grind (arith, nat_tests)
-
-differs_above : (a b : ℕ) → b < a → (a == b) ≡ false
-differs_above a b h = grind (arith, nat_tests)
 
 compared : (a b : ℕ) → is_eq (nat_cmp a b) ≡ (a == b)
 compared a b = elim (cases_order a b) [

@@ -1,9 +1,9 @@
 pub mod Found
+pub mod GivenPairs
 pub mod Judging
 pub mod Lists
 pub mod Marks
 pub mod Named
-pub mod PairKeys
 pub mod Places
 pub mod Results
 pub mod Rules

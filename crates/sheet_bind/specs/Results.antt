@@ -16,7 +16,7 @@ use Rattle.sheet_bind.specs.declared.faults.BindFault.TheVariants.{At, TooMuch, 
 use Rattle.sheet_bind.specs.declared.setting.Place.{Place}
 use Rattle.sheet_bind.specs.Found.{number_of}
 use Rattle.sheet_bind.specs.Judging.{Scene, IsJudged}
-use Rattle.sheet_bind.specs.PairKeys.{put_line}
+use Rattle.sheet_bind.specs.GivenPairs.{put_line}
 use Rattle.sheet_bind.specs.Sizes.{size_in}
 use Rattle.sheet_bind.specs.Theorems.{theorem_in}
 

@@ -1,27 +1,13 @@
 ghost use Rattle.std.specs.Prelude.{◌≡◌, [], fold, filter_map, IfOk, OnOk};
 ghost use Rattle.mm_model.specs.Names.{symbol_named};
-ghost use Rattle.solve_model.specs.PairSets.{ordered, put_pair};
 ghost use Rattle.sheet_bind.specs.Lists.{put_some};
-ghost use Rattle.sheet_bind.specs.PairKeys.{pair_of, pairs_of, put_row, put_two, put_line};
+ghost use Rattle.sheet_bind.specs.GivenPairs.{put_row, put_two, put_line};
 
 use mm_base::{List, Memory, Name, Pair, Sym};
 use mm_frames::Frames;
+use pair_set::PairSet;
 use sheet_text::PairLine;
 use std::alloc::Global;
-use std::collections::BTreeSet;
-
-/// The numbers of two variables, the lesser first.
-type Keys = BTreeSet<(u32, u32)>;
-
-fn key_of(one: Sym, other: Sym) -> (u32, u32)
-    ensures { pair_of result ≡ ordered one other }
-{
-    if one.0 < other.0 {
-        (one.0, other.0)
-    } else {
-        (other.0, one.0)
-    }
-}
 
 /// The symbols that tokens name.
 pub fn symbols_of(alloc: Global, frames: &Frames, names: &[Name]) -> Result<Vec<Sym>, Memory>
@@ -47,66 +33,51 @@ fn push_symbol(symbols: &mut Vec<Sym>, symbol: Option<Sym>) -> Result<(), Memory
     }
 }
 
-fn add_pair(keys: &mut Keys, one: Sym, other: Sym) -> Result<(), Memory>
-    ensures { OnOk result (pairs_of keys.new ≡ put_pair (pairs_of keys.old) (ordered one other)) }
-{
-    keys.insert(key_of(one, other))?;
-    Ok(())
-}
-
-fn add_row(keys: &mut Keys, one: Sym, others: &[Sym]) -> Result<(), Memory>
-    ensures { OnOk result (pairs_of keys.new ≡ put_row one (pairs_of keys.old) others.now) }
+fn add_row(set: &mut PairSet, one: Sym, others: &[Sym]) -> Result<(), Memory>
+    ensures { OnOk result (set.new ≡ put_row one set.old others.now) }
 {
     for other in others {
-        add_pair(keys, one, *other)?;
+        set.add(one, *other)?;
     }
     Ok(())
 }
 
 /// Puts in the pairs of any two of these symbols.
-fn add_two(keys: &mut Keys, symbols: &[Sym]) -> Result<(), Memory>
-    ensures { OnOk result (pairs_of keys.new ≡ put_two (pairs_of keys.old) symbols.now) }
+fn add_two(set: &mut PairSet, symbols: &[Sym]) -> Result<(), Memory>
+    ensures { OnOk result (set.new ≡ put_two set.old symbols.now) }
 {
     for (i, symbol) in symbols.iter().enumerate() {
-        add_row(keys, *symbol, &symbols[i + 1..])?;
+        add_row(set, *symbol, &symbols[i + 1..])?;
     }
     Ok(())
 }
 
-fn add_line(alloc: Global, frames: &Frames, keys: &mut Keys, pair: &PairLine) -> Result<(), Memory>
-    ensures { OnOk result (pairs_of keys.new ≡ put_line frames.now.symbols (pairs_of keys.old) pair.now) }
+fn add_line(
+    alloc: Global,
+    frames: &Frames,
+    set: &mut PairSet,
+    pair: &PairLine,
+) -> Result<(), Memory>
+    ensures { OnOk result (set.new ≡ put_line frames.now.symbols set.old pair.now) }
 {
     let symbols = symbols_of(alloc, frames, pair.names.as_slice())?;
-    add_two(keys, symbols.as_slice())
+    add_two(set, symbols.as_slice())
 }
 
-fn given_keys(alloc: Global, frames: &Frames, pairs: &[PairLine]) -> Result<Keys, Memory>
-    ensures { IfOk result (λ keys. pairs_of keys ≡ fold (put_line frames.now.symbols) [] pairs.now) }
+fn given_set(alloc: Global, frames: &Frames, pairs: &[PairLine]) -> Result<PairSet, Memory>
+    ensures { IfOk result (λ set. set ≡ fold (put_line frames.now.symbols) [] pairs.now) }
 {
-    let mut keys = BTreeSet::new(alloc);
+    let mut set = PairSet::new(alloc);
     for pair in pairs {
-        add_line(alloc, frames, &mut keys, pair)?;
+        add_line(alloc, frames, &mut set, pair)?;
     }
-    Ok(keys)
-}
-
-fn listed(alloc: Global, keys: &Keys) -> Result<List<Pair>, Memory>
-    ensures { IfOk result (λ pairs. pairs ≡ pairs_of keys.now) }
-{
-    let pairs = keys
-        .iter()
-        .map(|key| Pair {
-            a: Sym(key.0),
-            b: Sym(key.1),
-        })
-        .collect(alloc)?;
-    Ok(List::from_vec(pairs))
+    Ok(set)
 }
 
 /// The pairs of the `$d` statements, each once, by lesser and then greater symbol number.
 pub fn given_pairs(alloc: Global, frames: &Frames, pairs: &[PairLine]) -> Result<List<Pair>, Memory>
     ensures { IfOk result (λ list. list ≡ fold (put_line frames.now.symbols) [] pairs.now) }
 {
-    let keys = given_keys(alloc, frames, pairs)?;
-    listed(alloc, &keys)
+    let set = given_set(alloc, frames, pairs)?;
+    set.listed(alloc)
 }

@@ -2,7 +2,6 @@ ghost use Rattle.std.specs.Prelude.{◌≡◌, ◌&&◌, ◌||◌, not, false, o
 ghost use Rattle.std.specs.List.{list_all};
 ghost use Rattle.std.specs.Option.{option_map_or};
 ghost use Rattle.std.specs.Str.{bytes_eq};
-ghost use Rattle.mm_model.specs.Labels.{is_label_byte};
 ghost use Rattle.mm_model.specs.Names.{contains};
 ghost use Rattle.solve_model.specs.Binding.{same_tokens, has_label, is_qed};
 ghost use Rattle.solve_model.specs.BindFaults.{is_blank, hyp_with_hyps, begins_with_token, wants_formula, formula_long};
@@ -17,17 +16,11 @@ use crate::hyps::HypSteps;
 use crate::setting::Setting;
 use crate::symbols::same_tokens;
 use crate::tokens::is_variable;
-use mm_base::{Kinds, List, Name, Sym};
+use mm_base::{Kinds, List, MOST_FORMULA_TOKENS, Name, Sym};
 use mm_frames::{Frames, Hyp};
+use mm_model::are_label_bytes;
 use names::Names;
 use sheet_text::{PairLine, Sheet, SheetStep};
-
-/// Whether a byte may stand in a label.
-fn is_label_byte(byte: u8) -> bool
-    ensures { result ≡ is_label_byte byte }
-{
-    byte.is_ascii_alphanumeric() || byte == b'-' || byte == b'_' || byte == b'.'
-}
 
 fn is_label(frames: &Frames, name: &[u8]) -> bool
     ensures { result ≡ spec.is_label frames.now name.now }
@@ -45,7 +38,7 @@ pub fn header_code(frames: &Frames, setting: &Setting, sheet: &Sheet) -> Option<
     if theorem_taken(frames, setting, sheet.theorem.as_slice()) {
         return Some(BindCode::TheoremTaken);
     }
-    if !has_label_bytes(sheet.theorem.as_slice()) {
+    if !are_label_bytes(sheet.theorem.as_slice()) {
         return Some(BindCode::TheoremName);
     }
     None
@@ -70,12 +63,6 @@ fn is_unknown(frames: &Frames, loc: &Option<Name>) -> bool
         None => false,
         Some(label) => !is_label(frames, label.as_slice()),
     }
-}
-
-fn has_label_bytes(name: &[u8]) -> bool
-    ensures { result ≡ list_all is_label_byte name.now }
-{
-    name.iter().all(|byte| is_label_byte(*byte))
 }
 
 fn has_label(reference: &Option<Name>, name: &[u8]) -> bool
@@ -190,7 +177,7 @@ fn wants_formula(step: &SheetStep) -> bool
 fn formula_long(step: &SheetStep) -> bool
     ensures { result ≡ formula_long step.now }
 {
-    4096 < step.formula.as_slice().len()
+    MOST_FORMULA_TOKENS < step.formula.as_slice().len() as u64
 }
 
 fn hyp_label_twice(hyps: &HypSteps, step: &SheetStep) -> bool

@@ -90,12 +90,12 @@ pub fn new_place(frames: &Frames, loc: &Option<Name>) -> u32
 fn copy_hyp(alloc: Global, hyp: &Hyp) -> Result<Hyp, Memory>
     ensures { IfOk result (λ h. h ≡ hyp.now) }
 {
-    let name = Vec::from_slice(alloc, hyp.name.as_slice())?;
-    let formula = Vec::from_slice(alloc, hyp.formula.as_slice())?;
+    let name = List::copy_of(alloc, hyp.name.as_slice())?;
+    let formula = List::copy_of(alloc, hyp.formula.as_slice())?;
     Ok(Hyp {
-        name: List::from_vec(name),
+        name,
         floating: hyp.floating,
-        formula: List::from_vec(formula),
+        formula,
     })
 }
 
@@ -125,17 +125,7 @@ fn push_essential(alloc: Global, kept: &mut Vec<Hyp>, hyp: &Hyp) -> Result<(), M
 fn logic_code(frames: &Frames, kinds: &Kinds) -> Typecode
     ensures { result ≡ typecode (symbol_in frames.now.symbols kinds.now.logic) }
 {
-    Typecode(symbol_or_end(frames, kinds.logic.as_slice()))
-}
-
-/// The symbol of a name; the number past the last where the database declares none.
-fn symbol_or_end(frames: &Frames, name: &[u8]) -> Sym
-    ensures { result ≡ symbol_in frames.now.symbols name.now }
-{
-    match frames.symbol(name) {
-        None => Sym(frames.symbols()),
-        Some(symbol) => symbol,
-    }
+    Typecode(frames.symbol_or_end(kinds.logic.as_slice()))
 }
 
 /// The typecodes, of the logic one and these, that the database declares as constants.
@@ -178,8 +168,8 @@ fn conclusion_of(alloc: Global, frame: Option<&Frame>) -> Result<Option<List<Sym
     match frame {
         None => Ok(None),
         Some(frame) => {
-            let formula = Vec::from_slice(alloc, frame.formula.as_slice())?;
-            Ok(Some(List::from_vec(formula)))
+            let formula = List::copy_of(alloc, frame.formula.as_slice())?;
+            Ok(Some(formula))
         }
     }
 }

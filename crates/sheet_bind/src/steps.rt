@@ -179,19 +179,13 @@ fn judge_step(
     judge_tree(alloc, db, setting, first, step)
 }
 
-fn copied(alloc: Global, name: &[u8]) -> Result<Name, Memory>
-    ensures { IfOk result (λ copy. copy ≡ name.now) }
-{
-    Ok(List::from_vec(Vec::from_slice(alloc, name)?))
-}
-
 fn copied_reference(alloc: Global, reference: &Option<Name>) -> Result<Option<Name>, Memory>
     ensures { IfOk result (λ copy. copy ≡ reference.now) }
 {
     match reference {
         None => Ok(None),
         Some(label) => {
-            let copy = copied(alloc, label.as_slice())?;
+            let copy = List::copy_of(alloc, label.as_slice())?;
             Ok(Some(copy))
         }
     }
@@ -201,14 +195,14 @@ fn copied_reference(alloc: Global, reference: &Option<Name>) -> Result<Option<Na
 fn bare_step(alloc: Global, step: &SheetStep) -> Result<BoundStep, Memory>
     ensures { IfOk result (λ b. b ≡ bound_of step.now None) }
 {
-    let name = copied(alloc, step.name.as_slice())?;
-    let places = Vec::from_slice(alloc, step.places.as_slice())?;
+    let name = List::copy_of(alloc, step.name.as_slice())?;
+    let places = List::copy_of(alloc, step.places.as_slice())?;
     let reference = copied_reference(alloc, &step.reference)?;
     Ok(BoundStep {
         line: step.line,
         hyp: step.hyp,
         name,
-        places: List::from_vec(places),
+        places,
         reference,
         tree: None,
     })

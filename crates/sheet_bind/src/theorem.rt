@@ -47,7 +47,7 @@ fn label_or_empty(alloc: Global, reference: &Option<Name>) -> Result<Name, Memor
 {
     match reference {
         None => Ok(List::from_vec(Vec::new(alloc))),
-        Some(label) => Ok(List::from_vec(Vec::from_slice(alloc, label.as_slice())?)),
+        Some(label) => List::copy_of(alloc, label.as_slice()),
     }
 }
 
@@ -254,15 +254,8 @@ fn push_mandatory(
     if !is_mandatory(used, hyp) {
         return Ok(());
     }
-    let name = Vec::from_slice(alloc, hyp.name.as_slice())?;
-    names.push(List::from_vec(name))?;
+    names.push(List::copy_of(alloc, hyp.name.as_slice())?)?;
     Ok(())
-}
-
-fn copied_pairs(alloc: Global, pairs: &[Pair]) -> Result<List<Pair>, Memory>
-    ensures { IfOk result (λ copy. copy ≡ pairs.now) }
-{
-    Ok(List::from_vec(Vec::from_slice(alloc, pairs)?))
 }
 
 /// The theorem of a worksheet.
@@ -280,7 +273,7 @@ pub fn theorem_of(
     let formula = qed_formula(alloc, frames, items)?;
     let hyps = theorem_hyps(alloc, frames, active, given, items)?;
     let mandatory = mandatory_of(alloc, formula.as_slice(), hyps.as_slice())?;
-    let pairs = copied_pairs(alloc, pairs)?;
+    let pairs = List::copy_of(alloc, pairs)?;
     Ok(Theorem {
         at: place,
         formula,

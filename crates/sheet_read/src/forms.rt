@@ -3,11 +3,11 @@
 ghost use Rattle.std.specs.Prelude.{◌≡◌, ◌≢◌, ◌==◌, ◌&&◌, [], ◌∷◌, List, ℕ, None, Some, IfOk, IfSome, IfNone, length, option_map, position, codes};
 ghost use Rattle.std.specs.List.{list_all, slice_split};
 ghost use Rattle.std.specs.Str.{bytes_eq};
-ghost use Rattle.mm_model.specs.Labels.{is_label_byte, is_label};
 ghost use Rattle.sheet_text.specs.Forms.{is_gap, is_entry, after_prefix, loc_of, loc_in, header_of, step_of, is_reference, parts_of, marked_name};
 ghost use Rattle.sheet_read.specs.Parts.{targets, target, header_in, step_in_form};
 
 use mm_base::Memory;
+use mm_model::is_label;
 use std::alloc::{AllocError, Global};
 
 /// A header: the theorem's name, and the label of LOC_AFTER where one is given.
@@ -28,25 +28,6 @@ pub struct StepHead<'a> {
     pub places: &'a [u8],
     /// A label, `?` or nothing.
     pub reference: &'a [u8],
-}
-
-fn is_label_byte(byte: u8) -> bool
-    ensures { result ≡ is_label_byte byte }
-{
-    matches!(byte, b'a'..=b'z' | b'A'..=b'Z' | b'0'..=b'9' | b'-' | b'_' | b'.')
-}
-
-fn are_label_bytes(bytes: &[u8]) -> bool
-    ensures { result ≡ list_all is_label_byte bytes.now }
-{
-    bytes.iter().all(|b| is_label_byte(*b))
-}
-
-/// Whether bytes have the form of a label.
-pub fn is_label(bytes: &[u8]) -> bool
-    ensures { result ≡ is_label bytes.now }
-{
-    !bytes.is_empty() && are_label_bytes(bytes)
 }
 
 /// Whether bytes are `?`.

@@ -4,7 +4,7 @@ use crate::fault::{SheetCode, SheetFault};
 use crate::forms::StepHead;
 use crate::lines::{LineKind, TextLine, ends_proof, has_two_tokens, is_footer, kind_of, tokens_in};
 use crate::statements::{
-    comment_lines, formula_of, head_of, indented, is_bad_distinct, name_of, names_of, places_of,
+    comment_lines, formula_of, head_of, indented, is_bad_distinct, names_of, places_of,
     reference_of, symbols_of,
 };
 use mm_base::List;
@@ -124,7 +124,7 @@ impl Reader {
         let step = SheetStep {
             line,
             hyp: head.hyp,
-            name: name_of(self.alloc, head.name)?,
+            name: List::copy_of(self.alloc, head.name)?,
             places,
             reference: reference_of(self.alloc, head.reference)?,
             formula: names_of(self.alloc, formula)?,

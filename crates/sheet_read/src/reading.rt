@@ -12,8 +12,8 @@ use crate::fault::{SheetCode, SheetFault};
 use crate::forms::{HeaderForm, header_form};
 use crate::lines::{TextLine, begins, first_token, lines_not_blank, tokens_in};
 use crate::reader::Reader;
-use crate::statements::{indented, name_of};
-use mm_base::{Memory, Name};
+use crate::statements::indented;
+use mm_base::{List, Memory, Name};
 use sheet_text::Sheet;
 use std::alloc::Global;
 
@@ -50,7 +50,7 @@ fn label_of(alloc: Global, header: &HeaderForm<'_>) -> Result<Option<Name>, Memo
 {
     match header.loc {
         None => Ok(None),
-        Some(bytes) => Ok(Some(name_of(alloc, bytes)?)),
+        Some(bytes) => Ok(Some(List::copy_of(alloc, bytes)?)),
     }
 }
 
@@ -65,7 +65,7 @@ fn read_behind(
     requires { length behind.now ≤ 2 ^ 24 }
     ensures { MatchResult result (λ s. with_header line (Some (header_in header.now)) (read_lines past first_reading (lines_in behind.now)) ≡ Ok s) (λ e. SheetFailsWith e (with_header line (Some (header_in header.now)) (read_lines past first_reading (lines_in behind.now)))) }
 {
-    let theorem = name_of(alloc, header.theorem)?;
+    let theorem = List::copy_of(alloc, header.theorem)?;
     let loc = label_of(alloc, header)?;
     let (items, pairs) = read_lines(alloc, behind, past)?.into_parts();
     Ok(Sheet {

@@ -10,10 +10,11 @@ ghost use Rattle.sheet_text.specs.Reads.{given_of};
 ghost use Rattle.sheet_read.specs.Parts.{line_in, lines_in, targets, step_in_form};
 ghost use Rattle.sheet_read.specs.Reading.{is_unknown, AreGiven};
 
-use crate::forms::{StepHead, is_gap, is_label, parts_of, step_head};
+use crate::forms::{StepHead, is_gap, parts_of, step_head};
 use crate::lines::{TextLine, begins};
 use indexmap::IndexSet;
 use mm_base::{Bytes, List, Memory, Name};
+use mm_model::is_label;
 use names::Names;
 use sheet_text::Given;
 use std::alloc::Global;
@@ -42,18 +43,11 @@ pub fn comment_lines(
     ensures { IfOk result (λ ls. ls ≡ first.now.bytes.now ∷ map (λ l. l.bytes) (lines_in more.now)) }
 {
     let mut lines = Vec::new(alloc);
-    lines.push(name_of(alloc, first.bytes)?)?;
+    lines.push(List::copy_of(alloc, first.bytes)?)?;
     for line in more {
-        lines.push(name_of(alloc, line.bytes)?)?;
+        lines.push(List::copy_of(alloc, line.bytes)?)?;
     }
     Ok(List::from_vec(lines))
-}
-
-/// A copy of some bytes.
-pub fn name_of(alloc: Global, bytes: &[u8]) -> Result<Name, Memory>
-    ensures { IfOk result (λ n. n ≡ bytes.now) }
-{
-    Ok(List::from_vec(Vec::from_slice(alloc, bytes)?))
 }
 
 /// Copies of tokens.
@@ -62,7 +56,7 @@ pub fn names_of(alloc: Global, tokens: &[&[u8]]) -> Result<List<Name>, Memory>
 {
     let mut names = Vec::new(alloc);
     for token in tokens {
-        names.push(name_of(alloc, *token)?)?;
+        names.push(List::copy_of(alloc, *token)?)?;
     }
     Ok(List::from_vec(names))
 }
@@ -160,7 +154,7 @@ pub fn reference_of(alloc: Global, bytes: &[u8]) -> Result<Option<Name>, Memory>
     ensures { IfOk result (λ r. r ≡ reference_of bytes.now) }
 {
     if is_label(bytes) {
-        Ok(Some(name_of(alloc, bytes)?))
+        Ok(Some(List::copy_of(alloc, bytes)?))
     } else {
         Ok(None)
     }

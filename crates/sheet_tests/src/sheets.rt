@@ -1,4 +1,4 @@
-use mm_base::List;
+use mm_base::{List, MOST_SHEET_BYTES};
 use sheet_read::{Sheet, SheetCode, SheetFault, SheetItem, SheetStep, read_sheet};
 use sheet_text::Given;
 use std::alloc::Global;
@@ -172,7 +172,7 @@ pub(crate) const SYLLOGISM: &[u8] =
     b"$( <MM> <PROOF_ASST> THEOREM=syl  LOC_AFTER=?\n\n* An inference version of the transitive laws for implication.\n\nh1::syl.1           |- ( ph -> ps )\nh2::syl.2           |- ( ps -> ch )\n3:2:a1i            |- ( ph ->\n                       ( ps -> ch ) )\n4:3:a2i           |- ( ( ph -> ps ) -> ( ph -> ch ) )\nqed:1,4:ax-mp    |- ( ph -> ch )\n\n$=  wph wps wi\n    ax-mp $.\n\n$)\n";
 
 pub(crate) fn read_text(alloc: Global, text: &[u8]) -> Result<Sheet, SheetFault> {
-    if text.len() > 1 << 24 {
+    if text.len() as u64 > MOST_SHEET_BYTES {
         return Err(SheetFault::Memory);
     }
     read_sheet(alloc, text)

@@ -8,7 +8,8 @@ use Rattle.mm_base.specs.declared.tree.Tree.{Tree, out-Tree}
 use Rattle.mm_base.specs.declared.tree.Tree.TheVariants.{Var, Work, Fresh, Node, outs-Var, outs-Work, outs-Fresh, outs-Node}
 use Rattle.mm_base.specs.declared.tree.Tree.TheOpen.{Tree-F}
 use Rattle.mm_base.proofs.TreeFolds.{fold-Var, fold-Work, fold-Fresh, fold-Node}
-use Rattle.solve_model.specs.Trees.{Open, work, fresh, replace, open_leaves, variables, flatten, layer_same, same_tree}
+pub use Rattle.mm_base.proofs.SameTrees.{same-Var, same-Work, same-Fresh, same-Node}
+use Rattle.solve_model.specs.Trees.{Open, work, fresh, replace, open_leaves, variables, flatten}
 
 module _ (at_var : Sym → Typecode → Tree) (at_open : Open → Tree) where
   pub replace-Var : (s : Sym) (c : Typecode) → replace at_var at_open (Var s c) ≡ at_var s c
@@ -62,24 +63,5 @@ unfolding variables
 variables-Node l c ts = fold-Node (List Sym) _ l c ts
 
 pub ruleset leaves = (open_leaves-Var, open_leaves-Work, open_leaves-Fresh, open_leaves-Node, variables-Var, variables-Work, variables-Fresh, variables-Node)
-
-abbrev same_layer : Tree-F (Tree → Bool) → Tree → Bool
-same_layer x t = layer_same x (out-Tree t)
-
-pub same-Var : (s : Sym) (c : Typecode) (u : Tree) → same_tree (Var s c) u ≡ layer_same (Tree-F.Var s c) (out-Tree u)
-unfolding same_tree
-same-Var s c u = ap (λ (f : Tree → Bool). f u) (fold-Var (Tree → Bool) same_layer s c)
-
-pub same-Work : (c : Typecode) (n : ℕ) (u : Tree) → same_tree (Work c n) u ≡ layer_same (Tree-F.Work c n) (out-Tree u)
-unfolding same_tree
-same-Work c n u = ap (λ (f : Tree → Bool). f u) (fold-Work (Tree → Bool) same_layer c n)
-
-pub same-Fresh : (c : Typecode) (n : ℕ) (u : Tree) → same_tree (Fresh c n) u ≡ layer_same (Tree-F.Fresh c n) (out-Tree u)
-unfolding same_tree
-same-Fresh c n u = ap (λ (f : Tree → Bool). f u) (fold-Fresh (Tree → Bool) same_layer c n)
-
-pub same-Node : (l : Label) (c : Typecode) (ts : List Tree) (u : Tree) → same_tree (Node l c ts) u ≡ layer_same (Tree-F.Node l c (map same_tree ts)) (out-Tree u)
-unfolding same_tree
-same-Node l c ts u = ap (λ (f : Tree → Bool). f u) (fold-Node (Tree → Bool) same_layer l c ts)
 
 pub ruleset same_trees = (same-Var, same-Work, same-Fresh, same-Node, outs-Var, outs-Work, outs-Fresh, outs-Node)

@@ -1,14 +1,14 @@
--- Leaves of trees: replaced, listed, compared.
-use Rattle.std.specs.Prelude.{ℕ, Bool, true, false, ◌&&◌, ◌==◌, List, [], ◌∷◌, Contains}
+-- Leaves of trees: replaced, listed.
+use Rattle.std.specs.Prelude.{ℕ, List, [], ◌∷◌, Contains}
 use Rattle.std.specs.List.{flat_map}
 use Rattle.mm_base.specs.declared.symbols.Sym.{Sym}
 use Rattle.mm_base.specs.declared.symbols.Label.{Label}
 use Rattle.mm_base.specs.declared.symbols.Typecode.{Typecode}
-use Rattle.mm_base.specs.declared.tree.Tree.{Tree, out-Tree}
+use Rattle.mm_base.specs.declared.tree.Tree.{Tree}
 use Rattle.mm_base.specs.declared.tree.Tree.TheVariants.{Work, Fresh, Node}
 use Rattle.mm_base.specs.declared.tree.Tree.TheOpen.{Tree-F}
 use Rattle.mm_base.specs.declared.tree.Tree.TheFolds.{fold-Tree}
-use Rattle.mm_model.specs.Chains.{same_code}
+pub use Rattle.mm_base.specs.SameTrees.{all_pass, layer_same, same_tree}
 
 -- an open leaf: a work variable, or a fresh leaf
 pub data Open : Type 0 where
@@ -48,20 +48,3 @@ variables = fold-Tree (List Sym) (layer_leaves (λ s c. s ∷ []) (λ x. []) (λ
 -- an open leaf occurs in the tree
 abbrev pub Occurs : Open → Tree → Type 0
 Occurs x t = Contains (open_leaves t) x
-
-abbrev pub all_pass : List (Tree → Bool) → List Tree → Bool
-all_pass [] [] = true
-all_pass [] (t ∷ ts) = false
-all_pass (p ∷ ps) [] = false
-all_pass (p ∷ ps) (t ∷ ts) = p t && all_pass ps ts
-
-abbrev pub layer_same : Tree-F (Tree → Bool) → Tree-F Tree → Bool
-layer_same (Tree-F.Var s c) (Tree-F.Var r d) = s.0 == r.0 && same_code c d
-layer_same (Tree-F.Work c n) (Tree-F.Work d m) = same_code c d && n == m
-layer_same (Tree-F.Fresh c n) (Tree-F.Fresh d m) = same_code c d && n == m
-layer_same (Tree-F.Node l c ps) (Tree-F.Node k d ts) = l.0 == k.0 && same_code c d && all_pass ps ts
-layer_same _ _ = false
-
--- two trees are equal
-unfoldable pub same_tree : Tree → Tree → Bool
-same_tree = fold-Tree (Tree → Bool) (λ x t. layer_same x (out-Tree t))

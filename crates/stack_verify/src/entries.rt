@@ -13,7 +13,7 @@ use crate::pairs::{Buffers, check_distinct, check_shared};
 use mm_base::{List, Sym};
 use mm_model::{Frame, Hyp};
 use proof_model::Theorem;
-use std::alloc::{AllocError, Global};
+use std::alloc::Global;
 
 fn differs_in_type(hyp: &Hyp, formula: &[Sym]) -> bool
     ensures { result ≡ differs_in_type (hyp.now, formula.now) }
@@ -33,12 +33,6 @@ fn has_other_type(hyps: &[Hyp], symbols: &[Sym], spans: &[Span]) -> bool
         }
     }
     false
-}
-
-fn copy_of(alloc: Global, formula: &[Sym]) -> Result<List<Sym>, AllocError>
-    ensures { IfOk result (λ copy. copy ≡ formula.now) }
-{
-    Ok(List::from_vec(Vec::from_slice(alloc, formula)?))
 }
 
 /// Looks at the entry for one hypothesis.
@@ -64,8 +58,8 @@ fn check_hyp(
         return Ok(());
     }
     let alloc = *scratch.allocator();
-    let expected = copy_of(alloc, scratch.as_slice())?;
-    Err(StepFault::HypDiffers(expected, copy_of(alloc, found)?))
+    let expected = List::copy_of(alloc, scratch.as_slice())?;
+    Err(StepFault::HypDiffers(expected, List::copy_of(alloc, found)?))
 }
 
 /// Looks at the entries for the `$e`, in order.

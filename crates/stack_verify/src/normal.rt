@@ -13,7 +13,6 @@ ghost use Rattle.stack_verify.specs.Theorems.{labels_of_hyps};
 
 use crate::formula::Span;
 use crate::found::HypLabels;
-use crate::theorems::copy_name;
 use mm_base::{List, Memory, Name};
 use mm_model::Hyp;
 use names::Names;
@@ -76,7 +75,7 @@ fn list_of(alloc: Global, names: &Names) -> Result<List<Name>, Memory>
 {
     let mut list = Vec::new(alloc);
     for number in 0..names.count() {
-        list.push(copy_name(alloc, names.name(number))?)?;
+        list.push(List::copy_of(alloc, names.name(number))?)?;
     }
     Ok(List::from_vec(list))
 }

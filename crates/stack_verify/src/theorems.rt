@@ -11,19 +11,7 @@ ghost use Rattle.stack_verify.specs.Theorems.{labels_of_hyps, theorem_with};
 use mm_base::{Label, List, Memory, Name, Sym};
 use mm_frames::{Active, Frame, Frames, Hyp};
 use proof_model::Theorem;
-use std::alloc::{AllocError, Global};
-
-pub(crate) fn copy_name(alloc: Global, name: &[u8]) -> Result<Name, AllocError>
-    ensures { IfOk result (λ copy. copy ≡ name.now) }
-{
-    Ok(List::from_vec(Vec::from_slice(alloc, name)?))
-}
-
-fn copy_formula(alloc: Global, formula: &[Sym]) -> Result<List<Sym>, AllocError>
-    ensures { IfOk result (λ copy. copy ≡ formula.now) }
-{
-    Ok(List::from_vec(Vec::from_slice(alloc, formula)?))
-}
+use std::alloc::Global;
 
 /// The labels of hypotheses, in order.
 pub(crate) fn labels_of(alloc: Global, hyps: &[Hyp]) -> Result<List<Name>, Memory>
@@ -31,7 +19,7 @@ pub(crate) fn labels_of(alloc: Global, hyps: &[Hyp]) -> Result<List<Name>, Memor
 {
     let mut labels = Vec::new(alloc);
     for hyp in hyps {
-        labels.push(copy_name(alloc, hyp.name.as_slice())?)?;
+        labels.push(List::copy_of(alloc, hyp.name.as_slice())?)?;
     }
     Ok(List::from_vec(labels))
 }
@@ -47,7 +35,7 @@ fn theorem_with(alloc: Global, frame: &Frame, active: Active) -> Result<Theorem,
     } = active;
     Ok(Theorem {
         at: frame.at,
-        formula: copy_formula(alloc, frame.formula.as_slice())?,
+        formula: List::copy_of(alloc, frame.formula.as_slice())?,
         hyps,
         mandatory: labels_of(alloc, frame.hyps.as_slice())?,
         pairs,

@@ -10,7 +10,7 @@ loop-start-preserved c =
     record {
       within = (c.in-Some.ensures.range).2;
       count = omega (arith, c.in_ok-push.ensures.len, c.in-Some.ensures.range);
-      lists = lists_pushed c.loop-start.labels.items c.push.new.self.items c.in-Some.start bytes c.from_vec.result c.in_ok-from_slice.field-0.items
+      lists = lists_pushed c.loop-start.labels.items c.push.new.self.items c.in-Some.start bytes c.in_ok-copy_of.field-0
           (words_from c.in-Some.end (drop c.in-Some.end text)) (words_from c.loop-start.at (drop c.loop-start.at text)) (words_from c.args.from (drop c.args.from text))
-          c.in_ok-push.ensures.items c.from_vec.ensures c.in_ok-from_slice.ensures.items c.in-Some.ensures.first (sym c.is_close.ensures ∙ c.if-is_close.false) c.loop-start.invariant.lists;
+          c.in_ok-push.ensures.items c.in_ok-copy_of.ensures c.in-Some.ensures.first (sym c.is_close.ensures ∙ c.if-is_close.false) c.loop-start.invariant.lists;
     }

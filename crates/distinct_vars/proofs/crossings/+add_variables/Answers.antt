@@ -1,7 +1,7 @@
 use Rattle.std.proofs.Common.{sym, ap, ◌∙◌, fold}
 use Rattle.solve_model.specs.Trees.{variables}
 use Rattle.solve_model.proofs.TreeLaws.{variables-Var, variables-Work, variables-Fresh, variables-Node}
-use Rattle.distinct_vars.specs.NeededKeys.{put_number}
+use Rattle.distinct_vars.specs.NeededPairs.{put_number}
 use Rattle.distinct_vars.proofs.VariableLaws.{all_trees}
 use Rattle.distinct_vars.proofs.crossings.+add_variables.Goals as goal
 

@@ -1,5 +1,5 @@
 use Rattle.std.proofs.Common.{◌≡◌, fold, take}
-use Rattle.distinct_vars.specs.NeededKeys.{put_number}
+use Rattle.distinct_vars.specs.NeededPairs.{put_number}
 use Rattle.distinct_vars.proofs.VariableLaws.{over_tree}
 use Rattle.distinct_vars.proofs.crossings.+add_variables.Given as goal
 

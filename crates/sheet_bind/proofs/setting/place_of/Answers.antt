@@ -5,7 +5,8 @@ use Rattle.mm_model.specs.declared.frames.Frame.{Frame}
 use Rattle.sheet_bind.specs.declared.setting.Place.{Place}
 use Rattle.sheet_bind.specs.Places.{place_by, place_number, sheet_place}
 use Rattle.sheet_bind.specs.Seen.{existing_in}
-use Rattle.sheet_bind.proofs.PlaceLaws.{place_within, no_statement_fault}
+use Rattle.model_laws.proofs.Checked.{no_statement_fault}
+use Rattle.sheet_bind.proofs.PlaceLaws.{place_within}
 use Rattle.sheet_bind.proofs.setting.place_of.Goals as goal
 
 pub returns-clause-place : goal.returns-clause-place

@@ -3,7 +3,8 @@ use Rattle.std.proofs.lemmas.List.{take_all}
 use Rattle.mm_model.specs.declared.rows.Leaf.{Leaf}
 use Rattle.sheet_bind.specs.Lists.{put_some}
 use Rattle.sheet_bind.specs.Seen.{leaf_at, expression_at}
-use Rattle.sheet_bind.proofs.Lists.{filter_map_more, length-filter_map}
+use Rattle.sheet_bind.proofs.Lists.{filter_map_more}
+use Rattle.mm_database.proofs.Lists.{length-filter_map}
 use Rattle.sheet_bind.proofs.tokens.expression.Goals as goal
 
 pub loop-token-preserved : goal.loop-token-preserved

@@ -1,7 +1,7 @@
 ghost use Rattle.std.specs.Prelude.{◌≡◌};
-ghost use Rattle.solve_model.specs.Trees.{same_tree};
+ghost use Rattle.mm_base.specs.SameTrees.{same_tree};
 
-use mm_base::Tree;
+use crate::tree::Tree;
 
 /// Whether two trees are equal. They are compared from their heads on, and what stands below two nodes only where
 /// these have one label, one typecode and as many children.

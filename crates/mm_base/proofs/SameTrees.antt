@@ -5,13 +5,33 @@ use Rattle.std.proofs.lemmas.List.{drop_all}
 use Rattle.mm_base.specs.declared.symbols.Sym.{Sym}
 use Rattle.mm_base.specs.declared.symbols.Label.{Label}
 use Rattle.mm_base.specs.declared.symbols.Typecode.{Typecode}
-use Rattle.mm_base.specs.declared.tree.Tree.{Tree}
+use Rattle.mm_base.specs.declared.tree.Tree.{Tree, out-Tree}
 use Rattle.mm_base.specs.declared.tree.Tree.TheVariants.{Var, Work, Fresh, Node, outs-Var, outs-Work, outs-Fresh, outs-Node}
 use Rattle.mm_base.specs.declared.tree.Tree.TheOpen.{Tree-F}
+use Rattle.mm_base.specs.SameTrees.{same_code, same_tree, layer_same, all_pass}
+use Rattle.mm_base.proofs.TreeFolds.{fold-Var, fold-Work, fold-Fresh, fold-Node}
 use Rattle.mm_base.proofs.TreeInduction.{tree_ind}
-use Rattle.mm_model.specs.Chains.{same_code}
-use Rattle.solve_model.specs.Trees.{same_tree, layer_same, all_pass}
-use Rattle.solve_model.proofs.TreeLaws.{same-Var, same-Work, same-Fresh, same-Node}
+
+-- ---- by the head of the one
+
+abbrev same_layer : Tree-F (Tree → Bool) → Tree → Bool
+same_layer x t = layer_same x (out-Tree t)
+
+pub same-Var : (s : Sym) (c : Typecode) (u : Tree) → same_tree (Var s c) u ≡ layer_same (Tree-F.Var s c) (out-Tree u)
+unfolding same_tree
+same-Var s c u = ap (λ (f : Tree → Bool). f u) (fold-Var (Tree → Bool) same_layer s c)
+
+pub same-Work : (c : Typecode) (n : ℕ) (u : Tree) → same_tree (Work c n) u ≡ layer_same (Tree-F.Work c n) (out-Tree u)
+unfolding same_tree
+same-Work c n u = ap (λ (f : Tree → Bool). f u) (fold-Work (Tree → Bool) same_layer c n)
+
+pub same-Fresh : (c : Typecode) (n : ℕ) (u : Tree) → same_tree (Fresh c n) u ≡ layer_same (Tree-F.Fresh c n) (out-Tree u)
+unfolding same_tree
+same-Fresh c n u = ap (λ (f : Tree → Bool). f u) (fold-Fresh (Tree → Bool) same_layer c n)
+
+pub same-Node : (l : Label) (c : Typecode) (ts : List Tree) (u : Tree) → same_tree (Node l c ts) u ≡ layer_same (Tree-F.Node l c (map same_tree ts)) (out-Tree u)
+unfolding same_tree
+same-Node l c ts u = ap (λ (f : Tree → Bool). f u) (fold-Node (Tree → Bool) same_layer l c ts)
 
 -- ---- trees of other kinds
 

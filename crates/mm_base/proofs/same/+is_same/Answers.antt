@@ -1,8 +1,8 @@
 use Rattle.std.proofs.Common.{◌==◌, refl, sym, ◌∙◌}
 use Rattle.mm_base.specs.declared.tree.Tree.TheVariants.{Var, Work, Fresh, Node}
-use Rattle.mm_model.specs.Chains.{same_code}
-use Rattle.hyp_derive.proofs.SameLaws.{not_var, not_work, not_fresh, not_node, var_told, work_told, fresh_told, other_kind, and_then, and_else, other_label, other_code, other_length, other_part, all_parts}
-use Rattle.hyp_derive.proofs.same.+is_same.Goals as goal
+use Rattle.mm_base.specs.SameTrees.{same_code}
+use Rattle.mm_base.proofs.SameTrees.{not_var, not_work, not_fresh, not_node, var_told, work_told, fresh_told, other_kind, and_then, and_else, other_label, other_code, other_length, other_part, all_parts}
+use Rattle.mm_base.proofs.same.+is_same.Goals as goal
 
 pub returns-then-eq : goal.returns-then-eq
 returns-then-eq t c =

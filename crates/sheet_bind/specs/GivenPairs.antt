@@ -1,18 +1,10 @@
--- Given pairs as a set of keys: two numbers, the lesser first.
-use Rattle.std.specs.Prelude.{ℕ, List, [], ◌∷◌, map, fold, filter_map}
-use Rattle.std.specs.BTreeSet.{BTreeSet}
+-- Given pairs, put in one after the other.
+use Rattle.std.specs.Prelude.{List, [], ◌∷◌, fold, filter_map}
 use Rattle.mm_base.specs.declared.symbols.Sym.{Sym}
 use Rattle.mm_base.specs.declared.symbols.Pair.{Pair}
-use Rattle.mm_model.specs.Names.{Name, sym, symbol_named}
+use Rattle.mm_model.specs.Names.{Name, symbol_named}
 use Rattle.sheet_text.specs.declared.sheet.PairLine.{PairLine}
 use Rattle.solve_model.specs.PairSets.{ordered, put_pair}
-
-abbrev pub pair_of : ℕ × ℕ → Pair
-pair_of k = record { a = sym k.0; b = sym k.1 }
-
--- the pairs of a set of keys
-abbrev pub pairs_of : BTreeSet (ℕ × ℕ) → List Pair
-pairs_of keys = map pair_of keys.keys
 
 -- a variable with each of a list
 abbrev pub put_row : Sym → List Pair → List Sym → List Pair

@@ -1,6 +1,6 @@
--- Needed pairs as a set of keys: two numbers, the lesser first.
+-- Needed pairs, put in one after the other.
 use Rattle.std.specs.Prelude.{ℕ, List, [], map, fold, if◌then◌else◌}
-use Rattle.std.specs.BTreeSet.{BTreeSet, insert_key}
+use Rattle.std.specs.BTreeSet.{insert_key}
 use Rattle.std.specs.Ordering.{nat_cmp}
 use Rattle.mm_base.specs.declared.symbols.Sym.{Sym}
 use Rattle.mm_base.specs.declared.symbols.Pair.{Pair}
@@ -9,13 +9,6 @@ use Rattle.mm_model.specs.Names.{sym}
 use Rattle.proof_model.specs.Machine.{is_shared}
 use Rattle.solve_model.specs.PairSets.{ordered, put_pair}
 use Rattle.distinct_vars.specs.Values.{variables_at}
-
-abbrev pub pair_of : ℕ × ℕ → Pair
-pair_of k = record { a = sym k.0; b = sym k.1 }
-
--- the pairs of a set of keys
-abbrev pub pairs_of : BTreeSet (ℕ × ℕ) → List Pair
-pairs_of keys = map pair_of keys.keys
 
 -- two variables that differ are a needed pair
 abbrev pub put_needed : List Pair → Sym × Sym → List Pair
