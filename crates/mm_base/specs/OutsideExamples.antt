@@ -1,7 +1,7 @@
 -- Counts, files and calls, computed.
-use Rattle.std.specs.Prelude.{◌≡◌, ◌-◌, ◌^◌, ℕ, List, [], ◌∷◌, true, false, Some, None, codes, refl}
+use Rattle.std.specs.Prelude.{◌≡◌, ◌-◌, ◌^◌, ℕ, [], ◌∷◌, true, false, Some, None, codes, refl}
 use Rattle.mm_base.specs.Outside.{one_more}
-use Rattle.mm_base.specs.Files.{entry_of, held_in, kept_file}
+use Rattle.mm_base.specs.Files.{entry_of, kept_file}
 use Rattle.mm_base.specs.Calls.{fails_next}
 
 pub first_fault : one_more 0 ≡ 1

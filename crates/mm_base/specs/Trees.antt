@@ -1,5 +1,5 @@
 -- What is said of trees in general: their typecode, a fact of each tree of a list.
-use Rattle.std.specs.Prelude.{ℕ, List, [], ◌∷◌}
+use Rattle.std.specs.Prelude.{List, [], ◌∷◌}
 use Rattle.mm_base.specs.declared.symbols.Typecode.{Typecode}
 use Rattle.mm_base.specs.declared.tree.Tree.{Tree, out-Tree}
 use Rattle.mm_base.specs.declared.tree.Tree.TheOpen.{Tree-F}
