@@ -10,7 +10,7 @@
 set -eu
 top=$(cd "$(dirname "$0")/.." && pwd)
 folder=${1:-$(mktemp -d)}
-used='mm_base mm_model model_laws mm_tokens names number_set frame_lists mm_frames syntax_grammar formula_parse sheet_text proof_model solve_model written_model mm_database'
+used='mm_base mm_model model_laws mm_tokens names number_set frame_lists mm_frames syntax_grammar formula_parse sheet_text fault_lines mm_database'
 mkdir -p "$folder/crates/bench_opening/src"
 [ -d "$folder/.git" ] || git -C "$folder" init -q
 : > "$folder/crates.txt"

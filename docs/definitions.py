@@ -45,6 +45,13 @@ ORDER = [
         ("Layout", "the text of a worksheet", "FORMAT, The written worksheet"),
         ("Spellable", "the worksheets that a text can spell", ""),
     ]),
+    ("fault_lines", "How faults are told.", [
+        ("Refusals", "the refusals of a worksheet", "FORMAT, Faults of a worksheet"),
+        ("FaultLines", "the lines of faults", "FORMAT, Report and log lines"),
+    ]),
+    ("trial_texts", "The texts of the trial of the program by itself.", [
+        ("TrialTexts", "a database, and a worksheet of any number of blocks", "FORMAT, The trial"),
+    ]),
     ("proof_model", "Proofs.", [
         ("Proofs", "proofs as trees of labels", "book 4.3"),
         ("Machine", "the stack machine and its faults", "book 4.1.4; FORMAT, The stack machine"),
@@ -65,7 +72,7 @@ ORDER = [
         ("Verdicts", "which steps are accepted", "FORMAT, How a worksheet is unified"),
         ("MostGeneral", "the most general valuation", "FORMAT, How a worksheet is unified"),
     ]),
-    ("written_model", "The written worksheet, and what a call of the program answers.", [
+    ("written_model", "The written worksheet.", [
         ("WrittenSteps", "written steps", ""),
         ("Filled", "missing places, and the steps that fill them", "FORMAT, How a worksheet is unified"),
         ("Named", "names of new work variables", "FORMAT, How a worksheet is unified"),
@@ -74,10 +81,7 @@ ORDER = [
         ("ProofTrees", "when a worksheet is finished, and the proof of a step", "FORMAT, How a worksheet is unified"),
         ("Report", "the report", "FORMAT, Report and log lines"),
         ("Written", "what a worksheet becomes, its last faults, and the answer to it", "FORMAT, The written worksheet; Faults of a worksheet"),
-        ("FaultLines", "the lines of faults", "FORMAT, Report and log lines"),
-        ("CommandWords", "the words of the command line; until other options are built they reach pairs that are added, and the typecodes `|-` and `wff`, while the definitions take any options", "FORMAT, Command words"),
-        ("Verified", "what `verify` says of a label", "FORMAT, The proof code, The stack machine"),
-        ("Headline", "what a call gives: the main theorem", "FORMAT, Statuses"),
+        ("ProvesItself", "what a written text says of itself", ""),
         ("Opened", "the databases that laws speak of", ""),
         ("Again", "what a written worksheet becomes when it is unified again", ""),
         ("ReadBack", "laws: what a text without a fault reads as, and that a laid out worksheet reads back", ""),
@@ -85,13 +89,20 @@ ORDER = [
         ("Existence", "laws, not proved yet: a most general valuation exists, and each worksheet has an answer", ""),
         ("WrittenAgain", "laws, not proved yet: written again as itself, and the answer is one", ""),
     ]),
+    ("call_answers", "What a call of the program answers.", [
+        ("CommandLine", "the words of the command line", "FORMAT, Command words"),
+        ("Verified", "what `verify` says of a label", "FORMAT, The proof code, The stack machine"),
+        ("Endings", "what an answer has for the output and for the log, and its status", "FORMAT, Statuses"),
+        ("Trial", "the trial of the program by itself", "FORMAT, The trial"),
+        ("CallAnswers", "the answer by cases: the main theorem", "FORMAT, Statuses"),
+    ]),
 ]
 
-LAWS = ["model_laws", "proof_laws", "solve_laws", "sheet_laws", "answer_laws", "push_laws"]
+LAWS = ["model_laws", "proof_laws", "solve_laws", "sheet_laws", "answer_laws", "push_laws", "headline_laws"]
 
 # The statements that no contract names yet, by crate and file.
 STATED = [
-    ("written_model", "Headline", ["IsAnswered"]),
+    ("call_answers", "CallAnswers", ["IsAnswer"]),
     ("written_model", "Existence", ["HasMostGeneral", "HasAnswer"]),
     ("written_model", "WrittenAgain", ["ValuesStay", "VerdictsStay", "IsWrittenAgain"]),
 ]

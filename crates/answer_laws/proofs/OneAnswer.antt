@@ -14,7 +14,8 @@ use Rattle.solve_model.specs.BindFaults.{BindFaultAt, IsBindFault}
 use Rattle.solve_model.specs.Bound.{Binds, work_size}
 use Rattle.sheet_laws.specs.ReadAgain.{ReadsAsOne}
 use Rattle.written_model.specs.declared.options.Options.{Options}
-use Rattle.written_model.specs.Written.{Writing, Writes, Refusal, at_line, too_much, told_number, LateFault, IsLate, Answer, Answers}
+use Rattle.fault_lines.specs.Refusals.{Refusal, at_line, too_much, told_number}
+use Rattle.written_model.specs.Written.{Writing, Writes, LateFault, IsLate, Answer, Answers}
 use Rattle.model_laws.specs.DatabaseLaws.{HasDatabaseFacts}
 use Rattle.model_laws.specs.FrameLaws.{FramesHaveOwnExpressions, MandatoryVariablesStand}
 use Rattle.written_model.specs.WrittenAgain.{SameAnswer, AnswersAreOne}

@@ -30,7 +30,8 @@ use Rattle.written_model.specs.Opened.{IsOpened}
 use Rattle.written_model.specs.WrittenSteps.{Use, WrittenStep, WrittenItem, comment, step, steps_in, trees}
 use Rattle.written_model.specs.Filled.{fill_item, filled_items}
 use Rattle.written_model.specs.Named.{name_tree, name_use, name_items}
-use Rattle.written_model.specs.Written.{Writing, Writes, HasNoLateFault, LateFault, too_large, told_number, after_filling, after_naming, written_step, written_pairs, written_sheet, written_theorem, written_proof, written_text, proof_text}
+use Rattle.fault_lines.specs.Refusals.{too_large, told_number}
+use Rattle.written_model.specs.Written.{Writing, Writes, HasNoLateFault, LateFault, after_filling, after_naming, written_step, written_pairs, written_sheet, written_theorem, written_proof, written_text, proof_text}
 use Rattle.answer_laws.specs.WrittenReads.{IsReadBack, WrittenReadsBack}
 use Rattle.answer_laws.proofs.Elements.{all_with}
 use Rattle.answer_laws.proofs.FilledAlike.{IsGoodUse, IsGoodItem}

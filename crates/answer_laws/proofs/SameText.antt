@@ -28,7 +28,8 @@ use Rattle.written_model.specs.WrittenSteps.{WrittenStep, WrittenItem, comment, 
 use Rattle.written_model.specs.Pairs.{pairs_of}
 use Rattle.written_model.specs.ProofTrees.{step_proofs, no_proof}
 use Rattle.written_model.specs.Report.{report_of, report_lines}
-use Rattle.written_model.specs.Written.{Writing, written_item, written_pair, written_pairs, written_sheet, written_theorem, written_proof, written_text, written_report, qed_proof, proof_text, Refusal, told_number, formula_tokens, formula_too_long, written_two_trees, too_much_written, proof_too_long, too_large, IsTooLong, IsAmbiguous, bound_step, written_bound, label_count, LateFault}
+use Rattle.fault_lines.specs.Refusals.{Refusal, told_number, formula_too_long, written_two_trees, too_much_written, proof_too_long, too_large}
+use Rattle.written_model.specs.Written.{Writing, written_item, written_pair, written_pairs, written_sheet, written_theorem, written_proof, written_text, written_report, qed_proof, proof_text, formula_tokens, IsTooLong, IsAmbiguous, bound_step, written_bound, label_count, LateFault}
 use Rattle.written_model.specs.WrittenAgain.{SameWriting}
 use Rattle.answer_laws.proofs.Moved.{steps-over}
 use Rattle.answer_laws.proofs.SearchedAlike.{bare_step, bare_items}

@@ -24,7 +24,8 @@ use Rattle.written_model.specs.Opened.{IsOpened}
 use Rattle.written_model.specs.WrittenSteps.{WrittenStep, WrittenItem, comment, step, steps_in, over_step, trees}
 use Rattle.written_model.specs.Named.{WorkVariable, is_in, works_in, read_works, not_seen, new_works, Naming, name_leaf, name_fresh, name_tree, IsWrittenLeaf, IsNaming}
 use Rattle.written_model.specs.ProofTrees.{step_proof, step_proofs, no_proof}
-use Rattle.written_model.specs.Written.{Answers, Writing, Writes, ItemIsSearched, written_item, written_pair, written_pairs, written_sheet, written_theorem, written_bound, bound_step, too_much_written, told_number, LateFault, HasNoLateFault, after_filling, after_naming}
+use Rattle.fault_lines.specs.Refusals.{too_much_written, told_number}
+use Rattle.written_model.specs.Written.{Answers, Writing, Writes, ItemIsSearched, written_item, written_pair, written_pairs, written_sheet, written_theorem, written_bound, bound_step, LateFault, HasNoLateFault, after_filling, after_naming}
 use Rattle.written_model.specs.Again.{step_again, again}
 use Rattle.written_model.specs.WrittenAgain.{NothingIsMade, EndStays, SearchStays, IsFixpoint}
 use Rattle.answer_laws.specs.WrittenReads.{IsReadBack, WrittenReadsBack, WrittenByParts, WrittenIsFixed}

@@ -10,7 +10,7 @@ use Rattle.written_model.specs.ReadBack.{IsOneLine}
 use Rattle.written_model.specs.declared.options.Options.{Options}
 use Rattle.written_model.specs.Opened.{IsOpened}
 use Rattle.written_model.specs.Written.{Writing, Writes, HasNoLateFault, written_sheet, written_proof, written_bound, written_text}
-use Rattle.written_model.specs.Headline.{IsFixed}
+use Rattle.written_model.specs.ProvesItself.{IsFixed}
 use Rattle.written_model.specs.WrittenAgain.{ValuesStay, VerdictsStay, IsWrittenAgain}
 
 module _ (db : Database) (text : List ℕ) (options : Options) (w : Writing) where

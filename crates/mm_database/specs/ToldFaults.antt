@@ -1,7 +1,7 @@
 -- A fault as its line tells it.
 use Rattle.std.specs.Prelude.{◌≡◌}
 use Rattle.mm_model.specs.Faults.{Fault, fault}
-use Rattle.written_model.specs.FaultLines.{database_faults, fault_name}
+use Rattle.fault_lines.specs.FaultLines.{database_faults, fault_name}
 use Rattle.mm_database.specs.declared.faults.ToldFault.{ToldFault}
 
 -- the fault that it stands for

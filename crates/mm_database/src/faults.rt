@@ -2,7 +2,7 @@ ghost use Rattle.std.specs.Prelude.{◌≡◌, Option, Some, IfOk, IfSome, IsSom
 ghost use Rattle.mm_model.specs.Faults.{Fault};
 ghost use Rattle.mm_database.specs.Faults.{read_fault, token_fault, fault_of};
 ghost use Rattle.mm_database.specs.ToldFaults.{told, IsNamed};
-ghost use Rattle.written_model.specs.FaultLines.{database_line};
+ghost use Rattle.fault_lines.specs.FaultLines.{database_line};
 
 use itoa::Buffer;
 use mm_base::{Bytes, List, Memory};

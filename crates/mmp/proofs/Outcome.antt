@@ -5,7 +5,7 @@ use Rattle.mm_base.specs.declared.status.Status.{Status}
 use Rattle.mm_base.specs.declared.status.Status.TheVariants.{Finished, Unfinished, Database, Sheet, Words, Read, Write, Memory, Proof}
 use Rattle.mmp.specs.declared.answer.Answer.{Answer}
 use Rattle.mmp.specs.Answer.{usage}
-use Rattle.written_model.specs.CommandWords.{Command, command_of}
+use Rattle.mmp.specs.CommandWords.{Command, command_of}
 use Rattle.mmp.specs.Due.{IsDue, IsDueFor, MayAnswer, MayAnswerWords, IsSettled, Gives, IsGiven, NoReadFault, SaysReadFault}
 
 -- every status is settled, or one of the three failures

@@ -7,12 +7,12 @@ use Rattle.mm_base.specs.declared.errors.Memory as memory
 use Rattle.mm_base.specs.declared.status.Status.{Status}
 use Rattle.mm_base.specs.declared.status.Status.TheVariants.{Database, Sheet, Words, Read, Write, Memory}
 use Rattle.mmp.specs.declared.answer.Answer.{Answer}
-use Rattle.written_model.specs.CommandWords.{UnifyCommand, VerifyCommand, Command, unify, verify}
+use Rattle.mmp.specs.CommandWords.{UnifyCommand, VerifyCommand, Command, unify, verify}
 use Rattle.mmp.specs.Command.{Reads, database_of}
 use Rattle.mmp.specs.Unify.{IsAccepted, IsDatabaseRefusal, IsReadable, IsSheetRefusal, IsSheetAnswer, IsTextStatus}
 use Rattle.mmp.specs.Due.{IsDueFor, IsDueOn, IsDueSheet, MayAnswer}
 use Rattle.mmp.specs.Verify.{answer_to, IsVerified}
-use Rattle.written_model.specs.Verified.{Verdict, no_theorem, accepted, bad_code, refused}
+use Rattle.call_answers.specs.Verified.{Verdict, no_theorem, accepted, bad_code, refused}
 use Rattle.mmp.specs.Opened.{Has, IsRefused, IsUnread, IsOpen, IsListedText}
 use Rattle.mm_frames.specs.Contents.{Contents, contents_of}
 use Rattle.mmp.specs.OpenedSheet.{IsSheetRefused, IsOpenSheet}
@@ -21,8 +21,8 @@ use Rattle.sheet_text.specs.Reads as reading
 use Rattle.sheet_text.specs.TextFaults.{text_fault, line_fault}
 use Rattle.mm_model.specs.Faults.{Fault, fault}
 use Rattle.mm_model.specs.Statements.{database_fault}
-use Rattle.written_model.specs.FaultLines.{database_line, refusal_line}
-use Rattle.written_model.specs.Written.{at_line}
+use Rattle.fault_lines.specs.FaultLines.{database_line, refusal_line}
+use Rattle.fault_lines.specs.Refusals.{at_line}
 use Rattle.mmp.specs.Answer.{refusal, read_fault}
 
 longer : (n most : ℕ) → most < n → nat_lt most n ≡ true

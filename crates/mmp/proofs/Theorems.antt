@@ -12,7 +12,7 @@ use Rattle.mm_model.specs.Statements.{Statement, is, is_one_of, has_keyword, bod
 use Rattle.mm_model.specs.Frames.{frame_of, frame_at, is_assertion, statement_of}
 use Rattle.proof_model.specs.DatabaseProofs.{theorem_of_frame, proof_of, proof_words}
 use Rattle.proof_model.specs.declared.theorem.Theorem.{Theorem}
-use Rattle.written_model.specs.Verified.{theorem_named}
+use Rattle.call_answers.specs.Verified.{theorem_named}
 use Rattle.mmp.specs.Theorems.{IsTheorem}
 
 true_not_false : true ≡ false → ⊥

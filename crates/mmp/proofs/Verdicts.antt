@@ -17,7 +17,7 @@ use Rattle.proof_model.specs.declared.code.Code.{Code}
 use Rattle.proof_model.specs.declared.theorem.Theorem.{Theorem}
 use Rattle.proof_model.specs.DatabaseProofs.{frames_of_database, theorem_of_frame, proof_code_fault, IsCodeOf}
 use Rattle.proof_model.specs.Machine.{Accepts, proof_fault}
-use Rattle.written_model.specs.Verified.{Verdict, no_theorem, accepted, bad_code, verdict_of, theorem_named, IsProofVerdict, IsVerdict}
+use Rattle.call_answers.specs.Verified.{Verdict, no_theorem, accepted, bad_code, verdict_of, theorem_named, IsProofVerdict, IsVerdict}
 use Rattle.mmp.specs.Theorems.{IsTheorem}
 use Rattle.mmp.proofs.Theorems.{named_by}
 

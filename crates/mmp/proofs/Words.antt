@@ -8,7 +8,7 @@ use Rattle.std.specs.List.{prefix_len}
 use Rattle.std.specs.Str.{bytes_eq}
 use Rattle.written_model.specs.declared.options.Options.{Options}
 use Rattle.written_model.specs.declared.options.ProofStyle.{ProofStyle}
-use Rattle.written_model.specs.CommandWords.{Command, unify, is_option, is_name, style_of, options_with, options_of, files_of, unify_of, verify_of, command_of}
+use Rattle.mmp.specs.CommandWords.{Command, unify, is_option, is_name, style_of, options_with, options_of, files_of, unify_of, verify_of, command_of}
 use Rattle.mmp.specs.Command.{are_names, unify_with, unify_by}
 
 and_false : (b : Bool) → (b && false) ≡ false

@@ -1,7 +1,7 @@
 -- The answers that say one line.
 use Rattle.std.specs.Prelude.{ℕ, List, [], ◌∷◌, ◌++◌, codes}
 use Rattle.mm_base.specs.declared.status.Status.{Status}
-use Rattle.written_model.specs.CommandWords.{usage_line}
+use Rattle.mmp.specs.CommandWords.{usage_line}
 use Rattle.mm_base.specs.declared.status.Status.TheVariants.{Words, Read}
 use Rattle.mmp.specs.declared.answer.Answer.{Answer}
 

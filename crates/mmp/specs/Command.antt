@@ -1,7 +1,7 @@
 -- What a command reads, and the words of a command by their number: what the program looks at.
 use Rattle.std.specs.Prelude.{◌≡◌, ◌⊎◌, ℕ, List, Bool, ◌&&◌, Option, None, Some, if◌then◌else◌}
 use Rattle.written_model.specs.declared.options.ProofStyle.{ProofStyle}
-use Rattle.written_model.specs.CommandWords.{Command, unify, verify, is_name, options_with}
+use Rattle.mmp.specs.CommandWords.{Command, unify, verify, is_name, options_with}
 
 -- the file of the database
 abbrev pub database_of : Command → List ℕ

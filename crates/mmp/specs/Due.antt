@@ -6,7 +6,7 @@ use Rattle.mm_base.specs.declared.status.Status.{Status}
 use Rattle.mm_base.specs.declared.status.Status.TheVariants.{Words, Read, Write, Memory}
 use Rattle.mmp.specs.declared.answer.Answer.{Answer}
 use Rattle.mmp.specs.Answer.{usage, read_fault}
-use Rattle.written_model.specs.CommandWords.{UnifyCommand, Command, unify, verify, command_of}
+use Rattle.mmp.specs.CommandWords.{UnifyCommand, Command, unify, verify, command_of}
 use Rattle.mmp.specs.Command.{Reads, database_of}
 use Rattle.mmp.specs.Unify.{IsAccepted, IsDatabaseRefusal, IsReadable, IsSheetRefusal, IsUnified}
 use Rattle.mmp.specs.Verify.{IsVerified}

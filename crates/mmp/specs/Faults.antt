@@ -2,7 +2,7 @@
 use Rattle.std.specs.Prelude.{◌≡◌, ℕ, List}
 use Rattle.mm_model.specs.Faults.{Fault, fault}
 use Rattle.mm_model.specs.Names.{Name}
-use Rattle.written_model.specs.FaultLines.{fault_name}
+use Rattle.fault_lines.specs.FaultLines.{fault_name}
 use Rattle.mmp.specs.declared.fault.NamedFault.{NamedFault}
 
 -- the fault that it stands for

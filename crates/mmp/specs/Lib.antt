@@ -1,5 +1,7 @@
 pub mod Answer
 pub mod Command
+pub mod CommandWords
+pub mod CommandWordsExamples
 pub mod Due
 pub mod Faults
 pub mod Found

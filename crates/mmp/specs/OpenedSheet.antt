@@ -5,7 +5,7 @@ use Rattle.mm_base.specs.declared.status.Status.TheVariants as statuses
 use Rattle.sheet_text.specs.declared.sheet.Sheet.{Sheet}
 use Rattle.sheet_text.specs.Reads.{Reads}
 use Rattle.sheet_text.specs.TextFaults.{line_fault}
-use Rattle.written_model.specs.FaultLines.{sheet_faults}
+use Rattle.fault_lines.specs.FaultLines.{sheet_faults}
 use Rattle.mmp.specs.declared.answer.Answer.{Answer}
 use Rattle.mmp.specs.declared.sheet.OpenedSheet.{OpenedSheet}
 use Rattle.mmp.specs.declared.sheet.OpenedSheet.TheVariants as opened

@@ -1,7 +1,7 @@
 -- What a command of the program stands for.
 use Rattle.std.specs.Prelude.{ℕ, List}
 use Rattle.written_model.specs.declared.options.ProofStyle.{ProofStyle}
-use Rattle.written_model.specs.CommandWords as words
+use Rattle.mmp.specs.CommandWords as words
 use Rattle.mmp.specs.declared.command.Command.{Command}
 use Rattle.mmp.specs.declared.command.Command.TheVariants as command
 

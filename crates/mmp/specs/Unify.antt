@@ -6,13 +6,13 @@ use Rattle.sheet_text.specs.declared.sheet.Sheet.{Sheet}
 use Rattle.sheet_text.specs.Layout.{layout}
 use Rattle.sheet_text.specs.Reads.{Reads}
 use Rattle.sheet_text.specs.TextFaults.{text_fault}
-use Rattle.written_model.specs.FaultLines.{database_line, refusal_line}
-use Rattle.written_model.specs.Written.{at_line}
+use Rattle.fault_lines.specs.FaultLines.{database_line, refusal_line}
+use Rattle.fault_lines.specs.Refusals.{at_line}
 use Rattle.mm_base.specs.declared.status.Status.{Status}
 use Rattle.mm_base.specs.declared.status.Status.TheVariants as statuses
 use Rattle.mmp.specs.declared.answer.Answer.{Answer}
 use Rattle.mmp.specs.Answer.{line, refusal}
-use Rattle.written_model.specs.CommandWords.{UnifyCommand}
+use Rattle.mmp.specs.CommandWords.{UnifyCommand}
 
 -- the refusal of a database: it has a fault, and the answer is the line on the first
 unfoldable pub IsDatabaseRefusal : List ℕ → Answer → Type 0

@@ -1,6 +1,6 @@
 -- What the program says of a proof.
-use Rattle.written_model.specs.FaultLines.{code_faults, proof_faults}
-use Rattle.written_model.specs.Verified as said
+use Rattle.fault_lines.specs.FaultLines.{code_faults, proof_faults}
+use Rattle.call_answers.specs.Verified as said
 use Rattle.mmp.specs.declared.verify.Verdict.{Verdict}
 use Rattle.mmp.specs.declared.verify.Verdict.TheVariants as verdict
 use Rattle.mmp.specs.Faults.{told, IsNamed}

@@ -3,8 +3,8 @@ use Rattle.std.specs.Prelude.{◌≡◌, ℕ, List, []}
 use Rattle.mm_base.specs.declared.status.Status.TheVariants.{Finished, Proof}
 use Rattle.mmp.specs.declared.answer.Answer.{Answer}
 use Rattle.mmp.specs.Answer.{line, refusal}
-use Rattle.written_model.specs.FaultLines.{code_line, proof_line, no_theorem_line, accepted_line}
-use Rattle.written_model.specs.Verified.{Verdict, no_theorem, bad_code, refused, accepted, IsVerdict}
+use Rattle.fault_lines.specs.FaultLines.{code_line, proof_line, no_theorem_line, accepted_line}
+use Rattle.call_answers.specs.Verified.{Verdict, no_theorem, bad_code, refused, accepted, IsVerdict}
 
 -- one line: in the output where the proof is accepted, and else in the log
 abbrev pub answer_to : List ℕ → Verdict → Answer

@@ -1,6 +1,6 @@
 ghost use Rattle.std.specs.Prelude.{◌≡◌, [], ◌∷◌, length, map, string_bytes};
 ghost use Rattle.std.specs.Option.{option_map};
-ghost use Rattle.written_model.specs.CommandWords.{command_of, is_name, style_of, unify_of};
+ghost use Rattle.mmp.specs.CommandWords.{command_of, is_name, style_of, unify_of};
 ghost use Rattle.mmp.specs.Command.{are_names, unify_with, verify_with};
 ghost use Rattle.mmp.specs.Shown.{shown};
 

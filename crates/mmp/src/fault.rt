@@ -1,9 +1,9 @@
 //! Faults with their names, and the lines that tell them.
 
 ghost use Rattle.std.specs.Prelude.{◌≡◌, string_bytes, IfOk};
-ghost use Rattle.written_model.specs.FaultLines as lines;
-ghost use Rattle.written_model.specs.FaultLines.{sheet_faults, code_faults, proof_faults};
-ghost use Rattle.written_model.specs.Written.{at_line};
+ghost use Rattle.fault_lines.specs.FaultLines as lines;
+ghost use Rattle.fault_lines.specs.FaultLines.{sheet_faults, code_faults, proof_faults};
+ghost use Rattle.fault_lines.specs.Refusals.{at_line};
 ghost use Rattle.mmp.specs.Faults.{told, IsNamed};
 
 use itoa::Buffer;

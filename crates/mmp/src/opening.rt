@@ -8,7 +8,7 @@ ghost use Rattle.mm_model.specs.Statements.{database_fault};
 ghost use Rattle.mmp.specs.Answer.{refusal};
 ghost use Rattle.mmp.specs.Opened.{Has, IsOpened};
 ghost use Rattle.mmp.specs.Unify.{IsDatabaseRefusal};
-ghost use Rattle.written_model.specs.FaultLines.{database_line};
+ghost use Rattle.fault_lines.specs.FaultLines.{database_line};
 
 use crate::answer::{Answer, refuse, refuse_line, refuse_read};
 use crate::files::{Found, read_file};

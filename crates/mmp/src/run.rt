@@ -5,7 +5,7 @@ ghost use Rattle.mmp.specs.Opened.{IsOpen};
 ghost use Rattle.mmp.specs.OpenedSheet.{IsOpenedSheet};
 ghost use Rattle.mmp.specs.Answer.{usage};
 ghost use Rattle.mmp.specs.Due.{MayAnswer, MayAnswerWords, IsSettled, Gives, IsGiven, NoReadFault, SaysReadFault, IsCutShort};
-ghost use Rattle.written_model.specs.CommandWords.{command_of};
+ghost use Rattle.mmp.specs.CommandWords.{command_of};
 ghost use Rattle.mm_base.specs.Outside.{Files, NoneFell, Rose};
 ghost use Rattle.mmp.specs.Shown.{shown, unify_command, verify_command};
 

@@ -4,8 +4,8 @@ ghost use Rattle.std.specs.Prelude.{◌≡◌, ◌≤◌, ◌^◌, Option, Some,
 ghost use Rattle.mm_base.specs.Outside.{NoneFell};
 ghost use Rattle.mm_model.specs.Faults.{Fault};
 ghost use Rattle.sheet_read.specs.Faults.{IsFault};
-ghost use Rattle.written_model.specs.FaultLines.{sheet_faults, refusal_line};
-ghost use Rattle.written_model.specs.Written.{at_line};
+ghost use Rattle.fault_lines.specs.FaultLines.{sheet_faults, refusal_line};
+ghost use Rattle.fault_lines.specs.Refusals.{at_line};
 ghost use Rattle.mmp.specs.Answer.{refusal};
 ghost use Rattle.mmp.specs.Faults.{told, IsNamed};
 ghost use Rattle.mmp.specs.OpenedSheet.{IsOpenedSheet, IsReadText};

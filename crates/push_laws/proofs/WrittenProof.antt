@@ -45,7 +45,7 @@ use Rattle.written_model.specs.declared.options.ProofStyle.{ProofStyle}
 use Rattle.written_model.specs.declared.options.ProofStyle.TheVariants as style
 use Rattle.written_model.specs.WrittenSteps.{steps_in}
 use Rattle.written_model.specs.Written.{Writing, frames_of, written_sheet, written_theorem, written_proof, written_text, proof_text}
-use Rattle.written_model.specs.Headline.{tokens_between, proof_tokens, IsProofCode, ProvesItself}
+use Rattle.written_model.specs.ProvesItself.{tokens_between, proof_tokens, IsProofCode, ProvesItself}
 use Rattle.answer_laws.specs.WrittenReads.{WrittenReadsBack}
 use Rattle.push_laws.specs.QedProof.{the_proof, ProofIsAccepted, CodeIsRead, the_code}
 use Rattle.push_laws.specs.WrittenProof.{SpellableProofIsAccepted, WrittenProofIsAccepted, UnfinishedHasNoProof}

@@ -3,7 +3,7 @@ use Rattle.std.specs.Prelude.{◌≡◌, ℕ, true, false, List, None}
 use Rattle.mm_model.specs.Book.{Database}
 use Rattle.sheet_text.specs.Spellable.{IsSpellable}
 use Rattle.written_model.specs.declared.options.Options.{Options}
-use Rattle.written_model.specs.Headline.{ProvesItself, proof_tokens}
+use Rattle.written_model.specs.ProvesItself.{ProvesItself, proof_tokens}
 use Rattle.written_model.specs.Opened.{IsOpened}
 use Rattle.written_model.specs.Written.{Writing, Writes, HasNoLateFault, written_sheet, written_text}
 

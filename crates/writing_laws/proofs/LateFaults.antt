@@ -10,7 +10,8 @@ use Rattle.written_model.specs.declared.options.Options.{Options}
 use Rattle.written_model.specs.declared.options.ProofStyle.{ProofStyle}
 use Rattle.written_model.specs.declared.options.ProofStyle.TheVariants as style
 use Rattle.written_model.specs.WrittenSteps.{WrittenStep, steps_in}
-use Rattle.written_model.specs.Written.{Writing, Refusal, step_tokens, IsTooLong, IsAmbiguous, written_bound, label_count, written_text, LateFault, IsLate, HasNoLateFault}
+use Rattle.fault_lines.specs.Refusals.{Refusal}
+use Rattle.written_model.specs.Written.{Writing, step_tokens, IsTooLong, IsAmbiguous, written_bound, label_count, written_text, LateFault, IsLate, HasNoLateFault}
 use Rattle.writing_laws.specs.Decisions.{Decided}
 use Rattle.writing_laws.specs.HasLate.{LongIsLate}
 use Rattle.writing_laws.proofs.Decide.{both_decided, bool_decided, less_decided, first_or_none, first_in}

@@ -24,7 +24,8 @@ use Rattle.written_model.specs.WrittenSteps.{WrittenStep, WrittenItem, comment, 
 use Rattle.written_model.specs.Filled.{Filling, new_trees, fill, derived_name, derived_names, made_step, filled_step, fill_item, filled_items}
 use Rattle.written_model.specs.Named.{name_step, name_items}
 use Rattle.written_model.specs.Found.{IsSearched}
-use Rattle.written_model.specs.Written.{Writing, Writes, formula_too_long, told_number, formula_tokens, step_tokens, IsTooLong, IsLate, ItemIsSearched, after_filling, after_naming}
+use Rattle.fault_lines.specs.Refusals.{formula_too_long, told_number}
+use Rattle.written_model.specs.Written.{Writing, Writes, formula_tokens, step_tokens, IsTooLong, IsLate, ItemIsSearched, after_filling, after_naming}
 use Rattle.answer_laws.proofs.Elements.{first, later, nothing, parted}
 use Rattle.answer_laws.proofs.Moved.{new_by}
 use Rattle.writing_laws.specs.TokenCounts.{formula_count, IsLong}

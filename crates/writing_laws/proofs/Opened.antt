@@ -15,7 +15,8 @@ use Rattle.solve_model.specs.Verdicts.{Judgement, accepted_in}
 use Rattle.written_model.specs.ReadBack.{ReadIsSpellable, SoundIsRead}
 use Rattle.written_model.specs.declared.options.Options.{Options}
 use Rattle.written_model.specs.Opened.{IsOpened}
-use Rattle.written_model.specs.Written.{Writing, Answer, Answers, wrote, refused, at_line, too_much, told_number, step_tokens}
+use Rattle.fault_lines.specs.Refusals.{at_line, too_much, told_number}
+use Rattle.written_model.specs.Written.{Writing, Answer, Answers, wrote, refused, step_tokens}
 use Rattle.answer_laws.proofs.Plain.{ArePlain}
 use Rattle.answer_laws.proofs.PlainAssertions.{are_plain}
 use Rattle.writing_laws.specs.HasNames.{HasNaming}

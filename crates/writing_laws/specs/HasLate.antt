@@ -10,7 +10,8 @@ use Rattle.solve_model.specs.Verdicts.{Judgement}
 use Rattle.written_model.specs.declared.options.Options.{Options}
 use Rattle.written_model.specs.Opened.{IsOpened}
 use Rattle.written_model.specs.WrittenSteps.{WrittenStep, steps_in}
-use Rattle.written_model.specs.Written.{Writing, Refusal, formula_too_long, told_number, step_tokens, IsTooLong, IsLate, HasNoLateFault, Answer, Answers}
+use Rattle.fault_lines.specs.Refusals.{Refusal, formula_too_long, told_number}
+use Rattle.written_model.specs.Written.{Writing, step_tokens, IsTooLong, IsLate, HasNoLateFault, Answer, Answers}
 use Rattle.writing_laws.specs.HasWriting.{IsSolved}
 
 module _ (db : Database) (options : Options) (w : Writing) where

@@ -19,7 +19,8 @@ use Rattle.written_model.specs.declared.options.Options.{Options}
 use Rattle.written_model.specs.Opened.{IsOpened}
 use Rattle.written_model.specs.WrittenSteps.{WrittenStep, steps_in, trees}
 use Rattle.written_model.specs.Filled.{Filling, new_trees, derived_names, wanted_by, fill_item, filled_items}
-use Rattle.written_model.specs.Written.{Writing, Writes, formula_too_long, told_number, refused, IsLate, IsTooLong, Answers, after_filling}
+use Rattle.fault_lines.specs.Refusals.{formula_too_long, told_number}
+use Rattle.written_model.specs.Written.{Writing, Writes, refused, IsLate, IsTooLong, Answers, after_filling}
 use Rattle.writing_laws.specs.HasWriting.{IsSolved}
 use Rattle.writing_laws.specs.TokenCounts.{formula_count, IsLong}
 

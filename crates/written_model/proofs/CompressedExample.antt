@@ -10,7 +10,7 @@ use Rattle.proof_model.specs.ProofCode.{SpellsSteps}
 use Rattle.solve_model.specs.Example.{P, split}
 use Rattle.solve_model.specs.ExampleSheets.{sheet_after, sheet_text}
 use Rattle.written_model.specs.declared.options.ProofStyle.TheVariants as style
-use Rattle.written_model.specs.Headline.{IsProofCode, ProvesItself}
+use Rattle.written_model.specs.ProvesItself.{IsProofCode, ProvesItself}
 use Rattle.written_model.specs.WrittenExample.{compressed}
 
 abbrev lines : List (List ℕ)

@@ -4,14 +4,14 @@ mod DoublingExamples
 mod FilledExamples
 mod FinishedExamples
 mod FoundExamples
-mod HeadlineExamples
 mod NamedExamples
 mod PairsExamples
 mod ProofTreesExamples
+mod ProvesItselfExample
 pub mod SoundIsRead
 mod RefusedExamples
 mod SearchGivenExample
 pub mod SyntaxProofs
 mod WrittenExamples
-mod WholeDatabase
-mod WholeExample
+pub mod WholeDatabase
+pub mod WholeExample

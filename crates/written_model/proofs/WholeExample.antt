@@ -1,15 +1,13 @@
--- A whole call: the words `unify --proof=normal a.mm t.mmp` over the small database and its worksheet end with status 0,
--- the worksheet with its proof, and the report. Each part of the main theorem holds of it.
+-- A whole answer: over the small database the worksheet is written with its proof, and again as it is. Each part of the
+-- answer's meaning holds of it.
 use Rattle.std.specs.Prelude.{◌≡◌, ◌<◌, ◌≤◌, ◌^◌, ℕ, zero, suc, Bool, true, false, List, [], ◌∷◌, length, map, take, Contains, slice_get, Option, Some, None, codes, refl}
 use Rattle.std.specs.List.{AllByRecursion, AllZip}
 use Rattle.std.specs.Fmt.{digits}
 use Rattle.std.proofs.Common.{sym, ap, subst, ◌∙◌, arith, inl, inr}
 use Rattle.mm_base.specs.declared.symbols.Typecode.{Typecode}
 use Rattle.mm_base.specs.declared.tree.Tree.{Tree}
-use Rattle.mm_base.specs.declared.status.Status.TheVariants as status
 use Rattle.mm_base.specs.Trees.{code_of}
 use Rattle.mm_model.specs.Names.{sym as symbol}
-use Rattle.mm_model.specs.Statements.{database_fault}
 use Rattle.mm_model.specs.Productions.{TypedVariable}
 use Rattle.mm_model.specs.Typed.{IsTyped}
 use Rattle.mm_model.proofs.SizeLaws.{node_counts}
@@ -23,7 +21,6 @@ use Rattle.sheet_text.specs.declared.sheet.SheetStep.{SheetStep}
 use Rattle.sheet_text.specs.TextFaults.{text_fault}
 use Rattle.sheet_text.specs.Layout.{layout, steps, spaced}
 use Rattle.sheet_text.specs.Reads.{Reads, unnumbered}
-use Rattle.sheet_text.specs.ReadsExamples.{text}
 use Rattle.solve_model.specs.declared.bound.BoundStep.{BoundStep}
 use Rattle.solve_model.specs.BindFaults.{BindFaultAt, at_header, at_step, at_pairs, no_tree, two_trees}
 use Rattle.solve_model.specs.Binding.{theorem_of}
@@ -37,15 +34,15 @@ use Rattle.solve_model.proofs.TreeLaws.{replaces, leaves}
 use Rattle.written_model.specs.declared.options.DvMode.TheVariants as dv
 use Rattle.written_model.specs.declared.options.ProofStyle.TheVariants as style
 use Rattle.written_model.specs.Found.{IsSearched}
-use Rattle.written_model.specs.Headline.{Ending, unified, IsAnswered, Unifies, ProvesItself}
+use Rattle.written_model.specs.ProvesItself.{ProvesItself, IsFixed}
 use Rattle.written_model.specs.Named.{IsNaming, IsWrittenLeaf, WorkVariable, new_works, name_tree}
 use Rattle.written_model.specs.ProofTrees.{Finished, is_complete}
 use Rattle.written_model.specs.Found.{is_ground}
-use Rattle.written_model.specs.WholeExample.{database_text, wff, ps, variable, any, db, words, options, read_text, written_text_is, files, numbered, qed, trees, candidate, value, fitting, writing}
+use Rattle.written_model.specs.WholeExample.{wff, ps, variable, any, db, options, read_text, written_text_is, numbered, qed, trees, candidate, value, fitting, writing}
 use Rattle.written_model.specs.WrittenSteps.{WrittenStep, step, steps_in, trees as trees_of}
 use Rattle.written_model.specs.Written.{Writing, Writes, HasNoLateFault, LateFault, Answers, wrote, after_filling, after_naming, ItemIsSearched, written_sheet, written_text, written_bound, qed_proof, proof_text, step_tokens, formula_tokens}
 use Rattle.written_model.proofs.SyntaxProofs.{syntax_proofs}
-use Rattle.written_model.proofs.WholeDatabase.{parses_variable, parses_only, is_database}
+use Rattle.written_model.proofs.WholeDatabase.{parses_variable, parses_only}
 
 -- ---- it binds
 
@@ -267,7 +264,7 @@ proof_is = simp syntax_proofs refl
 text_of : (s : Sheet) → s ≡ unnumbered numbered → layout s (Some (proof_text db style.Normal (theorem_of db s) (fitting ∷ []))) ≡ written_text_is
 text_of s e = rw e (subst (λ p. layout (unnumbered numbered) (Some (spaced (postorder p))) ≡ written_text_is) (sym proof_is) refl)
 
-text_is : written_text db options writing ≡ written_text_is
+pub text_is : written_text db options writing ≡ written_text_is
 text_is = text_of (written_sheet db options writing) written_sheet_is
 
 -- ---- nothing is too long
@@ -302,16 +299,13 @@ no_late_fault k r (LateFault.much l) = let is = written_size in omega (arith, l,
 no_late_fault k r (LateFault.proof f s l) = let is = labels_of (written_sheet db options writing) written_sheet_is in omega (arith, l, is)
 no_late_fault k r (LateFault.large l) = short l
 
--- ---- the whole call
+-- ---- the answer
 
 abbrev tokens : List (List ℕ)
 tokens = codes "wps" ∷ codes "any" ∷ []
 
-proves : ProvesItself db options written_text_is
+pub proves : ProvesItself db options written_text_is
 proves = record { sheet = numbered; reads = as_written; tokens = tokens; has_proof = refl; code = normal_code (theorem_of db numbered).mandatory tokens; is_code = refl; accepted = refl }
-
-abbrev pub ending : Ending
-ending = record { out = written_text_is; log = text (codes "qed fits any" ∷ codes "finished" ∷ []); status = status.Finished }
 
 no_text_fault : text_fault read_text ≡ None
 no_text_fault = refl
@@ -319,21 +313,11 @@ no_text_fault = refl
 no_text_fault_again : text_fault written_text_is ≡ None
 no_text_fault_again = refl
 
-unifies : Unifies db options read_text ending
-unifies = record {
-  answer = wrote writing;
-  answers = Answers.written no_text_fault (writes read_text as_read) no_late_fault;
-  gives = record { out = sym text_is; log = refl; status = refl };
-  proves = λ e. proves;
-  no_proof = λ e. absurd (cc);
-  again = λ w e. record { writing = writing; answers = Answers.written no_text_fault_again (writes written_text_is as_written) no_late_fault; same_text = text_is; same_end = finishes w e };
-}
+pub answers : Answers db read_text options (wrote writing)
+answers = Answers.written no_text_fault (writes read_text as_read) no_late_fault
+
+pub fixed : (w : Writing) → wrote writing ≡ wrote w → IsFixed db options written_text_is w.finished
+fixed w e = record { writing = writing; answers = Answers.written no_text_fault_again (writes written_text_is as_written) no_late_fault; same_text = text_is; same_end = finishes w e }
   where
     finishes : (w : Writing) → wrote writing ≡ wrote w → true ≡ w.finished
     finishes w e = let same : writing ≡ w = cc in ap (λ (v : Writing). v.finished) same
-
-no_fault : database_fault database_text ≡ None
-no_fault = refl
-
-pub is_answered : IsAnswered files words ending
-is_answered = unified {database = database_text} {sheet = read_text} refl no_fault refl is_database unifies

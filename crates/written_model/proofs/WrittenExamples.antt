@@ -22,7 +22,7 @@ use Rattle.written_model.specs.WrittenSteps.{WrittenStep}
 use Rattle.written_model.specs.ProofTrees.{Finished, is_complete}
 use Rattle.written_model.specs.Found.{is_ground}
 use Rattle.written_model.specs.Written.{written_sheet, written_log, qed_proof, frames_of, after_naming, label_count, written_bound}
-use Rattle.written_model.specs.Headline.{proof_tokens}
+use Rattle.written_model.specs.ProvesItself.{proof_tokens}
 use Rattle.written_model.specs.Again.{again}
 use Rattle.written_model.specs.WrittenExample.{compressed, writing, first, found, last}
 use Rattle.written_model.proofs.SyntaxProofs.{syntax_proofs}

@@ -1,13 +1,11 @@
--- The smallest finished worksheet, for an example of a whole call: over a database with one assertion, `any $a |- ph $.`, the step `qed::any |- ps`.
+-- The smallest finished worksheet, for an example of a whole answer: over a database with one assertion, `any $a |- ph $.`, the step `qed::any |- ps`.
 use Rattle.std.specs.Prelude.{ℕ, true, false, ◌==◌, if◌then◌else◌, List, [], ◌∷◌, Option, Some, None, codes}
-use Rattle.std.specs.Str.{bytes_eq}
 use Rattle.mm_base.specs.declared.symbols.Label.{Label}
 use Rattle.mm_base.specs.declared.symbols.Typecode.{Typecode}
 use Rattle.mm_base.specs.declared.tree.Tree.{Tree}
 use Rattle.mm_base.specs.declared.tree.Tree.TheVariants.{Var, Work}
-use Rattle.mm_base.specs.Outside.{Files}
 use Rattle.mm_model.specs.declared.frames.Frame.{Frame}
-use Rattle.mm_model.specs.Names.{Name, sym, label, typecode}
+use Rattle.mm_model.specs.Names.{sym, label, typecode}
 use Rattle.mm_model.specs.Statements.{Statement, statements}
 use Rattle.mm_model.specs.Frames.{frame_of, active_at, is_constant_at, place_after, float_codes}
 use Rattle.mm_model.specs.Productions.{TypedVariable}
@@ -22,12 +20,10 @@ use Rattle.solve_model.specs.Verdicts.{accepted, asked}
 use Rattle.solve_model.specs.BoundExamples.{step as bound_step}
 use Rattle.solve_model.specs.ExampleSheets.{sheet, sheet_text}
 use Rattle.written_model.specs.declared.options.Options.{Options}
-use Rattle.written_model.specs.declared.options.ProofStyle.TheVariants as style
 use Rattle.written_model.specs.declared.report.ReportVerdict.TheVariants as report
-use Rattle.written_model.specs.CommandWords.{options_with}
 use Rattle.written_model.specs.WrittenSteps.{WrittenStep, step}
 use Rattle.written_model.specs.Written.{Writing}
-use Rattle.written_model.specs.WrittenExample.{written, used}
+use Rattle.written_model.specs.WrittenExample.{written, used, normal}
 
 -- ---- the database
 
@@ -82,22 +78,16 @@ db = record {
   usable = usable;
 }
 
--- ---- the call
-
-abbrev pub words : List Name
-words = codes "unify" ∷ codes "--proof=normal" ∷ codes "a.mm" ∷ codes "t.mmp" ∷ []
+-- ---- the worksheet
 
 abbrev pub options : Options
-options = options_with style.Normal
+options = normal
 
 abbrev pub read_text : List ℕ
 read_text = sheet_text (codes "t") (codes "?") (codes "qed::any |- ps" ∷ [])
 
 abbrev pub written_text_is : List ℕ
 written_text_is = sheet_text (codes "t") (codes "?") (codes "qed::any |- ps" ∷ codes "$= wps any $." ∷ [])
-
-abbrev pub files : Files
-files name = if bytes_eq name (codes "a.mm") then Some database_text else (if bytes_eq name (codes "t.mmp") then Some read_text else None)
 
 -- ---- what the worksheet becomes
 

@@ -1,6 +1,7 @@
 -- The written worksheet, and the answer to a worksheet.
-use Rattle.std.specs.Prelude.{◌≡◌, ℕ, ◌-◌, ◌^◌, ◌<◌, ◌≤◌, Bool, true, ◌↔◌, min, IsTrue, List, [], ◌∷◌, length, map, if◌then◌else◌, option_and_then, unwrap_or, Option, Some, None}
+use Rattle.std.specs.Prelude.{◌≡◌, ℕ, ◌<◌, ◌≤◌, Bool, true, ◌↔◌, IsTrue, List, [], ◌∷◌, length, map, if◌then◌else◌, option_and_then, unwrap_or, Option, Some, None}
 use Rattle.std.specs.List.{AllZip, last_or}
+use Rattle.fault_lines.specs.Refusals.{Refusal, at_line, too_much, formula_too_long, written_two_trees, too_much_written, proof_too_long, too_large, told_number}
 use Rattle.mm_base.specs.declared.symbols.Pair.{Pair}
 use Rattle.mm_base.specs.declared.tree.Tree.{Tree}
 use Rattle.mm_model.specs.declared.rows.Leaf.{Leaf}
@@ -135,19 +136,6 @@ pub record Writes (db : Database) (text : List ℕ) (options : Options) (w : Wri
   pub finished : IsTrue w.finished ↔ Finished options.dv w.bound.pairs (steps_in w.items)
 
 -- ---- the answer
-
--- a fault of a worksheet, with what is told of it. A number above 2^64 - 1 is told as 2^64 - 1
-pub data Refusal : Type 0 where
-  at_line : Fault → Refusal
-  too_much : ℕ → Refusal
-  formula_too_long : Name → ℕ → Refusal
-  written_two_trees : Name → Refusal
-  too_much_written : ℕ → Refusal
-  proof_too_long : ℕ → Refusal
-  too_large : ℕ → Refusal
-
-abbrev pub told_number : ℕ → ℕ
-told_number n = min n (2 ^ 64 - 1)
 
 module _ (db : Database) (options : Options) (w : Writing) where
   abbrev pub step_tokens : WrittenStep → List Name

@@ -1,11 +1,10 @@
 -- What `verify` says of the labels of a small database, computed.
-use Rattle.std.specs.Prelude.{◌≡◌, ℕ, List, None, codes, refl}
+use Rattle.std.specs.Prelude.{ℕ, List, codes, refl}
 use Rattle.mm_model.specs.Faults.{fault}
-use Rattle.mm_model.specs.Names.{Name}
 use Rattle.mm_model.specs.Statements.{Statement, statements}
 use Rattle.proof_model.specs.Codes.{normal_code}
 use Rattle.proof_model.specs.ExampleFrames.{split}
-use Rattle.written_model.specs.Verified.{Verdict, no_theorem, bad_code, refused, accepted, IsVerdictOver}
+use Rattle.call_answers.specs.Verified.{no_theorem, bad_code, refused, accepted, IsVerdictOver}
 
 -- the first axiom of implication, and theorems with a normal proof, a fault of the code, another formula and no words
 abbrev text : List ℕ

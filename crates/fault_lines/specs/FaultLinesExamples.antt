@@ -2,8 +2,8 @@
 use Rattle.std.specs.Prelude.{◌≡◌, [], ◌∷◌, map, codes, refl}
 use Rattle.std.specs.Fmt.{digits}
 use Rattle.mm_model.specs.Faults.{fault}
-use Rattle.written_model.specs.Written.{at_line, too_much, formula_too_long, written_two_trees, too_much_written, proof_too_long, too_large}
-use Rattle.written_model.specs.FaultLines.{database_line, refusal_line, code_line, proof_line, no_theorem_line, accepted_line}
+use Rattle.fault_lines.specs.Refusals.{at_line, too_much, formula_too_long, written_two_trees, too_much_written, proof_too_long, too_large}
+use Rattle.fault_lines.specs.FaultLines.{database_line, refusal_line, code_line, proof_line, no_theorem_line, accepted_line}
 
 pub of_database : database_line (fault 13 12) ≡ codes "database error 12 Redeclared at byte 13"
 unfolding digits

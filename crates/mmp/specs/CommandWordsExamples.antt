@@ -3,7 +3,7 @@ use Rattle.std.specs.Prelude.{◌≡◌, List, [], ◌∷◌, map, Option, Some,
 use Rattle.mm_model.specs.Names.{Name}
 use Rattle.written_model.specs.declared.options.ProofStyle.{ProofStyle}
 use Rattle.written_model.specs.declared.options.ProofStyle.TheVariants as style
-use Rattle.written_model.specs.CommandWords.{Command, unify, verify, command_of, options_with}
+use Rattle.mmp.specs.CommandWords.{Command, unify, verify, command_of, options_with}
 
 abbrev with : ProofStyle → Option Command
 with s = Some (unify (record { options = options_with s; database = codes "P.mm"; sheet = codes "r.mmp" }))

@@ -4,7 +4,7 @@ use Rattle.std.specs.Option.{option_map_or}
 use Rattle.mm_model.specs.Names.{Name}
 use Rattle.mm_model.specs.Faults.{Fault}
 use Rattle.sheet_text.specs.Layout.{spaced}
-use Rattle.written_model.specs.Written.{Refusal, at_line, too_much, formula_too_long, written_two_trees, too_much_written, proof_too_long, too_large}
+use Rattle.fault_lines.specs.Refusals.{Refusal, at_line, too_much, formula_too_long, written_two_trees, too_much_written, proof_too_long, too_large}
 
 -- the faults of a database by their codes
 abbrev pub database_faults : List (ℕ × Name)

@@ -1,0 +1,22 @@
+//! Laws of the answer to a call. Each is the contract of a function that does nothing.
+#![tactic(auto)]
+
+ghost use Rattle.std.specs.Prelude.{ℕ, List};
+ghost use Rattle.mm_model.specs.Book.{Database};
+ghost use Rattle.written_model.specs.declared.options.Options.{Options};
+ghost use Rattle.call_answers.specs.declared.ending.Ending.{Ending};
+ghost use Rattle.written_model.specs.Written.{Answer};
+ghost use Rattle.headline_laws.specs.Unified.{AnswerIsUnified};
+
+use answer_laws::answer_is_fixed;
+use push_laws::{written_proof_is_accepted, written_without_proof};
+
+/// A call that gives the answer to a worksheet says all that is said of it: a finished worksheet carries a proof that is
+/// accepted, an unfinished one none, and unifying what was written writes it again.
+pub fn answer_is_unified()
+    ensures { (db : Database) (text : List ℕ) (options : Options) (answer : Answer) (end : Ending) → AnswerIsUnified db text options answer end }
+{
+    written_proof_is_accepted();
+    written_without_proof();
+    answer_is_fixed();
+}

@@ -1,0 +1,2 @@
+pub mod TrialExamples
+pub mod TrialTexts
