@@ -1,3 +1,11 @@
+ghost use Rattle.std.specs.Prelude.{◌≡◌, ◌<◌, ◌^◌, length, IsSome};
+ghost use Rattle.std.specs.List.{AllByRecursion};
+ghost use Rattle.mm_database.specs.Books.{parsed_at};
+ghost use Rattle.term_model.specs.Store.{IsSolved};
+ghost use Rattle.written_model.specs.Existence.{IsPlaceIn};
+ghost use Rattle.step_chain.specs.Grown.{AreIdsIn};
+ghost use Rattle.step_chain.specs.Tried.{IsExtended};
+
 use crate::trying::take;
 use chain_laws::VariableNode;
 use mm_base::{Label, List, Memory};
@@ -28,7 +36,15 @@ pub fn accept(
     label: Label,
     formula: Id,
     places: &[Given],
-) -> Result<Option<Accepted>, Memory> {
+) -> Result<Option<Accepted>, Memory>
+    requires usable { IsSome (parsed_at db.now.parsed label) }
+    requires formulas { AreIdsIn (length arena.old.nodes) formulas.now }
+    requires places { AllByRecursion (IsPlaceIn (length formulas.now)) places.now }
+    requires few { length places.now < 2 ^ 32 }
+    requires formula { formula.0 < length arena.old.nodes }
+    requires solved { IsSolved arena.old.nodes arena.old.links }
+    ensures extended { IsExtended arena.old arena.new }
+{
     let Some(frame) = db.frames().frame(label) else {
         return Ok(None);
     };
