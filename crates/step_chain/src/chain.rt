@@ -65,6 +65,11 @@ impl<'a> Chain<'a> {
         self.formulas[i as usize]
     }
 
+    /// What is kept of a step that was accepted; none of another.
+    pub fn accepted(&self, i: u32) -> Option<&Accepted> {
+        self.steps[i as usize].accepted.as_ref()
+    }
+
     /// The order in which an accepted step fits, as positions in its places.
     pub fn order(&self, i: u32) -> &List<u32> {
         match &self.steps[i as usize].accepted {

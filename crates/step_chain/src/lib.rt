@@ -14,6 +14,7 @@ mod standing;
 mod tests;
 mod trying;
 
+pub use candidate::Accepted;
 pub use chain::Chain;
 pub use chain_laws::{VariableNode, WorkNode};
 pub use reading::{TreeFault, Trees};

@@ -1,0 +1,5 @@
+//! Tests of unifying.
+#![tactic(auto)]
+
+#[cfg(test)]
+mod first;
