@@ -144,6 +144,28 @@ pub fn bind_sheet(
     }
 }
 
+/// The theorem of a worksheet over the database that was opened with these kinds. It takes one pass over the statements of
+/// the database.
+pub fn sheet_theorem(
+    alloc: Global,
+    db: &Database,
+    kinds: &Kinds,
+    sheet: &Sheet,
+) -> Result<Theorem, Memory> {
+    let place = place_of(alloc, db.frames(), kinds, sheet)?;
+    match proved_of(alloc, db, sheet, place) {
+        Err(_) => Err(Memory),
+        Ok(
+            Proved {
+                place: _,
+                existing: _,
+                pairs: _,
+                theorem,
+            },
+        ) => Ok(theorem),
+    }
+}
+
 fn has_few_statements(frames: &Frames)
     ensures { length frames.now.entries < 4294967296 }
 {

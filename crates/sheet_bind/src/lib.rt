@@ -15,6 +15,6 @@ mod theorem;
 mod tokens;
 mod work_size;
 
-pub use binding::bind_sheet;
+pub use binding::{bind_sheet, sheet_theorem};
 pub use faults::{BindCode, BindFault};
 pub use solve_model::{Bound, BoundStep};

@@ -1,0 +1,10 @@
+//! The proof of a finished worksheet, as it is written.
+#![tactic(auto)]
+
+mod coder;
+mod graph;
+mod normal;
+mod steps;
+mod text;
+
+pub use text::{ProofFault, written_proof};

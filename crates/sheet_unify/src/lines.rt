@@ -1,0 +1,94 @@
+use crate::words::put_word;
+use mm_base::{Bytes, List, Memory, Name, Pair, Sym};
+use mm_database::Database;
+use mm_frames::Frames;
+use std::alloc::Global;
+use written_model::{ReportLine, ReportVerdict};
+
+/// The words of a verdict.
+fn verdict_words(verdict: ReportVerdict) -> &'static [u8] {
+    match verdict {
+        ReportVerdict::Hyp => b"hyp",
+        ReportVerdict::Fits => b"fits",
+        ReportVerdict::Found => b"found",
+        ReportVerdict::NoFit => b"no fit",
+        ReportVerdict::UnknownRef => b"unknown",
+        ReportVerdict::NotUsable => b"not usable",
+        ReportVerdict::TooManyHyps => b"too many hypotheses",
+        ReportVerdict::NoRef => b"no reference",
+    }
+}
+
+/// Whether a line with a verdict shows the step's reference.
+fn shows_reference(verdict: ReportVerdict) -> bool {
+    match verdict {
+        ReportVerdict::Hyp => false,
+        ReportVerdict::NoRef => false,
+        _ => true,
+    }
+}
+
+fn put_reference(
+    line: &mut Vec<u8>,
+    verdict: ReportVerdict,
+    reference: &Option<Name>,
+) -> Result<(), Memory> {
+    if !shows_reference(verdict) {
+        return Ok(());
+    }
+    match reference {
+        None => Ok(()),
+        Some(label) => put_word(line, label.as_slice()),
+    }
+}
+
+fn put_clash(line: &mut Vec<u8>, frames: &Frames, clash: Option<Sym>) -> Result<(), Memory> {
+    match clash {
+        None => Ok(()),
+        Some(shared) => {
+            put_word(line, b"clash")?;
+            put_word(line, frames.symbol_name(shared))
+        }
+    }
+}
+
+fn put_lack(line: &mut Vec<u8>, frames: &Frames, lack: Option<Pair>) -> Result<(), Memory> {
+    match lack {
+        None => Ok(()),
+        Some(pair) => {
+            put_word(line, b"needs")?;
+            put_word(line, frames.symbol_name(pair.a))?;
+            put_word(line, frames.symbol_name(pair.b))
+        }
+    }
+}
+
+/// The line on a step.
+fn report_line(alloc: Global, frames: &Frames, report: &ReportLine) -> Result<Bytes, Memory> {
+    let mut line = Vec::from_slice(alloc, report.name.as_slice())?;
+    put_word(&mut line, verdict_words(report.verdict))?;
+    put_reference(&mut line, report.verdict, &report.reference)?;
+    put_clash(&mut line, frames, report.clash)?;
+    put_lack(&mut line, frames, report.lack)?;
+    Ok(List::from_vec(line))
+}
+
+fn last_line(finished: bool) -> &'static [u8] {
+    if finished { b"finished" } else { b"not finished" }
+}
+
+/// The lines of a report over the symbols of this database, one for each step in order, and a last one that says whether the
+/// worksheet is finished; without line feeds.
+pub fn report_lines(
+    alloc: Global,
+    db: &Database,
+    report: &List<ReportLine>,
+    finished: bool,
+) -> Result<List<Bytes>, Memory> {
+    let mut lines = Vec::new(alloc);
+    for line in report.as_slice() {
+        lines.push(report_line(alloc, db.frames(), line)?)?;
+    }
+    lines.push(List::from_vec(Vec::from_slice(alloc, last_line(finished))?))?;
+    Ok(List::from_vec(lines))
+}

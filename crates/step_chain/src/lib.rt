@@ -1,0 +1,21 @@
+//! The steps of a bound worksheet, taken one after the other into one store of shared terms.
+#![tactic(auto)]
+
+mod adding;
+mod candidate;
+mod chain;
+mod copies;
+mod formulas;
+mod joining;
+mod orders;
+mod reading;
+mod standing;
+#[cfg(test)]
+mod tests;
+mod trying;
+
+pub use candidate::Accepted;
+pub use chain::Chain;
+pub use chain_laws::{VariableNode, WorkNode};
+pub use reading::{TreeFault, Trees};
+pub use solve_model::Verdict;

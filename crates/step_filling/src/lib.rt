@@ -1,0 +1,13 @@
+//! The steps of a judged worksheet with their missing places filled: by earlier steps of the formulas that are wanted, or by
+//! new steps.
+#![tactic(auto)]
+
+mod fault;
+mod filling;
+mod names;
+mod reading;
+mod table;
+mod wanted;
+
+pub use fault::FillFault;
+pub use filling::fill_items;

@@ -1,0 +1,20 @@
+use mm_base::{List, Memory};
+use sheet_text::Given;
+use std::alloc::Global;
+
+/// The place of a number; a `?` past the last.
+fn place_at(places: &[Given], number: u32) -> Given {
+    match places.get(number as usize) {
+        Some(place) => *place,
+        None => Given::Gap,
+    }
+}
+
+/// The places in an order that has their numbers.
+pub fn in_order(alloc: Global, places: &[Given], order: &[u32]) -> Result<List<Given>, Memory> {
+    let mut ordered = Vec::new(alloc);
+    for number in order {
+        ordered.push(place_at(places, *number))?;
+    }
+    Ok(List::from_vec(ordered))
+}
