@@ -1,3 +1,6 @@
+ghost use Rattle.std.specs.Prelude.{◌≡◌, map, IfOk};
+ghost use Rattle.written_steps.specs.Drafts.{drafts_in, refs};
+
 use mm_base::{Bytes, Label, List, Memory, Name, Tree};
 use sheet_text::Given;
 use std::alloc::Global;
@@ -40,7 +43,9 @@ pub enum DraftItem {
 }
 
 /// The steps alone, in order. It takes memory for a reference to each.
-pub fn draft_steps(alloc: Global, items: &[DraftItem]) -> Result<Vec<&DraftStep>, Memory> {
+pub fn draft_steps(alloc: Global, items: &[DraftItem]) -> Result<Vec<&DraftStep>, Memory>
+    ensures { IfOk result (λ steps. refs steps.items ≡ drafts_in items.now) }
+{
     let mut steps = Vec::new(alloc);
     for item in items {
         if let DraftItem::Step(step) = item {
