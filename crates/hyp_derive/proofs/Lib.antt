@@ -1,3 +1,4 @@
 pub mod FillLaws
+pub mod HashLaws
 pub mod NameLaws
 pub mod SameLaws

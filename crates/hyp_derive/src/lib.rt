@@ -2,10 +2,14 @@
 #![tactic(auto)]
 
 mod filling;
+mod hash;
 mod naming;
+mod places;
 mod same;
+mod tree_index;
 
 pub use filling::fill;
 pub use naming::step_name;
 pub use same::is_same;
+pub use tree_index::TreeIndex;
 pub use written_model::Filled;
