@@ -3,12 +3,14 @@
 
 mod filling;
 mod hash;
+mod indexed;
 mod naming;
 mod places;
 mod same;
 mod tree_index;
 
 pub use filling::fill;
+pub use indexed::fill_from;
 pub use naming::step_name;
 pub use same::is_same;
 pub use tree_index::TreeIndex;

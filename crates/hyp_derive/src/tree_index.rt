@@ -21,23 +21,37 @@ pub struct TreeIndex {
 impl Model for TreeIndex {
     ghost use Rattle.std.specs.Prelude.{List};
     ghost use Rattle.mm_base.specs.declared.tree.Tree.{Tree};
+    ghost use Rattle.mm_base.specs.contracts.tree.Tree as tree_contract;
+    ghost use Rattle.std.specs.Coded.{codes};
     ghost use Rattle.hyp_derive.specs.Indexing.{IsIndexOf};
 
     ghost Value = { List Tree };
+
+    ghost coded = { Prim.hlevel (codes, tree_contract.the_row.coded) };
 
     ghost view = { λ index. index.trees.items };
 
     ghost invariant = { λ index. IsIndexOf index.places index.trees.items };
 }
 
+/// Whether an equal tree stands at the place.
+fn stands_at(trees: &[Tree], tree: &Tree, place: u32) -> bool
+    ensures { result ≡ is_at trees.now tree.now place }
+{
+    match trees.get(place as usize) {
+        Some(other) => is_same(tree, other),
+        None => false,
+    }
+}
+
 /// The first of these places at which an equal tree stands.
 fn first_same(trees: &[Tree], places: &[u32], tree: &Tree) -> Option<u32>
     ensures { result ≡ find (is_at trees.now tree.now) places.now }
 {
-    places.iter().copied().find(|place| match trees.get(*place as usize) {
-        Some(other) => is_same(tree, other),
-        None => false,
-    })
+    places
+        .iter()
+        .copied()
+        .find(|place| stands_at(trees, tree, *place))
 }
 
 impl TreeIndex {
@@ -64,11 +78,13 @@ impl TreeIndex {
         }
         let hash = tree_hash(&tree);
         self.trees.push(tree)?;
-        let added = self.places.add(self.alloc, hash, place as u32);
-        if added.is_err() {
-            self.trees.truncate(place);
+        match self.places.add(self.alloc, hash, place as u32) {
+            Ok(()) => Ok(()),
+            Err(error) => {
+                self.trees.truncate(place);
+                Err(error)
+            }
         }
-        added
     }
 
     /// The number of the first tree that equals this one; none where no tree does. It reads the tree once, and compares
