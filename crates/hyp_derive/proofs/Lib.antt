@@ -2,4 +2,5 @@ pub mod FillLaws
 pub mod HashLaws
 pub mod IndexLaws
 pub mod NameLaws
+pub mod NewNameLaws
 pub mod SameLaws

@@ -7,11 +7,13 @@ mod indexed;
 mod naming;
 mod places;
 mod same;
+mod step_names;
 mod tree_index;
 
 pub use filling::fill;
 pub use indexed::fill_from;
 pub use naming::step_name;
 pub use same::is_same;
+pub use step_names::StepNames;
 pub use tree_index::TreeIndex;
 pub use written_model::Filled;

@@ -1,0 +1,87 @@
+-- The least number that makes a name not used, over lists that have the same names.
+use Rattle.std.proofs.Common.{◌≡◌, ℕ, zero, suc, ◌+◌, ◌<◌, ◌≤◌, ◌^◌, Bool, true, false, ◌||◌, cond, ◌-◌, List, [], ◌∷◌, ◌++◌, map, length, unwrap_or, codes, decimal, refl, sym, ap, subst, ◌∙◌, inl, inr, add-one, arith}
+use Rattle.std.specs.Cmp.{IsEquivalence}
+use Rattle.std.specs.List.{AllByRecursion, IsDistinct, range_with_len}
+use Rattle.std.specs.Set.{is_member}
+use Rattle.std.specs.Str.{bytes_eq}
+use Rattle.std.proofs.lemmas.Bool.{cases_Bool, or_cases, or_left, or_right}
+use Rattle.std.proofs.lemmas.Fmt.{decimal_injective}
+use Rattle.std.proofs.lemmas.List.{append_cancel_left}
+use Rattle.std.proofs.lemmas.List.FromFn.{length-map-range_with_len}
+use Rattle.std.proofs.lemmas.Map.Made.{length-le_from_is_member}
+use Rattle.std.proofs.lemmas.Slice.Eq.{bytes_eq-Decides}
+use Rattle.std.proofs.Math.Nat.{eq-or-lt_of_le}
+use Rattle.mm_model.specs.Names.{Name, contains}
+use Rattle.solve_model.specs.Firsts.{IsLeast}
+use Rattle.written_model.specs.Filled.{derived_name}
+use Rattle.hyp_derive.specs.Naming.{numbered_name, with_name, AreUsedBelow, HaveSameNames, IsLeastNew}
+use Rattle.hyp_derive.proofs.NameLaws.{other_test, find_first, contains_more}
+
+-- ---- a list has no more names than another that has them all
+
+same_bytes : (a b : Name) → bytes_eq a b ≡ true → a ≡ b
+same_bytes a b e = (bytes_eq-Decides a b).0 e
+
+bytes_itself : (a : Name) → bytes_eq a a ≡ true
+bytes_itself a = (bytes_eq-Decides a a).1 refl
+
+turned : (a b : Name) (p q : Bool) → bytes_eq a b ≡ p → bytes_eq b a ≡ q → p ≡ q
+turned a b true true e f = refl
+turned a b true false e f = sym (sym (ap (λ x. bytes_eq x a) (same_bytes a b e)) ∙ bytes_itself a) ∙ f
+turned a b false true e f = sym e ∙ ap (λ x. bytes_eq x b) (sym (same_bytes b a f)) ∙ bytes_itself b
+turned a b false false e f = refl
+
+bytes_equivalence : IsEquivalence bytes_eq
+bytes_equivalence = record {
+  refl = bytes_itself;
+  symm = λ a b. turned a b (bytes_eq a b) (bytes_eq b a) refl refl;
+  congr = λ a b c e. ap (λ x. bytes_eq x c) (same_bytes a b e);
+}
+
+numbers_differ : (n m : ℕ) → n < 2 ^ 64 → m < 2 ^ 64 → (n ≡ m → ⊥) → bytes_eq (numbered_name n) (numbered_name m) ≡ false
+numbers_differ n m h k d = other_test n (numbered_name m) (λ is. d (decimal_injective n m h k (append_cancel_left (codes "d") (decimal n) (decimal m) (sym is))))
+
+later_differ : (a b n : ℕ) → a < b → b + n ≤ 2 ^ 64 → AllByRecursion (λ name. bytes_eq (numbered_name a) name ≡ false) (map numbered_name (range_with_len b n))
+later_differ a b zero l h = tt
+later_differ a b (suc n) l h = (numbers_differ a b (omega arith) (omega arith) (λ e. omega (arith, e, l)), later_differ a (b + 1) n (omega arith) (omega arith))
+
+range_distinct : (a n : ℕ) → a + n ≤ 2 ^ 64 → IsDistinct bytes_eq (map numbered_name (range_with_len a n))
+unfolding IsDistinct
+range_distinct a zero h = tt
+range_distinct a (suc n) h = (later_differ a (a + 1) n (omega arith) (omega arith), range_distinct (a + 1) n (omega arith))
+
+range_inside : (used : List Name) (a n : ℕ) → ((k : ℕ) → a ≤ k → k < a + n → contains used (numbered_name k) ≡ true) → (name : Name)
+    → is_member bytes_eq (map numbered_name (range_with_len a n)) name ≡ true → is_member bytes_eq used name ≡ true
+range_inside used a zero h name e = absurd (cc)
+range_inside used a (suc n) h name e = elim (or_cases (bytes_eq name (numbered_name a)) (is_member bytes_eq (map numbered_name (range_with_len (a + 1) n)) name) e) [
+  | inl s ↦ ap (contains used) (same_bytes name (numbered_name a) s) ∙ h a (omega arith) (omega arith)
+  | inr l ↦ range_inside used (a + 1) n (λ k from to. h k (omega (arith, from)) (omega (arith, to))) name l
+]
+
+pub used_bounded : (used : List Name) (m : ℕ) → m < 2 ^ 64 → ((n : ℕ) → 1 ≤ n → n < 1 + m → contains used (numbered_name n) ≡ true) → m ≤ length used
+used_bounded used m small h =
+    let count = length-map-range_with_len numbered_name 1 m in
+    let less = length-le_from_is_member bytes_equivalence (map numbered_name (range_with_len 1 m)) used (range_distinct 1 m (omega arith)) (range_inside used 1 m h) in
+    omega (arith, count, less)
+
+-- ---- the least number
+
+pub least_below : (used : List Name) (k : ℕ) → IsLeastNew used k → AreUsedBelow used k
+least_below used k least = record { from_one = least.from_one; are_used = λ n from to. told n from to (contains used (numbered_name n)) refl }
+  where
+    told : (n : ℕ) → 1 ≤ n → n < k → (b : Bool) → contains used (numbered_name n) ≡ b → contains used (numbered_name n) ≡ true
+    told n from to true e = e
+    told n from to false e = let most = least.least n from e in absurd (omega (arith, most, to))
+
+pub no_end : (used : List Name) (k : ℕ) → AreUsedBelow used k → length used + 2 ≤ k → length used + 2 < 2 ^ 64 → ⊥
+no_end used k below h small =
+    let less = used_bounded used (length used + 1) (omega (arith, small)) (λ n from to. below.are_used n from (omega (arith, to, h))) in
+    omega (arith, less)
+
+pub least_is_derived : (used other : List Name) (k : ℕ) → HaveSameNames used other → IsLeastNew used k → k < 2 ^ 64 → numbered_name k ≡ derived_name other
+least_is_derived used other k have least small =
+    let below = least_below used k least in
+    let inside : (n : ℕ) → 1 ≤ n → n < k → contains other (numbered_name n) ≡ true = λ n from to. sym (have.same (numbered_name n)) ∙ below.are_used n from to in
+    let bounded = used_bounded other (k - 1) (omega (arith, small)) (λ n from to. inside n from (omega (arith, to, least.from_one))) in
+    let free : contains other (numbered_name k) ≡ false = sym (have.same (numbered_name k)) ∙ least.holds in
+    ap (λ o. unwrap_or o []) (sym (find_first other (suc (length other)) 1 k least.from_one (omega (arith, bounded)) free inside))
