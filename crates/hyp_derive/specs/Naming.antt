@@ -1,6 +1,8 @@
 -- Names of new steps, by their numbers.
 use Rattle.std.specs.Prelude.{◌≡◌, ℕ, ◌<◌, ◌≤◌, ◌^◌, ◌++◌, true, false, List, [], ◌∷◌, length, decimal, codes, if◌then◌else◌}
 use Rattle.mm_model.specs.Names.{Name, contains}
+use Rattle.sheet_text.specs.declared.sheet.SheetItem.{SheetItem}
+use Rattle.sheet_text.specs.declared.sheet.SheetItem.TheVariants as item
 use Rattle.solve_model.specs.Firsts.{IsLeast}
 use Rattle.work_vars.specs.Free.{is_used}
 
@@ -34,3 +36,8 @@ pub record AreUsedBelow (used : List Name) (number : ℕ) : Type 0 where
 -- the number is the least from 1 that makes a name not used
 abbrev pub IsLeastNew : List Name → ℕ → Type 0
 IsLeastNew used number = IsLeast (λ n. contains used (numbered_name n) ≡ false) number
+
+-- the name of an item that is a step
+abbrev pub item_names : SheetItem → List Name
+item_names (item.Comment lines) = []
+item_names (item.Step s) = s.name ∷ []

@@ -1,11 +1,13 @@
-ghost use Rattle.std.specs.Prelude.{◌≡◌, ◌<◌, ◌^◌, ◌++◌, [], ◌∷◌, List, IfOk, OnOk, OnErr};
+ghost use Rattle.std.specs.Prelude.{◌≡◌, ◌≤◌, ◌++◌, ℕ, [], ◌∷◌, List, IfOk, OnOk, OnErr};
 ghost use Rattle.mm_model.specs.Names.{Name, contains};
+ghost use Rattle.sheet_text.specs.Layout.{step_names};
 ghost use Rattle.written_model.specs.Filled.{derived_name, derived_names};
-ghost use Rattle.hyp_derive.specs.Naming.{numbered_name, with_name, AreUsedBelow, HaveSameNames, IsLeastNew};
+ghost use Rattle.hyp_derive.specs.Naming.{numbered_name, item_names, with_name, AreUsedBelow, HaveSameNames, IsLeastNew};
 
 use crate::naming::derived;
 use mm_base::{List, Memory, Name};
 use names::Names;
+use sheet_text::{Sheet, SheetItem};
 use std::alloc::Global;
 use std::marker::Model;
 
@@ -64,7 +66,29 @@ fn least_new(alloc: Global, names: &Names, next: u64) -> Result<u64, Memory>
     unreachable!()
 }
 
+/// Puts in the name of an item that is a step.
+fn put_item(names: &mut StepNames, item: &SheetItem) -> Result<(), Memory>
+    ensures { OnOk result ((used : List Name) → HaveSameNames names.old used → HaveSameNames names.new (used ++ item_names item.now)) }
+{
+    match item {
+        SheetItem::Comment(_) => Ok(()),
+        SheetItem::Step(step) => names.add(step.name.as_slice()),
+    }
+}
+
 impl StepNames {
+    /// The names of the steps of a worksheet. It takes memory for a copy of each. `Memory`: there is no room for them, or
+    /// there are more than 2^32 - 1.
+    pub fn of(alloc: Global, sheet: &Sheet) -> Result<StepNames, Memory>
+        ensures { IfOk result (λ used. HaveSameNames used (step_names sheet.now)) }
+    {
+        let mut used = StepNames::new(alloc);
+        for item in sheet.items.as_slice() {
+            put_item(&mut used, item)?;
+        }
+        Ok(used)
+    }
+
     /// No names. It takes no memory.
     pub fn new(alloc: Global) -> StepNames
         ensures { result ≡ [] }
@@ -80,6 +104,7 @@ impl StepNames {
     /// there are 2^32 - 1 names; the names stay as they were.
     pub fn add(&mut self, name: &[u8]) -> Result<(), Memory>
         ensures added { OnOk result (self.new ≡ with_name self.old name.now) }
+        ensures extended { OnOk result ((used : List Name) → HaveSameNames self.old used → HaveSameNames self.new (used ++ name.now ∷ [])) }
         ensures same { OnErr result (self.new ≡ self.old) }
     {
         add_name(&mut self.names, name)
@@ -98,5 +123,18 @@ impl StepNames {
         add_name(&mut self.names, name.as_slice())?;
         self.next = number;
         Ok(name)
+    }
+    /// So many new names, one after the other, each as `derive` gives it. `Memory`: there is no room for them; some of
+    /// them may then be used.
+    pub fn derive_all(&mut self, count: usize) -> Result<List<Name>, Memory>
+        ensures names { IfOk result (λ names. (used : List Name) → HaveSameNames self.old used → names ≡ derived_names count used) }
+        ensures added { IfOk result (λ names. self.new ≡ self.old ++ names) }
+        ensures some { OnErr result ((k : ℕ) × (k ≤ count) × (self.new ≡ self.old ++ derived_names k self.old)) }
+    {
+        let mut names = Vec::new(self.alloc);
+        for _ in 0..count {
+            names.push(self.derive()?)?;
+        }
+        Ok(List::from_vec(names))
     }
 }
