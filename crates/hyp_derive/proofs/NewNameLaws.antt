@@ -1,10 +1,10 @@
 -- The least number that makes a name not used, over lists that have the same names.
-use Rattle.std.proofs.Common.{◌≡◌, ℕ, zero, suc, ◌+◌, ◌-◌, ◌<◌, ◌≤◌, ◌^◌, Bool, true, false, ◌||◌, cond, take, get_or, append_assoc, append-nil, List, [], ◌∷◌, ◌++◌, map, length, unwrap_or, codes, decimal, refl, sym, ap, subst, ◌∙◌, inl, inr, add-one, arith}
+use Rattle.std.proofs.Common.{◌≡◌, ℕ, zero, suc, ◌+◌, ◌-◌, ◌<◌, ◌≤◌, ◌^◌, Bool, true, false, ◌||◌, cond, take, get_or, append_assoc, append-nil, List, [], ◌∷◌, ◌++◌, map, length, unwrap_or, codes, decimal, refl, sym, ap, ◌∙◌, inl, inr, add-one, arith}
 use Rattle.std.specs.Cmp.{IsEquivalence}
 use Rattle.std.specs.List.{AllByRecursion, IsDistinct, filter_map, range_with_len}
 use Rattle.std.specs.Set.{is_member}
 use Rattle.std.specs.Str.{bytes_eq}
-use Rattle.std.proofs.lemmas.Bool.{cases_Bool, or_cases, or_left, or_right}
+use Rattle.std.proofs.lemmas.Bool.{cases_Bool, or_cases, or_right}
 use Rattle.std.proofs.lemmas.Fmt.{decimal_injective}
 use Rattle.std.proofs.lemmas.List.{append_cancel_left, take_more, map-append}
 use Rattle.std.proofs.lemmas.List.Elements.{filter_map-append}
@@ -12,13 +12,11 @@ use Rattle.std.proofs.lemmas.List.Folds.{list_any-append}
 use Rattle.std.proofs.lemmas.List.FromFn.{length-map-range_with_len}
 use Rattle.std.proofs.lemmas.Map.Made.{length-le_from_is_member}
 use Rattle.std.proofs.lemmas.Slice.Eq.{bytes_eq-Decides}
-use Rattle.std.proofs.Math.Nat.{eq-or-lt_of_le}
 use Rattle.mm_model.specs.Names.{Name, contains}
 use Rattle.sheet_text.specs.Layout.{step_of_item}
 use Rattle.sheet_text.specs.declared.sheet.SheetItem.{SheetItem}
 use Rattle.sheet_text.specs.declared.sheet.SheetItem.TheVariants as item
 use Rattle.sheet_text.specs.declared.sheet.SheetStep.{SheetStep}
-use Rattle.solve_model.specs.Firsts.{IsLeast}
 use Rattle.written_model.specs.Filled.{derived_name, derived_names}
 use Rattle.hyp_derive.specs.Naming.{numbered_name, item_names, with_name, AreUsedBelow, HaveSameNames, IsLeastNew}
 use Rattle.hyp_derive.proofs.NameLaws.{other_test, find_first, contains_more}

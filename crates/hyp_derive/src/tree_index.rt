@@ -1,4 +1,4 @@
-ghost use Rattle.std.specs.Prelude.{◌≡◌, ◌<◌, ◌^◌, ◌++◌, [], ◌∷◌, length, position, slice_index_or, find, IfOk, OnOk, OnErr, ◌↔◌, IsErr};
+ghost use Rattle.std.specs.Prelude.{◌≡◌, ◌<◌, ◌^◌, ◌++◌, [], ◌∷◌, length, position, slice_get, find, OnOk, OnErr};
 ghost use Rattle.solve_model.specs.Trees.{same_tree};
 ghost use Rattle.hyp_derive.specs.Indexing.{is_at};
 
@@ -93,17 +93,13 @@ impl TreeIndex {
         ensures { result ≡ position (same_tree tree.now) self.now }
     {
         same_trees_are_equal();
-        first_same(
-            self.trees.as_slice(),
-            self.places.at(tree_hash(tree)),
-            tree,
-        )
+        first_same(self.trees.as_slice(), self.places.at(tree_hash(tree)), tree)
     }
 
     /// The tree of a number.
     pub fn get(&self, number: u32) -> &Tree
         requires { number < length self.now }
-        ensures { result.now ≡ slice_index_or self.now number result.now }
+        ensures { slice_get self.now number ≡ Some result.now }
     {
         &self.trees[number as usize]
     }

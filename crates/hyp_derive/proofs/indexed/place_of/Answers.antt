@@ -1,4 +1,4 @@
-use Rattle.std.proofs.Common.{◌≡◌, ◌+◌, ◌++◌, ℕ, Option, Some, position, ap, ◌∙◌}
+use Rattle.std.proofs.Common.{◌+◌, ℕ, Some, ap, ◌∙◌}
 use Rattle.solve_model.specs.Trees.{same_tree}
 use Rattle.hyp_derive.proofs.FillLaws.{pos_first, pos_second, pos_neither}
 use Rattle.hyp_derive.proofs.indexed.place_of.Goals as goal

@@ -8,5 +8,5 @@ pub returns-clause-extended : goal.returns-clause-extended
 returns-clause-extended c =
     IfOk-weaker c.add_name.result (λ _. c.add_name.new.names ≡ with_name c.self.inside.names c.args.name.now) _
     (λ _ e used have.
-      same_with c.self.inside.names c.add_name.new.names used c.args.name.now (subst (λ (names : List (List ℕ)). HaveSameNames names used) (sym c.self.view_is) have) e)
+    same_with c.self.inside.names c.add_name.new.names used c.args.name.now (subst (λ (names : List (List ℕ)). HaveSameNames names used) (sym c.self.view_is) have) e)
     c.add_name.ensures.added

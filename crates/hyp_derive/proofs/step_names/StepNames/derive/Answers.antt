@@ -1,4 +1,4 @@
-use Rattle.std.proofs.Common.{◌≡◌, ◌<◌, ◌^◌, List, ℕ, sym, subst, ◌∙◌, arith}
+use Rattle.std.proofs.Common.{◌<◌, ◌^◌, List, ℕ, sym, subst, ◌∙◌, arith}
 use Rattle.hyp_derive.specs.Naming.{HaveSameNames}
 use Rattle.hyp_derive.proofs.NewNameLaws.{least_is_derived}
 use Rattle.hyp_derive.proofs.step_names.StepNames.derive.Goals as goal
