@@ -1,4 +1,4 @@
-ghost use Rattle.std.specs.Prelude.{◌≡◌, ◌≤◌, ◌++◌, ℕ, [], ◌∷◌, List, IfOk, OnOk, OnErr};
+ghost use Rattle.std.specs.Prelude.{◌≡◌, ◌≤◌, ◌++◌, ℕ, [], ◌∷◌, List, false, IfOk, OnOk, OnErr};
 ghost use Rattle.mm_model.specs.Names.{Name, contains};
 ghost use Rattle.sheet_text.specs.Layout.{step_names};
 ghost use Rattle.written_model.specs.Filled.{derived_name, derived_names};
@@ -111,10 +111,11 @@ impl StepNames {
     }
 
     /// A name that is not used, for a new step, and from now on used: `d` and the least number from 1 that makes one.
-    /// Each call goes on at the number of the last one, so that all together look at each number at most twice. `Memory`: there is no room for the name, or there are 2^32 - 1; the
-    /// names stay as they were.
+    /// Each call goes on at the number of the last one, so that all together look at each number at most twice. `Memory`:
+    /// there is no room for the name, or there are 2^32 - 1; the names stay as they were.
     pub fn derive(&mut self) -> Result<Name, Memory>
         ensures name { IfOk result (λ name. (used : List Name) → HaveSameNames self.old used → name ≡ derived_name used) }
+        ensures is_new { IfOk result (λ name. contains self.old name ≡ false) }
         ensures added { IfOk result (λ name. self.new ≡ self.old ++ name ∷ []) }
         ensures same { OnErr result (self.new ≡ self.old) }
     {
@@ -124,6 +125,7 @@ impl StepNames {
         self.next = number;
         Ok(name)
     }
+
     /// So many new names, one after the other, each as `derive` gives it. `Memory`: there is no room for them; some of
     /// them may then be used.
     pub fn derive_all(&mut self, count: usize) -> Result<List<Name>, Memory>
