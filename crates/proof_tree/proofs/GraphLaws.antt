@@ -8,7 +8,7 @@ use Rattle.proof_tree.specs.Graphs.{NameEarlier, no_node, no_proof, proof_at, no
 
 -- ---- lists
 
-get_left : {X : Type 0} (xs ys : List X) (j : ℕ) (d : X) → j < length xs → get_or (xs ++ ys) j d ≡ get_or xs j d
+pub get_left : {X : Type 0} (xs ys : List X) (j : ℕ) (d : X) → j < length xs → get_or (xs ++ ys) j d ≡ get_or xs j d
 get_left [] ys j d h = absurd (omega arith)
 get_left (x ∷ xs) ys zero d h = refl
 get_left (x ∷ xs) ys (suc j) d h = get_left xs ys j d (omega arith)
@@ -22,17 +22,17 @@ all_at P [] i d h l = absurd (omega arith)
 all_at P (x ∷ xs) zero d h l = h.0
 all_at P (x ∷ xs) (suc i) d h l = all_at P xs i d h.1 (omega arith)
 
-map_where : {X : Type 0} (P : ℕ → Type 0) (f g : ℕ → X) → ((k : ℕ) → P k → f k ≡ g k) → (ks : List ℕ) → AllByRecursion P ks → map f ks ≡ map g ks
+pub map_where : {X : Type 0} (P : ℕ → Type 0) (f g : ℕ → X) → ((k : ℕ) → P k → f k ≡ g k) → (ks : List ℕ) → AllByRecursion P ks → map f ks ≡ map g ks
 map_where P f g e [] h = refl
 map_where P f g e (k ∷ ks) h = ap (λ x. x ∷ map f ks) (e k h.0) ∙ ap (λ xs. g k ∷ xs) (map_where P f g e ks h.1)
 
-one_longer : {X : Type 0} (xs : List X) (y : X) → length (xs ++ y ∷ []) ≡ length xs + 1
+pub one_longer : {X : Type 0} (xs : List X) (y : X) → length (xs ++ y ∷ []) ≡ length xs + 1
 one_longer [] y = refl
 one_longer (x ∷ xs) y = let rest = one_longer xs y in omega (arith, rest)
 
 -- ---- the proofs of nodes
 
-stable : (ns : List ProofNode) (acc : List Proof) (j : ℕ) → j < length acc → proof_at (fold with_node acc ns) j ≡ proof_at acc j
+pub stable : (ns : List ProofNode) (acc : List Proof) (j : ℕ) → j < length acc → proof_at (fold with_node acc ns) j ≡ proof_at acc j
 stable [] acc j h = refl
 stable (n ∷ ns) acc j h =
     let longer = one_longer acc (node_proof acc n) in
@@ -75,11 +75,11 @@ labels_below : (ps : List Proof) → postorders (proofs ps) ≡ labels_of ps
 labels_below [] = refl
 labels_below (p ∷ ps) = ap (λ ls. postorder p ++ ls) (labels_below ps)
 
-append_twice : {X : Type 0} (xs ys zs : List X) → (xs ++ ys) ++ zs ≡ xs ++ (ys ++ zs)
+pub append_twice : {X : Type 0} (xs ys zs : List X) → (xs ++ ys) ++ zs ≡ xs ++ (ys ++ zs)
 append_twice [] ys zs = refl
 append_twice (x ∷ xs) ys zs = ap (λ l. x ∷ l) (append_twice xs ys zs)
 
-append_none : {X : Type 0} (xs : List X) → xs ++ [] ≡ xs
+pub append_none : {X : Type 0} (xs : List X) → xs ++ [] ≡ xs
 append_none [] = refl
 append_none (x ∷ xs) = ap (λ l. x ∷ l) (append_none xs)
 
@@ -87,7 +87,7 @@ labels_append : (ps : List Proof) (p : Proof) → labels_of (ps ++ p ∷ []) ≡
 labels_append [] p = append_none (postorder p)
 labels_append (q ∷ ps) p = ap (λ ls. postorder q ++ ls) (labels_append ps p) ∙ sym (append_twice (postorder q) (labels_of ps) (postorder p))
 
-take_more : {X : Type 0} (xs : List X) (i : ℕ) (d : X) → i < length xs → take (i + 1) xs ≡ take i xs ++ get_or xs i d ∷ []
+pub take_more : {X : Type 0} (xs : List X) (i : ℕ) (d : X) → i < length xs → take (i + 1) xs ≡ take i xs ++ get_or xs i d ∷ []
 take_more xs i d h = rw add-one (by xs i h)
   where
     by : (xs : List _) (i : ℕ) → i < length xs → take (suc i) xs ≡ take i xs ++ get_or xs i d ∷ []
@@ -95,13 +95,13 @@ take_more xs i d h = rw add-one (by xs i h)
     by (x ∷ xs) zero h = refl
     by (x ∷ xs) (suc i) h = ap (λ l. x ∷ l) (by xs i (omega arith))
 
-take_whole : {X : Type 0} (xs : List X) (i : ℕ) → length xs ≤ i → take i xs ≡ xs
+pub take_whole : {X : Type 0} (xs : List X) (i : ℕ) → length xs ≤ i → take i xs ≡ xs
 take_whole [] zero h = refl
 take_whole [] (suc i) h = refl
 take_whole (x ∷ xs) zero h = absurd (omega arith)
 take_whole (x ∷ xs) (suc i) h = ap (λ l. x ∷ l) (take_whole xs i (omega arith))
 
-map_push : {X Y : Type 0} (f : X → Y) (xs : List X) (y : X) → map f (xs ++ y ∷ []) ≡ map f xs ++ f y ∷ []
+pub map_push : {X Y : Type 0} (f : X → Y) (xs : List X) (y : X) → map f (xs ++ y ∷ []) ≡ map f xs ++ f y ∷ []
 map_push f [] y = refl
 map_push f (x ∷ xs) y = ap (λ l. f x ∷ l) (map_push f xs y)
 
@@ -149,7 +149,7 @@ count_is earlier n h =
     swapped : (m t : ℕ) → t ≡ m + 1 → 1 + m ≡ t
     swapped m t e = omega (arith, e)
 
-fold_append : {A B : Type 0} (f : B → A → B) (b : B) (xs : List A) (y : A) → fold f b (xs ++ y ∷ []) ≡ f (fold f b xs) y
+pub fold_append : {A B : Type 0} (f : B → A → B) (b : B) (xs : List A) (y : A) → fold f b (xs ++ y ∷ []) ≡ f (fold f b xs) y
 fold_append f b [] y = refl
 fold_append f b (x ∷ xs) y = fold_append f (f b x) xs y
 
@@ -210,23 +210,23 @@ labels_of_append : (ps qs : List Proof) → labels_of (ps ++ qs) ≡ labels_of p
 labels_of_append [] qs = refl
 labels_of_append (p ∷ ps) qs = ap (λ ls. postorder p ++ ls) (labels_of_append ps qs) ∙ sym (append_twice (postorder p) (labels_of ps) (labels_of qs))
 
-map_append : {X Y : Type 0} (f : X → Y) (xs ys : List X) → map f (xs ++ ys) ≡ map f xs ++ map f ys
+pub map_append : {X Y : Type 0} (f : X → Y) (xs ys : List X) → map f (xs ++ ys) ≡ map f xs ++ map f ys
 map_append f [] ys = refl
 map_append f (x ∷ xs) ys = ap (λ l. f x ∷ l) (map_append f xs ys)
 
-all_append : {X : Type 0} (P : X → Type 0) (xs ys : List X) → AllByRecursion P xs → AllByRecursion P ys → AllByRecursion P (xs ++ ys)
+pub all_append : {X : Type 0} (P : X → Type 0) (xs ys : List X) → AllByRecursion P xs → AllByRecursion P ys → AllByRecursion P (xs ++ ys)
 all_append P [] ys h k = k
 all_append P (x ∷ xs) ys h k = (h.0, all_append P xs ys h.1 k)
 
-all_front : {X : Type 0} (P : X → Type 0) (xs ys : List X) → AllByRecursion P (xs ++ ys) → AllByRecursion P xs
+pub all_front : {X : Type 0} (P : X → Type 0) (xs ys : List X) → AllByRecursion P (xs ++ ys) → AllByRecursion P xs
 all_front P [] ys h = tt
 all_front P (x ∷ xs) ys h = (h.0, all_front P xs ys h.1)
 
-all_back : {X : Type 0} (P : X → Type 0) (xs ys : List X) → AllByRecursion P (xs ++ ys) → AllByRecursion P ys
+pub all_back : {X : Type 0} (P : X → Type 0) (xs ys : List X) → AllByRecursion P (xs ++ ys) → AllByRecursion P ys
 all_back P [] ys h = h
 all_back P (x ∷ xs) ys h = all_back P xs ys h.1
 
-all_weaker : {X : Type 0} (P Q : X → Type 0) → ((x : X) → P x → Q x) → (xs : List X) → AllByRecursion P xs → AllByRecursion Q xs
+pub all_weaker : {X : Type 0} (P Q : X → Type 0) → ((x : X) → P x → Q x) → (xs : List X) → AllByRecursion P xs → AllByRecursion Q xs
 all_weaker P Q e [] h = tt
 all_weaker P Q e (x ∷ xs) h = (e x h.0, all_weaker P Q e xs h.1)
 

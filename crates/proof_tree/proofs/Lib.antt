@@ -1,1 +1,3 @@
 pub mod GraphLaws
+pub mod AddLaws
+pub mod KeyLaws

@@ -14,12 +14,12 @@ NameEarlier at (n ∷ ns) = AllByRecursion (λ k. k < at) n.below × NameEarlier
 abbrev pub no_node : ProofNode
 no_node = record { label = []; below = [] }
 
-abbrev pub node_at : List ProofNode → ℕ → ProofNode
-node_at nodes k = slice_index_or nodes k no_node
+abbrev pub node_in : List ProofNode → ℕ → ProofNode
+node_in nodes k = slice_index_or nodes k no_node
 
 -- no two nodes are equal
 abbrev pub NodesDiffer : List ProofNode → Type 0
-NodesDiffer nodes = (i j : ℕ) → i < length nodes → j < length nodes → node_at nodes i ≡ node_at nodes j → i ≡ j
+NodesDiffer nodes = (i j : ℕ) → i < length nodes → j < length nodes → node_in nodes i ≡ node_in nodes j → i ≡ j
 
 pub record IsGraph (nodes : List ProofNode) : Type 0 where
   pub earlier : NameEarlier 0 nodes
