@@ -1,1 +1,4 @@
 pub mod GraphLaws
+pub mod AddLaws
+pub mod KeyLaws
+pub mod FloatLaws

@@ -1,1 +1,5 @@
 pub mod Graphs
+pub mod Keys
+pub mod Adding
+pub mod Given
+pub mod Standing

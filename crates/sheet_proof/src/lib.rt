@@ -1,9 +1,6 @@
 //! The proof of a finished worksheet, as it is written.
 #![tactic(auto)]
 
-mod coder;
-mod graph;
-mod normal;
 mod steps;
 mod text;
 

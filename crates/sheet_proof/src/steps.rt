@@ -1,5 +1,5 @@
-use crate::graph::ProofStep;
 use mm_base::{List, Memory, Name};
+use proof_tree::ProofStep;
 use sheet_text::Given;
 use std::alloc::Global;
 use written_steps::{DraftItem, DraftStep, StepUse};

@@ -1,11 +1,9 @@
-use crate::coder::code;
-use crate::graph::{ProofGraph, build};
-use crate::normal::{NormalFault, normal};
 use crate::steps::proof_steps;
 use compressed_proof::encode;
 use mm_base::{Bytes, List, Memory, Name};
 use mm_database::Database;
 use proof_model::{Code, Theorem};
+use proof_tree::{NormalFault, ProofGraph, build, code, normal};
 use std::alloc::Global;
 use written_model::ProofStyle;
 use written_steps::DraftItem;
