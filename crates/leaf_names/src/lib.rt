@@ -1,0 +1,10 @@
+//! The names of the fresh leaves of a worksheet: work variables that it does not have, each the least number that is free.
+#![tactic(auto)]
+
+mod free;
+mod leaves;
+mod read;
+mod renamed;
+
+
+
