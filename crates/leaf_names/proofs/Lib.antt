@@ -1,2 +1,5 @@
+pub mod KeptLaws
 pub mod LeafLaws
+pub mod NamedLaws
 pub mod ReadLaws
+pub mod RoomLaws

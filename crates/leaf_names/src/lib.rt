@@ -2,6 +2,7 @@
 #![tactic(auto)]
 
 mod free;
+mod given;
 mod leaves;
 mod read;
 mod renamed;
