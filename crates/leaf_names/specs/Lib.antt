@@ -1,3 +1,4 @@
 pub mod Cursors
 pub mod Leaves
+pub mod Named
 pub mod Tables

@@ -19,6 +19,21 @@ pub(crate) struct Given {
     pub last: Vec<u32>,
 }
 
+impl Given {
+    ghost use Rattle.std.specs.Prelude.{◌≡◌, []};
+
+    /// No leaf has a name.
+    pub(crate) fn new(alloc: Global) -> Given
+        ensures numbers { result.numbers.entries ≡ [] }
+        ensures last { result.last.items ≡ [] }
+    {
+        Given {
+            numbers: IndexMap::new(alloc),
+            last: Vec::new(alloc),
+        }
+    }
+}
+
 /// Makes a list at least so long.
 fn grow(last: &mut Vec<u32>, len: usize) -> Result<(), Memory>
     ensures kept { (c : ℕ) → last_number last.new.items c ≡ last_number last.old.items c }

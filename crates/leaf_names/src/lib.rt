@@ -6,6 +6,6 @@ mod given;
 mod leaves;
 mod read;
 mod renamed;
+mod table;
 
-
-
+pub use table::Names;
