@@ -1,5 +1,9 @@
 pub mod KeptLaws
 pub mod LeafLaws
+pub mod MarkLaws
 pub mod NamedLaws
+pub mod NamingLaws
+pub mod OpenedLaws
 pub mod ReadLaws
 pub mod RoomLaws
+pub mod TableLaws

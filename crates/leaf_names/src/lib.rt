@@ -3,9 +3,11 @@
 
 mod free;
 mod given;
+mod laws;
 mod leaves;
 mod read;
 mod renamed;
 mod table;
 
+pub use laws::names_are_naming;
 pub use table::Names;

@@ -26,7 +26,7 @@ fresh_part (variable s c) = None
 fresh_part (open_leaf (work c n)) = None
 fresh_part (open_leaf (fresh c n)) = Some (work_variable c n)
 
-fresh_is : (m : Mark) (v : WorkVariable) → fresh_part m ≡ Some v → m ≡ open_leaf (fresh v.code v.number)
+pub fresh_is : (m : Mark) (v : WorkVariable) → fresh_part m ≡ Some v → m ≡ open_leaf (fresh v.code v.number)
 fresh_is (variable s c) v e = absurd (cc)
 fresh_is (open_leaf (work c n)) v e = absurd (cc)
 fresh_is (open_leaf (fresh c n)) v e =
