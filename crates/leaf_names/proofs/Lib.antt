@@ -1,3 +1,4 @@
+pub mod FewLaws
 pub mod KeptLaws
 pub mod LeafLaws
 pub mod MarkLaws

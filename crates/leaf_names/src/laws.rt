@@ -1,3 +1,4 @@
+ghost use Rattle.leaf_names.specs.Few.{SymbolsAreBelow, WorksAreBelow};
 ghost use Rattle.leaf_names.specs.Named.{NamesAreNaming};
 
 use model_laws::has_database_facts;
@@ -10,4 +11,13 @@ pub fn names_are_naming()
 {
     has_database_facts();
     symbols_are_few();
+}
+
+/// What `Names::new` requires of a database and of a worksheet holds of the database of a text without a fault, and of a
+/// worksheet that is bound over it and whose work size is within the limit.
+pub fn numbers_suffice()
+    ensures symbols { SymbolsAreBelow }
+    ensures works { WorksAreBelow }
+{
+    has_database_facts();
 }

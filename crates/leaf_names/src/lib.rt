@@ -9,5 +9,5 @@ mod read;
 mod renamed;
 mod table;
 
-pub use laws::names_are_naming;
+pub use laws::{names_are_naming, numbers_suffice};
 pub use table::Names;
