@@ -1,5 +1,5 @@
 -- Few work variables are read: no more than the work size of the worksheet.
-use Rattle.std.specs.Prelude.{◌≡◌, ◌<◌, ◌≤◌, ◌+◌, ◌^◌, ℕ, zero, suc, List, [], ◌∷◌, ◌++◌, length, map, sum, count_by, flat_map, filter_map, slice_get, slice_index_or, Option, Some, None, if◌then◌else◌, refl}
+use Rattle.std.specs.Prelude.{◌≡◌, ◌≤◌, ◌+◌, ℕ, suc, List, [], ◌∷◌, ◌++◌, length, map, sum, count_by, flat_map, filter_map, slice_get, slice_index_or, Option, Some, None, if◌then◌else◌, refl}
 use Rattle.std.specs.Option.{option_map_or}
 use Rattle.std.proofs.Common.{sym, ap, subst, ◌∙◌, arith}
 use Rattle.std.proofs.Math.ListN.{get_or-map}
@@ -19,10 +19,9 @@ use Rattle.mm_model.specs.declared.rows.Item.TheVariants as item
 use Rattle.mm_model.specs.declared.rows.Leaf.{Leaf}
 use Rattle.mm_model.specs.declared.rows.Production.{Production}
 use Rattle.mm_model.specs.Book.{Database}
-use Rattle.mm_model.specs.Limits.{most_work_size}
 use Rattle.mm_model.specs.Rows.{slot_order, EachOnce, IsGrammar}
 use Rattle.mm_model.specs.Sizes.{layer_nodes, nodes}
-use Rattle.mm_model.specs.Texts.{text, item_text, items_text, row_text}
+use Rattle.mm_model.specs.Texts.{text, items_text, row_text}
 use Rattle.mm_model.specs.Typed.{IsTyped}
 use Rattle.mm_model.proofs.RowLaws.{is_row, row_stands}
 use Rattle.mm_model.proofs.TextLaws.{text-Var, text-Work, text-Fresh, text-Node}
@@ -34,7 +33,7 @@ use Rattle.solve_model.specs.Bound.{Binds, standing, standing_size, step_size, w
 use Rattle.written_model.specs.Named.{work_leaf}
 use Rattle.answer_laws.proofs.OneBinding.{trees_are_read}
 use Rattle.writing_laws.specs.StoreCounts.{is_constant}
-use Rattle.writing_laws.specs.TokenCounts.{item_count, items_count}
+use Rattle.writing_laws.specs.TokenCounts.{items_count}
 use Rattle.writing_laws.proofs.StoreCounts.{items_sum}
 use Rattle.leaf_names.specs.Tables.{step_leaves, read_leaves}
 

@@ -1,7 +1,5 @@
 -- The equations of the fresh leaves of a tree, and how they stand among its leaves.
-use Rattle.std.specs.Prelude.{◌≡◌, ℕ, List, [], ◌∷◌, ◌++◌, map, slice_index_or, Option, Some, None, refl}
-use Rattle.std.specs.List.{flat_map, filter_map}
-use Rattle.std.proofs.Common.{sym, ap, ◌∙◌}
+use Rattle.std.specs.Prelude.{◌≡◌, ℕ, List, [], ◌∷◌, map}
 use Rattle.mm_base.specs.declared.symbols.Sym.{Sym}
 use Rattle.mm_base.specs.declared.symbols.Label.{Label}
 use Rattle.mm_base.specs.declared.symbols.Typecode.{Typecode}

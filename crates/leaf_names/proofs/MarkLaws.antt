@@ -1,6 +1,6 @@
 -- The fresh leaves of a tree among the leaves of its text.
 use Rattle.std.specs.Prelude.{◌≡◌, ◌++◌, ◌<◌, ◌^◌, ℕ, List, [], ◌∷◌, map, slice_index_or, Contains, Option, Some, None, refl}
-use Rattle.std.specs.List.{flat_map, filter_map, AllByRecursion}
+use Rattle.std.specs.List.{flat_map, filter_map}
 use Rattle.std.proofs.Common.{sym, ap, subst, ◌∙◌}
 use Rattle.std.proofs.Math.ListN.{get_or-map}
 use Rattle.std.proofs.lemmas.List.{map-append}
@@ -13,10 +13,9 @@ use Rattle.mm_model.specs.declared.rows.Item.{Item}
 use Rattle.mm_model.specs.declared.rows.Item.TheVariants as item
 use Rattle.mm_model.specs.declared.rows.Production.{Production}
 use Rattle.mm_model.specs.Texts.{row_of}
-use Rattle.solve_model.specs.Trees.{Open, fresh, Occurs}
-use Rattle.written_model.specs.Named.{WorkVariable, work_variable}
+use Rattle.solve_model.specs.Trees.{fresh, Occurs}
 use Rattle.answer_laws.proofs.Elements.{in_mapped, kept_from, all_contained}
-use Rattle.answer_laws.proofs.Marks.{Mark, variable, open_leaf, marks, item_marks, row_marks, marks-Var, marks-Work, marks-Fresh, marks-Node}
+use Rattle.answer_laws.proofs.Marks.{Mark, open_leaf, marks, item_marks, row_marks, marks-Var, marks-Work, marks-Fresh, marks-Node}
 use Rattle.answer_laws.proofs.Covered.{of_tree, mark_occurs}
 use Rattle.writing_laws.proofs.NamesExist.{fresh_part, fresh_is}
 use Rattle.leaf_names.specs.Leaves.{FreshLeaf, item_leaves, items_leaves, row_leaves, fresh_leaves}
@@ -66,9 +65,6 @@ module _ (rows : List Production) where
       ∙ ap (λ zs. filter_map fresh_part (marks rows t) ++ zs) (all_alike ts) ∙ sym (filter_map-append fresh_part (marks rows t) (flat_map (marks rows) ts))
 
   -- ---- each of them occurs in the tree
-
-
-
 
   occurs : (t : Tree) (x : FreshLeaf) → Contains (fresh_leaves rows t) x → Occurs (fresh (as_variable x).code (as_variable x).number) t
   occurs t x o =

@@ -1,5 +1,5 @@
 -- The names that are kept are a naming of the definitions.
-use Rattle.std.specs.Prelude.{◌≡◌, ◌^◌, ◌<◌, ◌||◌, ◌&&◌, ◌==◌, ℕ, zero, suc, Bool, true, false, not, List, [], ◌∷◌, ◌++◌, length, map, take, slice_get, flat_map, filter_map, Contains, is_some, Option, Some, None, refl}
+use Rattle.std.specs.Prelude.{◌≡◌, ◌||◌, ℕ, suc, Bool, true, false, not, List, [], ◌∷◌, ◌++◌, map, take, slice_get, flat_map, Contains, is_some, Option, Some, None, refl}
 use Rattle.std.specs.Map.{lookup}
 use Rattle.std.proofs.Common.{sym, ap, subst, ◌∙◌, inl, inr, append_assoc}
 use Rattle.std.proofs.lemmas.Bool.{cases_Bool, and_parts}
@@ -7,18 +7,17 @@ use mathlib.Core.Path.{fun_ext}
 use Rattle.mm_base.specs.declared.symbols.Typecode.{Typecode}
 use Rattle.mm_base.specs.declared.tree.Tree.{Tree}
 use Rattle.mm_model.specs.Rows.{IsGrammar}
-use Rattle.mm_model.specs.Names.{Name}
 use Rattle.mm_model.specs.Book.{Database, symbol_of, symbol_name}
 use Rattle.solve_model.specs.declared.bound.Bound.{Bound}
 use Rattle.solve_model.specs.Firsts.{IsLeast}
 use Rattle.solve_model.specs.Formulas.{spelling}
-use Rattle.written_model.specs.Named.{WorkVariable, work_variable, same_work, is_in, not_seen, read_works, Naming, IsUnused, IsNaming}
+use Rattle.written_model.specs.Named.{WorkVariable, work_variable, same_work, is_in, not_seen, read_works, IsUnused, IsNaming}
 use Rattle.answer_laws.proofs.NamedAlike.{least_is_one}
 use Rattle.writing_laws.specs.HasNames.{IsWritable, HasFewSymbols}
 use Rattle.writing_laws.proofs.Naming.{least_number, number_least, name_in}
-use Rattle.writing_laws.proofs.NamesExist.{M, D, names, fresh_part, naming}
+use Rattle.writing_laws.proofs.NamesExist.{D, names, naming}
 use Rattle.leaf_names.specs.Leaves.{FreshLeaf, fresh_leaf, fresh_leaves}
-use Rattle.leaf_names.specs.Tables.{NamedLeaf, variable_at, as_variable, name_of, same_leaf, naming_of, is_read, is_declared, is_unused, is_given, is_taken, IsFree, AreNamed, AreRead}
+use Rattle.leaf_names.specs.Tables.{NamedLeaf, variable_at, as_variable, name_of, same_leaf, naming_of, is_read, is_declared, is_given, is_taken, IsFree, AreNamed, AreRead}
 use Rattle.leaf_names.proofs.MarkLaws.{all_alike}
 
 abbrev leaf_of : NamedLeaf → WorkVariable

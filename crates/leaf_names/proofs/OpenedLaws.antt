@@ -1,14 +1,11 @@
 -- The names over the database of a text.
 use Rattle.std.specs.Prelude.{◌≡◌, ◌≤◌, ◌^◌, ℕ, List, length, flat_map}
 use Rattle.std.proofs.Common.{sym, ap, subst, ◌∙◌, arith}
-use Rattle.mm_base.specs.declared.kinds.Kinds.{Kinds}
 use Rattle.mm_model.specs.declared.rows.Production.{Production}
 use Rattle.mm_model.specs.Names.{Name}
-use Rattle.mm_model.specs.Book.{Database}
 use Rattle.mm_model.specs.Limits.{most_work_size}
 use Rattle.mm_frames.specs.Contents.{Contents}
 use Rattle.mm_database.specs.Books.{database_of}
-use Rattle.mm_database.specs.Opened.{Opened, IsOpened}
 use Rattle.model_laws.specs.DatabaseLaws.{HasDatabaseFacts}
 use Rattle.written_model.specs.Opened as written
 use Rattle.solve_model.specs.Bound.{work_size}
@@ -17,7 +14,7 @@ use Rattle.writing_laws.specs.HasNames.{SymbolsAreFew}
 use Rattle.leaf_names.specs.Leaves.{fresh_leaves}
 use Rattle.leaf_names.specs.Few.{SymbolsAreBelow, WorksAreBelow}
 use Rattle.leaf_names.specs.Tables.{AreNamed, read_leaves}
-use Rattle.leaf_names.specs.Named.{IsNamesOf, NamesAreNaming}
+use Rattle.leaf_names.specs.Named.{NamesAreNaming}
 use Rattle.leaf_names.proofs.FewLaws.{works_within}
 use Rattle.leaf_names.proofs.NamingLaws.{is_naming}
 

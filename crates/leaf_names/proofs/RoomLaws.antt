@@ -1,5 +1,5 @@
 -- Fewer numbers are used than a work variable may have, so some number above the last one is not used.
-use Rattle.std.specs.Prelude.{◌≡◌, ◌+◌, ◌-◌, ◌*◌, ◌^◌, ◌<◌, ◌≤◌, ◌==◌, ◌||◌, ◌&&◌, ℕ, zero, suc, Bool, true, false, not, cond, nat_eq, nat_lt, List, [], ◌∷◌, ◌++◌, length, map, fold, drop, slice_index_or, decimal, position, option_map, is_some, Option, Some, None, refl}
+use Rattle.std.specs.Prelude.{◌≡◌, ◌+◌, ◌-◌, ◌*◌, ◌^◌, ◌<◌, ◌≤◌, ◌==◌, ◌&&◌, ℕ, zero, suc, Bool, true, false, cond, nat_eq, nat_lt, List, [], ◌∷◌, ◌++◌, length, map, fold, drop, slice_index_or, decimal, position, option_map, is_some, None, refl}
 use Rattle.std.specs.List.{list_any, position_or_len, AllByRecursion, IsDistinct}
 use Rattle.std.specs.Str.{bytes_eq, all_ascii_digits}
 use Rattle.std.proofs.Common.{sym, ap, subst, ◌∙◌, arith, inl, inr, eq-eqb}
@@ -11,7 +11,7 @@ use Rattle.std.proofs.lemmas.List.{length-map, length-append}
 use Rattle.std.proofs.lemmas.List.Folds.{list_any-append}
 use Rattle.std.proofs.lemmas.Slice.Eq.{bytes_eq-Decides}
 use Rattle.std.proofs.lemmas.Str.Parse.{IsNumeralModel, FoldsDigits, numerals_by_fold, tells_all_ascii_digits}
-use Rattle.mm_model.specs.Names.{Name, sym as symbol, contains, symbol_named}
+use Rattle.mm_model.specs.Names.{Name, sym as symbol, contains}
 use Rattle.solve_model.specs.Formulas.{prefix_of, spelling, number_of}
 use Rattle.writing_laws.proofs.Numbers.{stands_in, all_stand, searched_to}
 use Rattle.leaf_names.specs.Leaves.{FreshLeaf, fresh_leaf}

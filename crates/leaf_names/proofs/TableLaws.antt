@@ -1,5 +1,5 @@
 -- What a table says after leaves were named.
-use Rattle.std.specs.Prelude.{◌≡◌, ℕ, List, take}
+use Rattle.std.specs.Prelude.{◌≡◌, ℕ, take}
 use Rattle.std.proofs.Common.{subst}
 use Rattle.mm_base.specs.declared.tree.Tree.{Tree}
 use Rattle.leaf_names.specs.Leaves.{fresh_leaves}

@@ -1,7 +1,6 @@
 -- The names of the leaves of some trees, over a database and a worksheet as it was read.
-use Rattle.std.specs.Prelude.{◌≡◌, ◌≤◌, ◌^◌, ◌++◌, ℕ, List, length, flat_map, Contains}
+use Rattle.std.specs.Prelude.{◌≡◌, ◌++◌, ℕ, List, flat_map, Contains}
 use Rattle.mm_base.specs.declared.kinds.Kinds.{Kinds}
-
 use Rattle.mm_base.specs.declared.tree.Tree.{Tree}
 use Rattle.mm_database.specs.Books.{database_of}
 use Rattle.mm_database.specs.Opened.{Opened, IsOpened}

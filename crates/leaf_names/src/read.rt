@@ -1,8 +1,5 @@
 ghost use Rattle.std.specs.Prelude.{◌≡◌, filter_map, IfOk, OnOk};
-
-
 ghost use Rattle.mm_model.specs.Texts.{text as text_of};
-
 ghost use Rattle.written_model.specs.Named.{work_leaf};
 ghost use Rattle.leaf_names.specs.Tables.{AddsRead, AreRead, read_leaves, step_leaves};
 

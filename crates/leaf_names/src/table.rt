@@ -77,7 +77,13 @@ impl<'a> Names<'a> {
         ensures partly { OnErr result ((k : ℕ) × AddsTo (take k (leaves_of self.old.rows tree.now)) self.old self.new) }
     {
         let leaves = fresh_leaves(self.alloc, self.db.grammar(), tree)?;
-        add_leaves(self.alloc, self.db.frames(), &self.read, &mut self.given, leaves.as_slice())
+        add_leaves(
+            self.alloc,
+            self.db.frames(),
+            &self.read,
+            &mut self.given,
+            leaves.as_slice(),
+        )
     }
 
     /// The tree with its fresh leaves named; a leaf that has no name stays as it is. It takes time and memory in

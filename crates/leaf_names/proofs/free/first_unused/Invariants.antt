@@ -1,5 +1,4 @@
-use Rattle.std.proofs.Common.{◌≡◌, ◌<◌, ◌≤◌, ◌+◌, ◌-◌, ◌^◌, ℕ, false}
-use Rattle.leaf_names.specs.Tables.{is_unused}
+use Rattle.std.proofs.Common.{◌-◌, ◌^◌}
 use Rattle.leaf_names.specs.Cursors.{last_number, NoneUnused}
 use Rattle.leaf_names.proofs.free.first_unused.Given as goal
 

@@ -1,4 +1,4 @@
-use Rattle.std.proofs.Common.{ap, sym, ◌∙◌}
+use Rattle.std.proofs.Common.{sym, ◌∙◌}
 use Rattle.leaf_names.proofs.NamedLaws.{named_before}
 use Rattle.leaf_names.proofs.RoomLaws.{has_room}
 use Rattle.leaf_names.proofs.given.add_leaf.Goals as goal

@@ -1,6 +1,5 @@
-use Rattle.std.proofs.Common.{ap, ◌∙◌, HashSet, List}
+use Rattle.std.proofs.Common.{ap, ◌∙◌}
 use Rattle.std.specs.HashSet.{keys}
-use Rattle.mm_model.specs.declared.rows.Leaf.{Leaf}
 use Rattle.written_model.specs.Named.{work_leaf}
 use Rattle.leaf_names.proofs.ReadLaws.{other_leaf, work_on}
 use Rattle.leaf_names.proofs.read.add_leaves.Goals as goal

@@ -1,9 +1,8 @@
-use Rattle.std.proofs.Common.{◌+◌, ap, subst, sym, ◌∙◌, take, List, ℕ}
+use Rattle.std.proofs.Common.{ap, subst, sym, ◌∙◌, take, List}
 use Rattle.std.specs.List.{flat_map}
 use Rattle.std.proofs.lemmas.List.{take_all}
 use Rattle.solve_model.specs.declared.bound.BoundStep.{BoundStep}
 use Rattle.written_model.specs.Named.{WorkVariable}
-use Rattle.leaf_names.specs.Leaves.{FreshLeaf}
 use Rattle.leaf_names.specs.Tables.{AreRead, AddsRead, step_leaves}
 use Rattle.leaf_names.proofs.ReadLaws.{pieces_more, none_read, read_on}
 use Rattle.leaf_names.proofs.read.read_works.Goals as goal

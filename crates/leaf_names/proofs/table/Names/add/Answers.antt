@@ -1,12 +1,11 @@
-use Rattle.std.proofs.Common.{sym, ap, subst, ◌∙◌, List, ℕ, take, refl}
+use Rattle.std.proofs.Common.{sym, ap, subst, ◌∙◌, List, take, refl}
 use Rattle.std.proofs.lemmas.Result.{on_err_weaker}
 use Rattle.mm_model.specs.declared.rows.Production.{Production}
 use Rattle.mm_model.specs.Names.{Name}
 use Rattle.mm_frames.specs.Contents.{Contents}
 use Rattle.leaf_names.specs.Leaves.{FreshLeaf, fresh_leaves}
-use Rattle.leaf_names.specs.Tables.{Table, Adds}
+use Rattle.leaf_names.specs.Tables.{Adds}
 use Rattle.leaf_names.specs.Cursors.{AreSmall}
-use Rattle.leaf_names.specs.Named.{AddsTo}
 use Rattle.leaf_names.proofs.MarkLaws.{small_leaves}
 use Rattle.leaf_names.proofs.TableLaws.{adds_to}
 use Rattle.leaf_names.proofs.table.Names.add.Goals as goal
@@ -24,7 +23,10 @@ returns-clause-partly c =
     let symbols = ap (λ (k : Contents). k.symbols) c.frames.ensures in
     let leaves = c.as_slice.ensures.value ∙ c.in_ok-leaves.ensures ∙ ap (λ (rows : List Production). fresh_leaves rows tree) c.grammar.ensures in
     on_err_weaker c.add_leaves.result
-    (λ p. (p.0, adds_to _ _ _ c.self.view_is tree p.0
-        (subst (λ (ns : List Name). Adds ns read (take p.0 (fresh_leaves c.self.inside.db.now.rows tree)) old new) symbols
-        (subst (λ (xs : List FreshLeaf). Adds c.frames.result.now.symbols read (take p.0 xs) old new) leaves p.1)) refl refl refl))
+    (λ p. (
+      p.0,
+      adds_to _ _ _ c.self.view_is tree p.0
+          (subst (λ (ns : List Name). Adds ns read (take p.0 (fresh_leaves c.self.inside.db.now.rows tree)) old new) symbols
+          (subst (λ (xs : List FreshLeaf). Adds c.frames.result.now.symbols read (take p.0 xs) old new) leaves p.1)) refl refl refl,
+    ))
     c.add_leaves.ensures.partly
