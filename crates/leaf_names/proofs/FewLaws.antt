@@ -112,7 +112,8 @@ module _ (rows : List Production) (before : ℕ) (grammar : IsGrammar rows) wher
       let counted = items_works (map (text rows) ts) r.items ∙ ap (λ ns. items_count ns r.items) (map_works ts) ∙ items_sum (map works ts) r.items once in
       let few = all_few ts h (typed_held rows before l c ts p) in
       let size = nodes-Node l c ts in
-      bounded (works (Node l c ts)) (works_of (items_text (map (text rows) ts) r.items)) (count_by is_constant r.items) (sum (map works ts)) (sum (map nodes ts)) (nodes (Node l c ts)) written counted few size
+      bounded (works (Node l c ts)) (works_of (items_text (map (text rows) ts) r.items)) (count_by is_constant r.items)
+      (sum (map works ts)) (sum (map nodes ts)) (nodes (Node l c ts)) written counted few size
     where
       bounded : (w v k s n m : ℕ) → w ≡ v → v + k ≡ k + s → s ≤ n → m ≡ n + 1 → w ≤ m
       bounded w v k s n m e f l g = omega (arith, e, f, l, g)

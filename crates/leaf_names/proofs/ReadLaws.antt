@@ -94,5 +94,6 @@ module _ (ls : List Leaf) (i : ℕ) (d : Leaf) (within : i < length ls) (old cur
       leaf_on (subst (λ o. AddsRead (cons_option o []) cur new) (sym none) (subst (λ xs. AddsRead [] cur xs) (sym same) (nothing_read cur)))
 
   -- a work variable
-  pub work_on : (c : Typecode) (n : ℕ) → get_or ls i d ≡ leaf.Work c n → new ≡ cond (is_read cur c.0.0 n) cur (cur ++ fresh_leaf c.0.0 n ∷ []) → AddsRead (filter_map work_leaf (take (i + 1) ls)) old new
+  pub work_on : (c : Typecode) (n : ℕ) → get_or ls i d ≡ leaf.Work c n → new ≡ cond (is_read cur c.0.0 n) cur (cur ++ fresh_leaf c.0.0 n ∷ [])
+      → AddsRead (filter_map work_leaf (take (i + 1) ls)) old new
   work_on c n is put = leaf_on (subst (λ (x : Leaf). AddsRead (cons_option (work_leaf x) []) cur new) (sym is) (one_read cur new c.0.0 n put))
