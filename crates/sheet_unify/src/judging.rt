@@ -8,11 +8,7 @@ use step_filling::{FillFault, fill_items};
 use written_steps::DraftItem;
 
 /// Takes all steps into the store, and gives the verdicts on them.
-fn judge_all(
-    alloc: Global,
-    chain: &mut Chain<'_>,
-    count: u32,
-) -> Result<Vec<Verdict>, Memory> {
+fn judge_all(alloc: Global, chain: &mut Chain<'_>, count: u32) -> Result<Vec<Verdict>, Memory> {
     let mut verdicts = Vec::new(alloc);
     for i in 0..count {
         verdicts.push(chain.push_step(i)?)?;

@@ -4,11 +4,11 @@ use crate::reading::{Judged, accepted, formula, places, values, verdict};
 use crate::table::{TreeTable, tree_key};
 use crate::wanted::fill_places;
 use mm_base::{Bytes, List, Memory, Name, Tree};
+use mm_database::Database;
 use sheet_text::{Given, Sheet, SheetItem, SheetStep};
 use solve_model::{Bound, Verdict};
 use std::alloc::Global;
 use step_chain::{Accepted, Chain, TreeFault};
-use mm_database::Database;
 use written_model::ReportVerdict;
 use written_steps::{DraftItem, DraftStep, StepUse, in_order};
 
@@ -233,9 +233,7 @@ fn fill_item(
     item: &SheetItem,
 ) -> Result<(), FillFault> {
     match item {
-        SheetItem::Comment(lines) => {
-            Ok(fill_comment(judged.alloc, filling, lines.as_slice())?)
-        }
+        SheetItem::Comment(lines) => { Ok(fill_comment(judged.alloc, filling, lines.as_slice())?) }
         SheetItem::Step(step) => fill_step(judged, filling, step),
     }
 }

@@ -26,12 +26,7 @@ fn put_pairs(keys: &mut Keys, pairs: &[Pair]) -> Result<(), Memory> {
 }
 
 /// Puts in the pairs that a step needs.
-fn put_item(
-    alloc: Global,
-    db: &Database,
-    keys: &mut Keys,
-    item: &DraftItem,
-) -> Result<(), Memory> {
+fn put_item(alloc: Global, db: &Database, keys: &mut Keys, item: &DraftItem) -> Result<(), Memory> {
     if let DraftItem::Step(step) = item {
         if let Some(by) = &step.by {
             let pairs = needed_by(alloc, db, by)?;
