@@ -5,3 +5,4 @@ pub mod JudgedLaws
 pub mod CopyLaws
 pub mod TakenLaws
 pub mod StandingLaws
+pub mod StandingOf
