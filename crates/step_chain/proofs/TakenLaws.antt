@@ -1,5 +1,5 @@
 -- What was taken is judged.
-use Rattle.std.specs.Prelude.{◌≡◌, ℕ, ◌<◌, ◌≤◌, ◌+◌, ◌⊎◌, List, [], ◌∷◌, ◌++◌, length, map, Option, Some, None, refl}
+use Rattle.std.specs.Prelude.{◌≡◌, ℕ, ◌<◌, ◌≤◌, ◌+◌, ◌⊎◌, List, [], ◌∷◌, ◌++◌, length, map, slice_get, Option, Some, None, refl}
 use Rattle.std.specs.List.{AllByRecursion}
 use Rattle.std.proofs.Common.{zero, suc, sym, ap, subst, ◌∙◌, arith, inl, inr, get_or}
 use Rattle.std.proofs.lemmas.Bool.{cases_lt}
@@ -14,7 +14,7 @@ use Rattle.solve_model.specs.declared.bound.BoundStep.{BoundStep}
 use Rattle.solve_model.specs.declared.bound.Bound.{Bound}
 use Rattle.solve_model.specs.declared.verdict.Verdict.TheVariants as verdict
 use Rattle.solve_model.specs.Bound.{candidate}
-use Rattle.solve_model.specs.Solutions.{copy, IsUnknown, Asked}
+use Rattle.solve_model.specs.Solutions.{copy, IsUnknown, Asked, orders_of}
 use Rattle.solve_model.specs.Verdicts.{asked, Judgement, accepted, stands, IsJudgement}
 use Rattle.term_model.specs.declared.shape.Id.{Id}
 use Rattle.term_model.specs.Terms.{Term, Free, term_at, children_of}
@@ -67,7 +67,7 @@ module _ (db : Database) (bound : Bound) (before : List Asked) (i : ℕ) (s : Bo
     (chained : IsChained db bound before before old.nodes old.links lay) (are : AreFormulaNodes bound old.nodes lay (λ k. (formula_at formulas k).0))
     (vars : a.vars ≡ typed_variables a.frame.hyps) (apart : AreApart a.vars) (fresh : (v : Sym) (c : Typecode) → IsUnknown bound before (copy i v c) → ⊥)
     (tree_over : IsOver a.vars a.tree) (hyps_over : AllByRecursion (IsOver a.vars) a.hyps) (tree_typed : IsTyped db.rows bound.place a.tree) (hyps_typed : AllByRecursion (IsTyped db.rows bound.place) a.hyps)
-    (sound : (gs : List Given) → IsSoundAsked bound (asked i a gs)) (room : (gs : List Given) → HasRoom gs a.hyps) where
+    (sound : (j : ℕ) (gs : List Given) → slice_get (orders_of s a) j ≡ Some gs → IsSoundAsked bound (asked i a gs)) (room : (j : ℕ) (gs : List Given) → slice_get (orders_of s a) j ≡ Some gs → HasRoom gs a.hyps) where
   abbrev nodes : List Term
   nodes = old.nodes
 

@@ -7,6 +7,7 @@ mod chain;
 mod copies;
 mod formulas;
 mod joining;
+mod judged;
 mod orders;
 mod reading;
 mod standing;
