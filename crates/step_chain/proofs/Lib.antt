@@ -6,3 +6,6 @@ pub mod CopyLaws
 pub mod TakenLaws
 pub mod StandingLaws
 pub mod StandingOf
+pub mod Lists
+pub mod AcceptLaws
+pub mod LevelLaws

@@ -87,17 +87,17 @@ module _ (db : Database) (bound : Bound) (before : List Asked) (i : ℕ) (s : Bo
   bare : IsStore (nodes ++ map free_of a.vars) []
   bare = copied_store nodes a.vars (record { children = chained.store.children; in_order = tt; codes = tt })
 
-  abbrev lay' : Layout
+  abbrev pub lay' : Layout
   lay' = with_copies (length nodes) i a.vars lay
 
   module _ (ready_store : IsStore roots.nodes old.links) (ready_solved : IsSolved roots.nodes old.links) where
     ready : IsChained db bound (before ++ asked i a s.places ∷ []) before roots.nodes old.links lay'
     ready = prepared db bound before i a s.places nodes old.links lay (λ k. (formula_at formulas k).0) chained are apart fresh tree_over hyps_over tree_typed hyps_typed bare ready_store ready_solved
 
-    ready_formulas : AreFormulaNodes bound roots.nodes lay' (λ k. (formula_at formulas k).0)
+    pub ready_formulas : AreFormulaNodes bound roots.nodes lay' (λ k. (formula_at formulas k).0)
     ready_formulas = prepared_formula_nodes db bound before i a s.places nodes old.links lay (λ k. (formula_at formulas k).0) chained are apart fresh tree_over hyps_over tree_typed hyps_typed bare
 
-    ready_nodes : AreCandidateNodes roots.nodes lay' i a root.root (map (λ (id : Id). id.0) roots.roots)
+    pub ready_nodes : AreCandidateNodes roots.nodes lay' i a root.root (map (λ (id : Id). id.0) roots.roots)
     ready_nodes = prepared_candidate_nodes db bound before i a s.places nodes old.links lay (λ k. (formula_at formulas k).0) chained are apart fresh tree_over hyps_over tree_typed hyps_typed bare
 
     roots_count : length roots.roots ≡ length a.hyps

@@ -7,3 +7,4 @@ pub mod Candidate
 pub mod Standings
 pub mod Steps
 pub mod Levels
+pub mod Accepted

@@ -8,6 +8,7 @@ mod copies;
 mod formulas;
 mod joining;
 mod judged;
+mod judging;
 mod orders;
 mod reading;
 mod standing;

@@ -1,4 +1,4 @@
-use Rattle.std.proofs.Common.{length, ◌∙◌, sym}
+use Rattle.std.proofs.Common.{length, ◌∙◌, sym, refl}
 use Rattle.step_chain.proofs.AddingLaws.{variables_in_more, grown_longer}
 use Rattle.step_chain.proofs.CopyLaws.{table_is, copied_is, table_in, root_is, roots_are}
 use Rattle.step_chain.proofs.copies.add_candidate.Goals as goal
@@ -48,3 +48,16 @@ returns-clause-hyps c =
     let three = table_is rows nodes hyps c.args.tree.now c.args.trees.now c.count.result items c.deref-3.result.now c.count.ensures.count c.in_ok-variables.ensures c.deref-3.ensures.value in
     roots_are rows nodes hyps c.args.tree.now c.args.trees.now c.deref-2.result.now c.deref-3.result.now c.add_copies.new.arena.nodes c.add_tree.new.arena.nodes c.add_trees.new.arena.nodes c.in_ok-root.root c.in_ok-hyps.hyps.items two three
     (copied_is rows nodes hyps c.args.tree.now c.args.trees.now c.deref.result.now c.add_copies.new.arena.nodes one c.in_ok-add_copies.ensures.nodes) c.in_ok-root.ensures.added c.in_ok-hyps.ensures.listed
+
+pub returns-clause-variables_in : goal.returns-clause-variables_in
+returns-clause-variables_in c =
+    let rows = c.args.grammar.now in
+    let nodes = c.args.arena.now.nodes in
+    let hyps = c.args.frame_hyps.now in
+    let items = c.in_ok-variables.variables.items in
+    let one = table_is rows nodes hyps c.args.tree.now c.args.trees.now c.count.result items c.deref.result.now c.count.ensures.count c.in_ok-variables.ensures c.deref.ensures.value in
+    let own = table_is rows nodes hyps c.args.tree.now c.args.trees.now c.count.result items items c.count.ensures.count c.in_ok-variables.ensures refl in
+    variables_in_more _ _ items (grown_longer c.add_tree.new.arena c.add_trees.new.arena c.add_trees.ensures.grows)
+    (variables_in_more _ _ items (grown_longer c.add_copies.new.arena c.add_tree.new.arena c.add_tree.ensures.grows)
+    (table_in rows nodes hyps c.args.tree.now c.args.trees.now items c.add_copies.new.arena.nodes own
+    (copied_is rows nodes hyps c.args.tree.now c.args.trees.now c.deref.result.now c.add_copies.new.arena.nodes one c.in_ok-add_copies.ensures.nodes)))
