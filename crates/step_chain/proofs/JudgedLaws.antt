@@ -105,12 +105,12 @@ slice_map f [] k x e = let impossible : ◌≡◌ {A = Option _} None (Some x) =
 slice_map f (y ∷ ys) zero x e = let same : y ≡ x = cc in ap (λ z. Some (f z)) same
 slice_map f (y ∷ ys) (suc k) x e = slice_map f ys k x e
 
-record Mapped {X Y : Type 0} (f : X → Y) (xs : List X) (k : ℕ) (y : Y) : Type 0 where
-  source : X
-  at : slice_get xs k ≡ Some source
-  is : f source ≡ y
+pub record Mapped {X Y : Type 0} (f : X → Y) (xs : List X) (k : ℕ) (y : Y) : Type 0 where
+  pub source : X
+  pub at : slice_get xs k ≡ Some source
+  pub is : f source ≡ y
 
-slice_mapped : {X Y : Type 0} (f : X → Y) (xs : List X) (k : ℕ) (y : Y) → slice_get (map f xs) k ≡ Some y → Mapped f xs k y
+pub slice_mapped : {X Y : Type 0} (f : X → Y) (xs : List X) (k : ℕ) (y : Y) → slice_get (map f xs) k ≡ Some y → Mapped f xs k y
 slice_mapped f [] k y e = let impossible : ◌≡◌ {A = Option _} None (Some y) = e in absurd (cc)
 slice_mapped f (x ∷ xs) zero y e = let same : f x ≡ y = cc in record { source = x; at = refl; is = same }
 slice_mapped f (x ∷ xs) (suc k) y e = let told = slice_mapped f xs k y e in record { source = told.source; at = told.at; is = told.is }

@@ -86,7 +86,7 @@ module _ (db : Database) (bound : Bound) where
           let here = last s (subst (λ (k : ℕ). slice_get bound.steps k ≡ Some s) same at) in
           let moved = subst (λ (front : List Judgement). IsJudgement db bound (accepted_in front) (length js) s (standing db bound.place s) q) (sym (take-append_seam js (o ∷ []))) (subst (IsJudgement db bound (accepted_in js) (length js) s (standing db bound.place s)) value here) in
           subst (λ (k : ℕ). IsJudgement db bound (accepted_in (take k (js ++ o ∷ []))) k s (standing db bound.place s) q) (sym same) moved
-      | inr other ↦ absurd (get_past (js ++ o ∷ []) i q (omega (arith, past, other, length_push js o)) is)
+      | inr apart ↦ absurd (get_past (js ++ o ∷ []) i q (omega (arith, past, apart, length_push js o)) is)
     ]
   ]
 
@@ -141,7 +141,7 @@ module _ (db : Database) (d : Opened) (bound : Bound) (works : List WorkNode) (f
         (old : (k : ℕ) (q : Pushed) (x : Accepted) (a : Assertion) → slice_get steps k ≡ Some q → q.judged ≡ Fits x → usable_in d x.label ≡ Some a → AreKeptNodes nodes' layout k x a)
         (new : (x : Accepted) (a : Assertion) → p.judged ≡ Fits x → usable_in d x.label ≡ Some a → AreKeptNodes nodes' layout i x a) where
       abbrev Now : List Asked → Type 0
-      Now accepted = IsChained db bound accepted accepted nodes' links' layout
+      Now xs = IsChained db bound xs xs nodes' links' layout
 
       now_is : accepted_now ≡ accepted_in (judgements_from d bound 0 (steps ++ p ∷ []))
       now_is = sym (accepted_is ∙ is_now)
@@ -153,7 +153,7 @@ module _ (db : Database) (d : Opened) (bound : Bound) (works : List WorkNode) (f
           | inl same ↦
               let it : p ≡ q = let one = get_seam steps p in let two : slice_get (steps ++ p ∷ []) (length steps) ≡ Some q = subst (λ (n : ℕ). slice_get (steps ++ p ∷ []) n ≡ Some q) same at in cc in
               subst (λ (n : ℕ). AreKeptNodes nodes' layout n x a) (sym same) (new x a (ap (λ (r : Pushed). r.judged) it ∙ is) u)
-          | inr other ↦ absurd (get_past (steps ++ p ∷ []) k q (omega (arith, past, other, length_push steps p)) at)
+          | inr apart ↦ absurd (get_past (steps ++ p ∷ []) k q (omega (arith, past, apart, length_push steps p)) at)
         ]
       ]
 

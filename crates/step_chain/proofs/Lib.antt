@@ -9,3 +9,5 @@ pub mod StandingOf
 pub mod Lists
 pub mod AcceptLaws
 pub mod LevelLaws
+pub mod CandidateLaws
+pub mod NextLaws

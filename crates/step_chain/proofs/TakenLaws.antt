@@ -72,16 +72,16 @@ module _ (db : Database) (bound : Bound) (before : List Asked) (i : ℕ) (s : Bo
   nodes = old.nodes
 
   -- the candidate's nodes, by its own list of variables
-  abbrev root : Rooted
+  abbrev pub root : Rooted
   root = added db.rows [] (numbered (length nodes) a.vars) a.tree (nodes ++ map free_of a.vars)
 
-  abbrev roots : Listed
+  abbrev pub roots : Listed
   roots = run (map (added db.rows [] (numbered (length nodes) a.vars)) a.hyps) root.nodes
 
   root_same : root_of db.rows nodes a.frame.hyps a.tree ≡ root
   root_same = ap (λ (vs : List TypedVariable). added db.rows [] (numbered (length nodes) vs) a.tree (nodes ++ map free_of vs)) (sym vars)
 
-  roots_same : roots_of db.rows nodes a.frame.hyps a.tree a.hyps ≡ roots
+  pub roots_same : roots_of db.rows nodes a.frame.hyps a.tree a.hyps ≡ roots
   roots_same = ap (λ (vs : List TypedVariable). run (map (added db.rows [] (numbered (length nodes) vs)) a.hyps) (added db.rows [] (numbered (length nodes) vs) a.tree (nodes ++ map free_of vs)).nodes) (sym vars)
 
   bare : IsStore (nodes ++ map free_of a.vars) []
@@ -129,7 +129,7 @@ module _ (db : Database) (bound : Bound) (before : List Asked) (i : ℕ) (s : Bo
       taken_chain order (inr j) = accepted_chain db bound before i s a roots.nodes lay' formulas root.root roots.roots ready_formulas ready_nodes old.links ready sound room j.mid (subst (Joins roots.nodes old.links j.mid) conclusion_is j.conclusion) new_links order (first_is j.mid (Some order) j.first) new_store new_solved
 
       -- what `take` answers, as the candidate's own lists say it
-      own_tried : (r : Option (List ℕ)) → IsTaken db.rows a.frame.hyps a.tree a.hyps formulas formula s.places old new r → new.links ≡ new_links → IsTried roots.nodes old.links new_links formulas s.places roots.roots (id_of root.root) formula r
+      pub own_tried : (r : Option (List ℕ)) → IsTaken db.rows a.frame.hyps a.tree a.hyps formulas formula s.places old new r → new.links ≡ new_links → IsTried roots.nodes old.links new_links formulas s.places roots.roots (id_of root.root) formula r
       own_tried r h e =
           subst (λ (ls : List Link). IsTried roots.nodes old.links ls formulas s.places roots.roots (id_of root.root) formula r) e
           (subst (λ (x : Listed). IsTried x.nodes old.links new.links formulas s.places x.roots (id_of root.root) formula r) roots_same

@@ -1,8 +1,8 @@
-ghost use Rattle.std.specs.Prelude.{◌≡◌, ◌<◌, ◌^◌, length, map, Some, IsSome, IfOk};
+ghost use Rattle.std.specs.Prelude.{◌≡◌, ◌<◌, ◌^◌, length, map, Some, IsSome, IfOk, OnOk};
 ghost use Rattle.std.specs.List.{AllByRecursion};
 ghost use Rattle.mm_model.specs.Book.{Assertion};
 ghost use Rattle.mm_frames.specs.Contents.{frame_at};
-ghost use Rattle.term_model.specs.Store.{IsSolved};
+ghost use Rattle.term_model.specs.Store.{IsStore, IsSolved};
 ghost use Rattle.written_model.specs.Existence.{IsPlaceIn};
 ghost use Rattle.step_chain.specs.Grown.{AreIdsIn};
 ghost use Rattle.step_chain.specs.Standings.{usable_in};
@@ -63,6 +63,8 @@ pub fn accept(
     ensures taken { IfOk result (λ r. (a : Assertion) → usable_in db.now label ≡ Some a
         → IsTakenAs db.now formulas.now formula places.now label a arena.old arena.new r) }
     ensures kept_in { IfOk result (IsKeptInIf (length arena.new.nodes)) }
+    ensures store { OnOk result (IsStore arena.new.nodes arena.new.links) }
+    ensures solved { OnOk result (IsSolved arena.new.nodes arena.new.links) }
 {
     let frame = frame_of(db, label);
     let (nodes, order) = take(

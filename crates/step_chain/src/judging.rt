@@ -10,14 +10,23 @@ ghost use Rattle.step_chain.specs.Accepted.{IsNext, IsSameStore};
 
 use crate::candidate::accept;
 use crate::judged::Judged;
+use crate::orders::formula_at;
 use crate::standing::{Standing, standing_of};
 use chain_laws::candidates_are_ready;
 use mm_base::{Label, Memory};
 use mm_database::Database;
 use model_laws::has_database_facts;
-use solve_model::{Bound, Verdict};
+use solve_model::{Bound, BoundStep, Verdict};
 use std::alloc::Global;
 use term_arena::{Arena, Id};
+
+/// The step of a number.
+fn step_at(bound: &Bound, i: u32) -> &BoundStep
+    requires { i < length bound.now.steps }
+    ensures { result.now ≡ step_at bound.now i }
+{
+    &bound.steps.as_slice()[i as usize]
+}
 
 /// Judges a candidate, as the step of a number. Where it does not fit, and where there is no room, the store is as it was.
 fn judge_candidate(
@@ -41,8 +50,8 @@ fn judge_candidate(
     candidates_are_ready();
     has_database_facts();
     let mark = arena.mark();
-    let formula = formulas[i as usize];
-    let places = bound.steps.as_slice()[i as usize].places.as_slice();
+    let formula = formula_at(formulas, i);
+    let places = step_at(bound, i).places.as_slice();
     match accept(alloc, db, arena, formulas, label, formula, places) {
         Err(_) => {
             arena.undo_to(mark);
@@ -73,8 +82,7 @@ pub fn judge(
     ensures next { IfOk result (IsNext db.now bound.now formulas.now i arena.old arena.new) }
     ensures err { OnErr result (IsSameStore arena.old arena.new) }
 {
-    let step = &bound.steps.as_slice()[i as usize];
-    match standing_of(db, bound.place, step) {
+    match standing_of(db, bound.place, step_at(bound, i)) {
         Standing::Settled(verdict) => Ok(settled(arena, verdict)),
         Standing::Candidate(label) => judge_candidate(alloc, db, bound, arena, formulas, i, label),
     }
