@@ -11,3 +11,4 @@ pub mod AcceptLaws
 pub mod LevelLaws
 pub mod CandidateLaws
 pub mod NextLaws
+pub mod HeldLaws

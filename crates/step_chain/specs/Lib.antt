@@ -8,3 +8,4 @@ pub mod Standings
 pub mod Steps
 pub mod Levels
 pub mod Accepted
+pub mod Held
