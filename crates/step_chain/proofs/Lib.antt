@@ -5,3 +5,5 @@ pub mod JudgedLaws
 pub mod CopyLaws
 pub mod TakenLaws
 pub mod StandingLaws
+pub mod WorkLaws
+pub mod FormulaLaws

@@ -5,3 +5,5 @@ pub mod Copied
 pub mod Tried
 pub mod Candidate
 pub mod Standings
+pub mod Works
+pub mod Formulas

@@ -1,9 +1,9 @@
 use crate::candidate::{Accepted, accept};
-use crate::formulas::{all_formulas, all_works, logic_code};
+use crate::formulas::add_all;
 use crate::reading::{TreeFault, Trees};
 use crate::standing::{Standing, standing_of};
 use chain_laws::WorkNode;
-use mm_base::{Label, List, Memory, Sym, Tree, Typecode};
+use mm_base::{Label, List, Memory, Tree, Typecode};
 use mm_database::Database;
 use solve_model::{Bound, Verdict};
 use std::alloc::Global;
@@ -32,20 +32,23 @@ pub struct Chain<'a> {
 
 impl<'a> Chain<'a> {
     /// The chain over a bound worksheet, with the nodes of its formulas and no step pushed.
-    pub fn new(alloc: Global, db: &'a Database, bound: &'a Bound) -> Result<Chain<'a>, Memory> {
+    pub fn new(
+        alloc: Global,
+        db: &'a Database,
+        logic: Typecode,
+        bound: &'a Bound,
+    ) -> Result<Chain<'a>, Memory> {
         let steps = bound.steps.as_slice();
         let mut arena = Arena::new(alloc)?;
-        let works = all_works(alloc, &mut arena, steps)?;
-        let logic = logic_code(steps).unwrap_or(Typecode(Sym(0)));
-        let formulas = all_formulas(alloc, &mut arena, db.grammar(), &works, logic, steps)?;
+        let nodes = add_all(alloc, &mut arena, db.grammar(), logic, steps)?;
         arena.ready()?;
         Ok(Chain {
             alloc,
             db,
             bound,
             arena,
-            works,
-            formulas,
+            works: nodes.works,
+            formulas: nodes.formulas,
             steps: Vec::new(alloc),
         })
     }

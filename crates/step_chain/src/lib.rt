@@ -13,6 +13,7 @@ mod standing;
 #[cfg(test)]
 mod tests;
 mod trying;
+mod works;
 
 pub use chain::Chain;
 pub use chain_laws::{VariableNode, WorkNode};
