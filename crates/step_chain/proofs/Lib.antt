@@ -7,3 +7,4 @@ pub mod TakenLaws
 pub mod StandingLaws
 pub mod WorkLaws
 pub mod FormulaLaws
+pub mod UnknownLaws
