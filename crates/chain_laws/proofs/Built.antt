@@ -165,20 +165,20 @@ module _ (db : Database) (bound : Bound) (asked : List Asked) (once : OnceEach (
 
   -- ---- formulas
 
-  abbrev OpenOk : Open → Type 0
+  abbrev pub OpenOk : Open → Type 0
   OpenOk (work c n) = On (named c n)
   OpenOk (fresh c n) = ⊥
 
-  abbrev FormulaOk : Tree → Type 0
+  abbrev pub FormulaOk : Tree → Type 0
   FormulaOk t = (x : Open) → Occurs x t → OpenOk x
 
-  leaf_occurs_fresh : (c : Typecode) (n : ℕ) → Occurs (fresh c n) (tree.Fresh c n)
+  pub leaf_occurs_fresh : (c : Typecode) (n : ℕ) → Occurs (fresh c n) (tree.Fresh c n)
   leaf_occurs_fresh c n = subst (λ (xs : List Open). Contains xs (fresh c n)) (sym (open_leaves-Fresh c n)) (first (fresh c n) [])
 
-  leaf_occurs_work : (c : Typecode) (n : ℕ) → Occurs (work c n) (tree.Work c n)
+  pub leaf_occurs_work : (c : Typecode) (n : ℕ) → Occurs (work c n) (tree.Work c n)
   leaf_occurs_work c n = subst (λ (xs : List Open). Contains xs (work c n)) (sym (open_leaves-Work c n)) (first (work c n) [])
 
-  each_ok : (ts : List Tree) → ((x : Open) → Contains (flatten (map open_leaves ts)) x → OpenOk x) → Each FormulaOk ts
+  pub each_ok : (ts : List Tree) → ((x : Open) → Contains (flatten (map open_leaves ts)) x → OpenOk x) → Each FormulaOk ts
   each_ok [] h = tt
   each_ok (t ∷ ts) h = (λ x o. h x (Contains-append_left (open_leaves t) (flatten (map open_leaves ts)) x o), each_ok ts (λ x o. h x (Contains-append_right (open_leaves t) (flatten (map open_leaves ts)) x o)))
 

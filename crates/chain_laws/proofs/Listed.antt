@@ -296,11 +296,11 @@ module _ (bound : Bound) (asked : List Asked) where
   all_unknowns u (in_frame x v c h) = Contains-append_right (of_steps 0 bound.steps) (of_candidates asked) u (all_of_candidates asked x v c h)
 
 -- of a worksheet without candidates: those of its steps
-pub once_of_steps : (bound : Bound) (us : List Unknown) → AreDistinct us → ((u : Unknown) → Contains (of_steps 0 bound.steps) u → Contains us u) → ((u : Unknown) → Contains us u → Contains (of_steps 0 bound.steps) u) → OnceEach (unknowns bound [])
-unfolding unknowns
-once_of_steps bound us distinct all only = record {
-  list = us;
-  distinct = distinct;
-  all = λ u h. elim (Contains-append_cases (of_steps 0 bound.steps) [] u h) [ inl here ↦ all u here | inr off ↦ absurd (nothing u off) ];
-  only = λ u h. Contains-append_left (of_steps 0 bound.steps) [] u (only u h);
-}
+module _ (bound : Bound) (us : List Unknown) where
+  pub all_of_worksheet : ((u : Unknown) → Contains (of_steps 0 bound.steps) u → Contains us u) → (u : Unknown) → Contains (unknowns bound []) u → Contains us u
+  unfolding unknowns
+  all_of_worksheet all u h = elim (Contains-append_cases (of_steps 0 bound.steps) [] u h) [ inl here ↦ all u here | inr off ↦ absurd (nothing u off) ]
+
+  pub only_of_worksheet : ((u : Unknown) → Contains us u → Contains (of_steps 0 bound.steps) u) → (u : Unknown) → Contains us u → Contains (unknowns bound []) u
+  unfolding unknowns
+  only_of_worksheet only u h = Contains-append_left (of_steps 0 bound.steps) [] u (only u h)

@@ -8,3 +8,4 @@ pub mod StandingLaws
 pub mod WorkLaws
 pub mod FormulaLaws
 pub mod UnknownLaws
+pub mod BegunLaws

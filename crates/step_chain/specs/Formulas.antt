@@ -9,6 +9,10 @@ use Rattle.term_model.specs.Terms.{Term, Free}
 use Rattle.term_model.specs.Store.{Store}
 use Rattle.chain_laws.specs.declared.leaves.WorkNode.{WorkNode}
 use Rattle.term_model.specs.declared.shape.Id.{Id}
+use Rattle.mm_model.specs.Book.{Database}
+use Rattle.solve_model.specs.declared.bound.Bound.{Bound}
+use Rattle.chain_laws.specs.Layout.{Layout, IsChained, AreFormulaNodes}
+use Rattle.step_chain.specs.Ordered.{formula_at}
 use Rattle.chain_laws.specs.Adding.{Adder, Listed, added, run, there_or, work_at}
 
 -- the free nodes so far, and those of them that are of work variables
@@ -77,3 +81,15 @@ pub record AreFormulas (rows : List Production) (logic : Typecode) (ss : List Bo
   pub nodes_are : nodes ≡ (formulas_of rows logic ss).nodes
   pub works_are : works ≡ (unknowns_of logic ss).works
   pub formulas_are : formulas ≡ (formulas_of rows logic ss).roots
+
+-- the node of a formula
+abbrev pub formula_node : List Id → ℕ → ℕ
+formula_node formulas i = (formula_at formulas i).0
+
+-- a store of a worksheet of which nothing is accepted yet, with the nodes of its work variables and of its formulas
+pub record HasFormulas (db : Database) (bound : Bound) (nodes : List Term) (works : List WorkNode) (formulas : List Id) : Type 0 where
+  pub lay : Layout
+  pub chained : IsChained db bound [] [] nodes [] lay
+  pub works_are : lay.works ≡ works
+  pub count : length formulas ≡ length bound.steps
+  pub formulas_are : AreFormulaNodes bound nodes lay (formula_node formulas)

@@ -1,4 +1,4 @@
-use Rattle.step_chain.proofs.UnknownLaws.{steps_listed}
+use Rattle.step_chain.proofs.BegunLaws.{formulas_chained}
 use Rattle.std.proofs.Common.{◌∙◌, sym}
 use Rattle.step_chain.proofs.AddingLaws.{grown_more}
 use Rattle.step_chain.proofs.FormulaLaws.{works_are_in, blanks_are, blanks_are_in, blanks_are_many, formulas_are}
