@@ -12,3 +12,7 @@ pub mod LevelLaws
 pub mod CandidateLaws
 pub mod NextLaws
 pub mod HeldLaws
+pub mod WorkLaws
+pub mod FormulaLaws
+pub mod UnknownLaws
+pub mod BegunLaws

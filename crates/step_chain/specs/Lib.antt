@@ -9,3 +9,5 @@ pub mod Steps
 pub mod Levels
 pub mod Accepted
 pub mod Held
+pub mod Works
+pub mod Formulas

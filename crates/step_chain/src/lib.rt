@@ -15,6 +15,7 @@ mod standing;
 #[cfg(test)]
 mod tests;
 mod trying;
+mod works;
 
 pub use chain::Chain;
 pub use chain_laws::{VariableNode, WorkNode};
