@@ -30,7 +30,7 @@ use Rattle.step_chain.proofs.Lists.{get_front, get_seam, get_past, all_join, all
 -- ---- lists
 
 module _ {X : Type 0} where
-  get_none : (xs : List X) (k : ℕ) → length xs ≤ k → slice_get xs k ≡ None
+  pub get_none : (xs : List X) (k : ℕ) → length xs ≤ k → slice_get xs k ≡ None
   get_none [] k h = refl
   get_none (x ∷ xs) zero h = absurd (omega (arith, h))
   get_none (x ∷ xs) (suc k) h = get_none xs k (omega (arith, h))
@@ -47,13 +47,13 @@ module _ {X : Type 0} where
   take_take [] (suc j) (suc k) h = refl
   take_take (x ∷ xs) (suc j) (suc k) h = ap (λ (ys : List X). x ∷ ys) (take_take xs j k (omega (arith, h)))
 
-  take_past : (xs : List X) (k : ℕ) → length xs ≤ k → take k xs ≡ xs
+  pub take_past : (xs : List X) (k : ℕ) → length xs ≤ k → take k xs ≡ xs
   take_past [] zero h = refl
   take_past [] (suc k) h = refl
   take_past (x ∷ xs) zero h = absurd (omega (arith, h))
   take_past (x ∷ xs) (suc k) h = ap (λ (ys : List X). x ∷ ys) (take_past xs k (omega (arith, h)))
 
-  take_length : (xs : List X) (k : ℕ) → k ≤ length xs → length (take k xs) ≡ k
+  pub take_length : (xs : List X) (k : ℕ) → k ≤ length xs → length (take k xs) ≡ k
   take_length xs zero h = refl
   take_length [] (suc k) h = absurd (omega (arith, h))
   take_length (x ∷ xs) (suc k) h = let rest = take_length xs k (omega (arith, h)) in omega (arith, rest)
@@ -63,7 +63,7 @@ module _ (of : Pushed → ℕ) where
   abbrev mark_at : List Pushed → ℕ → ℕ → ℕ
   mark_at steps last k = option_map_or of (slice_get steps k) last
 
-  behind : (steps : List Pushed) (last k : ℕ) → length steps ≤ k → mark_at steps last k ≡ last
+  pub behind : (steps : List Pushed) (last k : ℕ) → length steps ≤ k → mark_at steps last k ≡ last
   behind steps last k h = ap (λ (o : Option Pushed). option_map_or of o last) (get_none steps k h)
 
   -- with a step more, whose mark is the old end
@@ -186,76 +186,77 @@ module _ (d : Opened) (logic : Typecode) (bound : Bound) (works : List WorkNode)
       (ap (λ (o : Option Pushed). take (option_map_or (λ (p : Pushed). p.mark.trail) o (length links)) links) none ∙ take-length links) (h.fronts (length steps))
 
   -- the first steps alone
-  pub front_held : (steps : List Pushed) (nodes : List Term) (links : List Link) (k : ℕ) → IsHeld (held steps nodes links) → IsHeld (front_of (held steps nodes links) k)
-  front_held steps nodes links k h = record {
-    placed = h.placed;
-    few = h.few;
-    count = h.count;
-    pushed = let one = h.pushed in let two = length-take k steps in shorter (length (take k steps)) (length steps) (length bound.steps) (take_short steps k) one;
-    nodes_rise = λ i j below.
-        let e = nodes_end in
-        let one = rise_front (λ (p : Pushed). p.mark.nodes) steps (length nodes) k h.nodes_rise i j below in
-        subst (λ (n : ℕ). option_map_or (λ (p : Pushed). p.mark.nodes) (slice_get (take k steps) i) n ≤ option_map_or (λ (p : Pushed). p.mark.nodes) (slice_get (take k steps) j) n) (sym e) one;
-    links_rise = λ i j below.
-        let e = links_end in
-        let one = rise_front (λ (p : Pushed). p.mark.trail) steps (length links) k h.links_rise i j below in
-        subst (λ (n : ℕ). option_map_or (λ (p : Pushed). p.mark.trail) (slice_get (take k steps) i) n ≤ option_map_or (λ (p : Pushed). p.mark.trail) (slice_get (take k steps) j) n) (sym e) one;
-    fronts = λ j. elim (cases_lt k j) [ | inl past ↦ front_past j past | inr first ↦ front_first j first ];
-  }
-    where
-      shorter : (a b c : ℕ) → a ≤ b → b ≤ c → a ≤ c
-      shorter a b c x y = omega (arith, x, y)
+  module _ (steps : List Pushed) (nodes : List Term) (links : List Link) (k : ℕ) (h : IsHeld (held steps nodes links)) where
+    shorter : (a b c : ℕ) → a ≤ b → b ≤ c → a ≤ c
+    shorter a b c x y = omega (arith, x, y)
 
-      take_short : (xs : List Pushed) (k : ℕ) → length (take k xs) ≤ length xs
-      take_short xs zero = omega arith
-      take_short [] (suc k) = omega arith
-      take_short (x ∷ xs) (suc k) = let rest = take_short xs k in omega (arith, rest)
+    take_short : (xs : List Pushed) (k : ℕ) → length (take k xs) ≤ length xs
+    take_short xs zero = omega arith
+    take_short [] (suc k) = omega arith
+    take_short (x ∷ xs) (suc k) = let rest = take_short xs k in omega (arith, rest)
 
-      last_nodes : nodes_before steps nodes k ≤ length nodes
-      last_nodes = let rise = h.nodes_rise k (k + length steps) (omega arith) in let end = behind (λ (p : Pushed). p.mark.nodes) steps (length nodes) (k + length steps) (omega arith) in omega (arith, rise, end)
+    last_nodes : nodes_before steps nodes k ≤ length nodes
+    last_nodes = let rise = h.nodes_rise k (k + length steps) (omega arith) in let end = behind (λ (p : Pushed). p.mark.nodes) steps (length nodes) (k + length steps) (omega arith) in omega (arith, rise, end)
 
-      last_links : links_before steps links k ≤ length links
-      last_links = let rise = h.links_rise k (k + length steps) (omega arith) in let end = behind (λ (p : Pushed). p.mark.trail) steps (length links) (k + length steps) (omega arith) in omega (arith, rise, end)
+    last_links : links_before steps links k ≤ length links
+    last_links = let rise = h.links_rise k (k + length steps) (omega arith) in let end = behind (λ (p : Pushed). p.mark.trail) steps (length links) (k + length steps) (omega arith) in omega (arith, rise, end)
 
-      nodes_end : length (take (nodes_before steps nodes k) nodes) ≡ nodes_before steps nodes k
-      nodes_end = take_length nodes (nodes_before steps nodes k) last_nodes
+    nodes_end : length (take (nodes_before steps nodes k) nodes) ≡ nodes_before steps nodes k
+    nodes_end = take_length nodes (nodes_before steps nodes k) last_nodes
 
-      links_end : length (take (links_before steps links k) links) ≡ links_before steps links k
-      links_end = take_length links (links_before steps links k) last_links
+    links_end : length (take (links_before steps links k) links) ≡ links_before steps links k
+    links_end = take_length links (links_before steps links k) last_links
 
-      abbrev steps' : List Pushed
-      steps' = take k steps
+    abbrev first_steps : List Pushed
+    first_steps = take k steps
 
-      abbrev nodes' : List Term
-      nodes' = take (nodes_before steps nodes k) nodes
+    abbrev first_nodes : List Term
+    first_nodes = take (nodes_before steps nodes k) nodes
 
-      abbrev links' : List Link
-      links' = take (links_before steps links k) links
+    abbrev first_links : List Link
+    first_links = take (links_before steps links k) links
 
-      front_first : (j : ℕ) → j ≤ k → Front (take j steps') (take (nodes_before steps' nodes' j) nodes') (take (links_before steps' links' j) links')
-      front_first j first =
-          let n : nodes_before steps' nodes' j ≡ nodes_before steps nodes j = ap (λ (m : ℕ). option_map_or (λ (p : Pushed). p.mark.nodes) (slice_get steps' j) m) nodes_end ∙ at_front (λ (p : Pushed). p.mark.nodes) steps (length nodes) k j first in
-          let l : links_before steps' links' j ≡ links_before steps links j = ap (λ (m : ℕ). option_map_or (λ (p : Pushed). p.mark.trail) (slice_get steps' j) m) links_end ∙ at_front (λ (p : Pushed). p.mark.trail) steps (length links) k j first in
-          front_same (take j steps) (take j steps') (take (nodes_before steps nodes j) nodes) (take (nodes_before steps' nodes' j) nodes') (take (links_before steps links j) links) (take (links_before steps' links' j) links')
-          (sym (take_take steps j k first))
-          (sym (ap (λ (m : ℕ). take m nodes') n ∙ take_take nodes (nodes_before steps nodes j) (nodes_before steps nodes k) (h.nodes_rise j k first)))
-          (sym (ap (λ (m : ℕ). take m links') l ∙ take_take links (links_before steps links j) (links_before steps links k) (h.links_rise j k first)))
-          (h.fronts j)
+    front_first : (j : ℕ) → j ≤ k → Front (take j first_steps) (take (nodes_before first_steps first_nodes j) first_nodes) (take (links_before first_steps first_links j) first_links)
+    front_first j first =
+        let n : nodes_before first_steps first_nodes j ≡ nodes_before steps nodes j = ap (λ (m : ℕ). option_map_or (λ (p : Pushed). p.mark.nodes) (slice_get first_steps j) m) nodes_end ∙ at_front (λ (p : Pushed). p.mark.nodes) steps (length nodes) k j first in
+        let l : links_before first_steps first_links j ≡ links_before steps links j = ap (λ (m : ℕ). option_map_or (λ (p : Pushed). p.mark.trail) (slice_get first_steps j) m) links_end ∙ at_front (λ (p : Pushed). p.mark.trail) steps (length links) k j first in
+        front_same (take j steps) (take j first_steps) (take (nodes_before steps nodes j) nodes) (take (nodes_before first_steps first_nodes j) first_nodes) (take (links_before steps links j) links) (take (links_before first_steps first_links j) first_links)
+        (sym (take_take steps j k first))
+        (sym (ap (λ (m : ℕ). take m first_nodes) n ∙ take_take nodes (nodes_before steps nodes j) (nodes_before steps nodes k) (h.nodes_rise j k first)))
+        (sym (ap (λ (m : ℕ). take m first_links) l ∙ take_take links (links_before steps links j) (links_before steps links k) (h.links_rise j k first)))
+        (h.fronts j)
 
-      front_past : (j : ℕ) → k < j → Front (take j steps') (take (nodes_before steps' nodes' j) nodes') (take (links_before steps' links' j) links')
-      front_past j past =
-          let n : nodes_before steps' nodes' j ≡ nodes_before steps nodes k = ap (λ (m : ℕ). option_map_or (λ (p : Pushed). p.mark.nodes) (slice_get steps' j) m) nodes_end ∙ at_front_past (λ (p : Pushed). p.mark.nodes) steps (length nodes) k j (omega (arith, past)) in
-          let l : links_before steps' links' j ≡ links_before steps links k = ap (λ (m : ℕ). option_map_or (λ (p : Pushed). p.mark.trail) (slice_get steps' j) m) links_end ∙ at_front_past (λ (p : Pushed). p.mark.trail) steps (length links) k j (omega (arith, past)) in
-          front_same steps' (take j steps') nodes' (take (nodes_before steps' nodes' j) nodes') links' (take (links_before steps' links' j) links')
-          (sym (take_past steps' j (shorter (length steps') k j (short_at steps k) (omega (arith, past)))))
-          (sym (ap (λ (m : ℕ). take m nodes') n ∙ take_take nodes (nodes_before steps nodes k) (nodes_before steps nodes k) (omega arith)))
-          (sym (ap (λ (m : ℕ). take m links') l ∙ take_take links (links_before steps links k) (links_before steps links k) (omega arith)))
-          (h.fronts k)
-        where
-          short_at : (xs : List Pushed) (k : ℕ) → length (take k xs) ≤ k
-          short_at xs zero = omega arith
-          short_at [] (suc k) = omega arith
-          short_at (x ∷ xs) (suc k) = let rest = short_at xs k in omega (arith, rest)
+    front_past : (j : ℕ) → k < j → Front (take j first_steps) (take (nodes_before first_steps first_nodes j) first_nodes) (take (links_before first_steps first_links j) first_links)
+    front_past j past =
+        let n : nodes_before first_steps first_nodes j ≡ nodes_before steps nodes k = ap (λ (m : ℕ). option_map_or (λ (p : Pushed). p.mark.nodes) (slice_get first_steps j) m) nodes_end ∙ at_front_past (λ (p : Pushed). p.mark.nodes) steps (length nodes) k j (omega (arith, past)) in
+        let l : links_before first_steps first_links j ≡ links_before steps links k = ap (λ (m : ℕ). option_map_or (λ (p : Pushed). p.mark.trail) (slice_get first_steps j) m) links_end ∙ at_front_past (λ (p : Pushed). p.mark.trail) steps (length links) k j (omega (arith, past)) in
+        front_same first_steps (take j first_steps) first_nodes (take (nodes_before first_steps first_nodes j) first_nodes) first_links (take (links_before first_steps first_links j) first_links)
+        (sym (take_past first_steps j (shorter (length first_steps) k j (short_at steps k) (omega (arith, past)))))
+        (sym (ap (λ (m : ℕ). take m first_nodes) n ∙ take_take nodes (nodes_before steps nodes k) (nodes_before steps nodes k) (omega arith)))
+        (sym (ap (λ (m : ℕ). take m first_links) l ∙ take_take links (links_before steps links k) (links_before steps links k) (omega arith)))
+        (h.fronts k)
+      where
+        short_at : (xs : List Pushed) (k : ℕ) → length (take k xs) ≤ k
+        short_at xs zero = omega arith
+        short_at [] (suc k) = omega arith
+        short_at (x ∷ xs) (suc k) = let rest = short_at xs k in omega (arith, rest)
+
+    pub front_held : IsHeld (front_of (held steps nodes links) k)
+    front_held = record {
+      placed = h.placed;
+      few = h.few;
+      count = h.count;
+      pushed = let one = h.pushed in let two = length-take k steps in shorter (length (take k steps)) (length steps) (length bound.steps) (take_short steps k) one;
+      nodes_rise = λ i j below.
+          let e = nodes_end in
+          let one = rise_front (λ (p : Pushed). p.mark.nodes) steps (length nodes) k h.nodes_rise i j below in
+          subst (λ (n : ℕ). option_map_or (λ (p : Pushed). p.mark.nodes) (slice_get (take k steps) i) n ≤ option_map_or (λ (p : Pushed). p.mark.nodes) (slice_get (take k steps) j) n) (sym e) one;
+      links_rise = λ i j below.
+          let e = links_end in
+          let one = rise_front (λ (p : Pushed). p.mark.trail) steps (length links) k h.links_rise i j below in
+          subst (λ (n : ℕ). option_map_or (λ (p : Pushed). p.mark.trail) (slice_get (take k steps) i) n ≤ option_map_or (λ (p : Pushed). p.mark.trail) (slice_get (take k steps) j) n) (sym e) one;
+      fronts = λ j. elim (cases_lt k j) [ | inl past ↦ front_past j past | inr first ↦ front_first j first ];
+    }
 
   -- a step more
   module _ (steps : List Pushed) (p : Pushed) (old new : Store) (h : IsHeld (held steps old.nodes old.links)) (nodes_mark : p.mark.nodes ≡ length old.nodes) (links_mark : p.mark.trail ≡ length old.links)
@@ -284,28 +285,28 @@ module _ (d : Opened) (logic : Typecode) (bound : Bound) (works : List WorkNode)
       level = λ kinds text sheet opened binds code. next.level kinds text sheet opened binds works steps p refl refl (last.level kinds text sheet opened binds code);
     }
 
-    abbrev steps' : List Pushed
-    steps' = steps ++ p ∷ []
+    abbrev more_steps : List Pushed
+    more_steps = steps ++ p ∷ []
 
-    front_old : (j : ℕ) → j ≤ length steps → Front (take j steps') (take (nodes_before steps' new.nodes j) new.nodes) (take (links_before steps' new.links j) new.links)
+    front_old : (j : ℕ) → j ≤ length steps → Front (take j more_steps) (take (nodes_before more_steps new.nodes j) new.nodes) (take (links_before more_steps new.links j) new.links)
     front_old j first =
-        let n : nodes_before steps' new.nodes j ≡ nodes_before steps old.nodes j = at_pushed (λ (q : Pushed). q.mark.nodes) steps p (length old.nodes) (length new.nodes) j nodes_mark first in
-        let l : links_before steps' new.links j ≡ links_before steps old.links j = at_pushed (λ (q : Pushed). q.mark.trail) steps p (length old.links) (length new.links) j links_mark first in
+        let n : nodes_before more_steps new.nodes j ≡ nodes_before steps old.nodes j = at_pushed (λ (q : Pushed). q.mark.nodes) steps p (length old.nodes) (length new.nodes) j nodes_mark first in
+        let l : links_before more_steps new.links j ≡ links_before steps old.links j = at_pushed (λ (q : Pushed). q.mark.trail) steps p (length old.links) (length new.links) j links_mark first in
         let below_n : nodes_before steps old.nodes j ≤ length old.nodes = let rise = h.nodes_rise j (length steps) first in let end = behind (λ (q : Pushed). q.mark.nodes) steps (length old.nodes) (length steps) (omega arith) in omega (arith, rise, end) in
         let below_l : links_before steps old.links j ≤ length old.links = let rise = h.links_rise j (length steps) first in let end = behind (λ (q : Pushed). q.mark.trail) steps (length old.links) (length steps) (omega arith) in omega (arith, rise, end) in
-        front_same (take j steps) (take j steps') (take (nodes_before steps old.nodes j) old.nodes) (take (nodes_before steps' new.nodes j) new.nodes) (take (links_before steps old.links j) old.links) (take (links_before steps' new.links j) new.links)
+        front_same (take j steps) (take j more_steps) (take (nodes_before steps old.nodes j) old.nodes) (take (nodes_before more_steps new.nodes j) new.nodes) (take (links_before steps old.links j) old.links) (take (links_before more_steps new.links j) new.links)
         (sym (take-append-le j steps (p ∷ []) first))
         (sym (ap (λ (m : ℕ). take m new.nodes) n ∙ ap (take (nodes_before steps old.nodes j)) next.extended.nodes ∙ take-append-le (nodes_before steps old.nodes j) old.nodes next.extended.more below_n))
         (sym (ap (λ (m : ℕ). take m new.links) l ∙ ap (take (links_before steps old.links j)) next.extended.links ∙ take-append-le (links_before steps old.links j) old.links next.extended.more_links below_l))
         (h.fronts j)
 
-    front_new : (j : ℕ) → length steps < j → Front (take j steps') (take (nodes_before steps' new.nodes j) new.nodes) (take (links_before steps' new.links j) new.links)
+    front_new : (j : ℕ) → length steps < j → Front (take j more_steps) (take (nodes_before more_steps new.nodes j) new.nodes) (take (links_before more_steps new.links j) new.links)
     front_new j past =
         let long = length_push steps p in
-        let n : nodes_before steps' new.nodes j ≡ length new.nodes = behind (λ (q : Pushed). q.mark.nodes) steps' (length new.nodes) j (omega (arith, past, long)) in
-        let l : links_before steps' new.links j ≡ length new.links = behind (λ (q : Pushed). q.mark.trail) steps' (length new.links) j (omega (arith, past, long)) in
-        front_same steps' (take j steps') new.nodes (take (nodes_before steps' new.nodes j) new.nodes) new.links (take (links_before steps' new.links j) new.links)
-        (sym (take_past steps' j (omega (arith, past, long))))
+        let n : nodes_before more_steps new.nodes j ≡ length new.nodes = behind (λ (q : Pushed). q.mark.nodes) more_steps (length new.nodes) j (omega (arith, past, long)) in
+        let l : links_before more_steps new.links j ≡ length new.links = behind (λ (q : Pushed). q.mark.trail) more_steps (length new.links) j (omega (arith, past, long)) in
+        front_same more_steps (take j more_steps) new.nodes (take (nodes_before more_steps new.nodes j) new.nodes) new.links (take (links_before more_steps new.links j) new.links)
+        (sym (take_past more_steps j (omega (arith, past, long))))
         (sym (ap (λ (m : ℕ). take m new.nodes) n ∙ take-length new.nodes))
         (sym (ap (λ (m : ℕ). take m new.links) l ∙ take-length new.links)) new_front
 

@@ -16,3 +16,4 @@ pub mod WorkLaws
 pub mod FormulaLaws
 pub mod UnknownLaws
 pub mod BegunLaws
+pub mod ChainLaws
