@@ -9,3 +9,10 @@ pub mod WorkLaws
 pub mod FormulaLaws
 pub mod UnknownLaws
 pub mod BegunLaws
+pub mod StandingOf
+pub mod Lists
+pub mod AcceptLaws
+pub mod LevelLaws
+pub mod CandidateLaws
+pub mod NextLaws
+pub mod SymbolLaws

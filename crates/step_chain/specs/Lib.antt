@@ -7,3 +7,6 @@ pub mod Candidate
 pub mod Standings
 pub mod Works
 pub mod Formulas
+pub mod Steps
+pub mod Levels
+pub mod Accepted

@@ -1,21 +1,13 @@
-use crate::candidate::{Accepted, accept};
-use crate::formulas::add_all;
+use crate::begun::begin;
+use crate::judged::{Accepted, Judged, Pushed};
+use crate::judging::judge;
 use crate::reading::{TreeFault, Trees};
-use crate::standing::{Standing, standing_of};
 use chain_laws::WorkNode;
-use mm_base::{Label, List, Memory, Tree, Typecode};
+use mm_base::{Kinds, List, Memory, Tree};
 use mm_database::Database;
 use solve_model::{Bound, Verdict};
 use std::alloc::Global;
-use term_arena::{Arena, Id, Mark};
-
-/// A step that was pushed: where the store stood before it, and what was judged of it.
-#[derive(Drop)]
-struct Pushed {
-    mark: Mark,
-    verdict: Verdict,
-    accepted: Option<Accepted>,
-}
+use term_arena::{Arena, Id};
 
 /// The steps of a bound worksheet, taken one after the other into one store of terms.
 #[derive(Drop)]
@@ -35,13 +27,11 @@ impl<'a> Chain<'a> {
     pub fn new(
         alloc: Global,
         db: &'a Database,
-        logic: Typecode,
+        kinds: &Kinds,
         bound: &'a Bound,
     ) -> Result<Chain<'a>, Memory> {
-        let steps = bound.steps.as_slice();
         let mut arena = Arena::new(alloc)?;
-        let nodes = add_all(alloc, &mut arena, db.grammar(), logic, steps)?;
-        arena.ready()?;
+        let nodes = begin(alloc, &mut arena, db, kinds, bound)?;
         Ok(Chain {
             alloc,
             db,
@@ -68,60 +58,33 @@ impl<'a> Chain<'a> {
         self.formulas[i as usize]
     }
 
+    fn accepted(&self, i: u32) -> &Accepted {
+        match &self.steps[i as usize].judged {
+            Judged::Fits(accepted) => accepted,
+            Judged::Stands(_) => unreachable!(),
+        }
+    }
+
     /// The order in which an accepted step fits, as positions in its places.
     pub fn order(&self, i: u32) -> &List<u32> {
-        match &self.steps[i as usize].accepted {
-            Some(accepted) => &accepted.order,
-            None => unreachable!(),
-        }
+        &self.accepted(i).order
     }
 
     /// Judges the next step, and takes it into the store where it fits. `Memory`: there is no room, and nothing changed.
     pub fn push_step(&mut self, i: u32) -> Result<Verdict, Memory> {
         self.steps.reserve(1)?;
-        let step = &self.bound.steps.as_slice()[i as usize];
-        match standing_of(self.db, self.bound.place, step) {
-            Standing::Settled(verdict) => Ok(self.keep(self.arena.mark(), verdict, None)),
-            Standing::Candidate(label) => self.judge(i, label),
-        }
-    }
-
-    fn keep(&mut self, mark: Mark, verdict: Verdict, accepted: Option<Accepted>) -> Verdict {
-        self.steps
-            .push(Pushed {
-                mark,
-                verdict,
-                accepted,
-            })
-            .unwrap();
-        verdict
-    }
-
-    /// Judges a candidate.
-    fn judge(&mut self, i: u32, label: Label) -> Result<Verdict, Memory> {
         let mark = self.arena.mark();
-        let step = &self.bound.steps.as_slice()[i as usize];
-        let formula = self.formulas[i as usize];
-        let accepted = accept(
+        let judged = judge(
             self.alloc,
             self.db,
+            self.bound,
             &mut self.arena,
             &self.formulas,
-            label,
-            formula,
-            step.places.as_slice(),
-        );
-        match accepted {
-            Err(_) => {
-                self.arena.undo_to(mark);
-                Err(Memory)
-            }
-            Ok(None) => {
-                self.arena.undo_to(mark);
-                Ok(self.keep(mark, Verdict::NoFit, None))
-            }
-            Ok(Some(accepted)) => Ok(self.keep(mark, Verdict::Fits, Some(accepted))),
-        }
+            i,
+        )?;
+        let verdict = verdict_of(&judged);
+        self.steps.push(Pushed { mark, judged }).unwrap();
+        Ok(verdict)
     }
 
     /// Goes back to the first `k` steps.
@@ -145,24 +108,26 @@ impl<'a> Chain<'a> {
 
     /// The `$e` of a number of an accepted step.
     pub fn place(&self, i: u32, k: u32) -> Result<Tree, TreeFault> {
-        match &self.steps[i as usize].accepted {
-            Some(accepted) => self.trees()?.tree(accepted.hyps[k as usize]),
-            None => unreachable!(),
-        }
+        self.trees()?.tree(self.accepted(i).hyps.as_slice()[k as usize])
     }
 
     /// The trees in place of the mandatory variables of an accepted step.
     pub fn substitution(&self, i: u32) -> Result<List<Tree>, TreeFault> {
         let trees = self.trees()?;
         let mut values = Vec::new(self.alloc);
-        if let Some(accepted) = &self.steps[i as usize].accepted {
-            for variable in &accepted.variables {
-                let tree = trees.tree(Id(variable.node))?;
-                if values.push(tree).is_err() {
-                    return Err(TreeFault::Memory);
-                }
+        for variable in self.accepted(i).variables.as_slice() {
+            let tree = trees.tree(Id(variable.node))?;
+            if values.push(tree).is_err() {
+                return Err(TreeFault::Memory);
             }
         }
         Ok(List::from_vec(values))
+    }
+}
+
+fn verdict_of(judged: &Judged) -> Verdict {
+    match judged {
+        Judged::Stands(verdict) => *verdict,
+        Judged::Fits(_) => Verdict::Fits,
     }
 }

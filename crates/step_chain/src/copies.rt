@@ -105,6 +105,7 @@ pub fn add_candidate(
     ensures grows { IsGrown arena.old arena.new }
     ensures root_in { IfOk result (λ c. c.root.0 < length arena.new.nodes) }
     ensures hyps_in { IfOk result (λ c. AreIdsIn (length arena.new.nodes) c.hyps.items) }
+    ensures variables_in { IfOk result (λ c. AreVariablesIn (length arena.new.nodes) c.variables.items) }
 {
     let variables = own_variables(alloc, arena.count(), frame_hyps)?;
     add_copies(arena, &variables)?;

@@ -2,11 +2,14 @@
 #![tactic(auto)]
 
 mod adding;
+mod begun;
 mod candidate;
 mod chain;
 mod copies;
 mod formulas;
 mod joining;
+mod judged;
+mod judging;
 mod orders;
 mod reading;
 mod standing;

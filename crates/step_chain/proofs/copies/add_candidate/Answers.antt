@@ -1,4 +1,4 @@
-use Rattle.std.proofs.Common.{length, ◌∙◌, sym}
+use Rattle.std.proofs.Common.{length, ◌∙◌, sym, refl}
 use Rattle.step_chain.proofs.AddingLaws.{variables_in_more, grown_longer, grown_more}
 use Rattle.step_chain.proofs.CopyLaws.{table_is, copied_is, table_in, root_is, roots_are, without_works, all_without_works}
 use Rattle.step_chain.proofs.copies.add_candidate.Goals as goal
@@ -56,3 +56,16 @@ pub returns-clause-grows : goal.returns-clause-grows
 returns-clause-grows c =
     grown_more c.args.arena.now c.add_tree.new.arena c.add_trees.new.arena
     (grown_more c.args.arena.now c.add_copies.new.arena c.add_tree.new.arena c.in_ok-add_copies.ensures.grows c.in_ok-root.ensures.grows) c.in_ok-hyps.ensures.grows
+
+pub returns-clause-variables_in : goal.returns-clause-variables_in
+returns-clause-variables_in c =
+    let rows = c.args.grammar.now in
+    let nodes = c.args.arena.now.nodes in
+    let hyps = c.args.frame_hyps.now in
+    let items = c.in_ok-variables.variables.items in
+    let one = table_is rows nodes hyps c.args.tree.now c.args.trees.now c.count.result items c.deref.result.now c.count.ensures.count c.in_ok-variables.ensures c.deref.ensures.value in
+    let own = table_is rows nodes hyps c.args.tree.now c.args.trees.now c.count.result items items c.count.ensures.count c.in_ok-variables.ensures refl in
+    variables_in_more _ _ items (grown_longer c.add_tree.new.arena c.add_trees.new.arena c.add_trees.ensures.grows)
+    (variables_in_more _ _ items (grown_longer c.add_copies.new.arena c.add_tree.new.arena c.add_tree.ensures.grows)
+    (table_in rows nodes hyps c.args.tree.now c.args.trees.now items c.add_copies.new.arena.nodes own
+    (copied_is rows nodes hyps c.args.tree.now c.args.trees.now c.deref.result.now c.add_copies.new.arena.nodes one c.in_ok-add_copies.ensures.nodes)))
