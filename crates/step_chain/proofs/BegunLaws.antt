@@ -1,15 +1,25 @@
 -- The nodes of a worksheet's unknowns and formulas are a chained store.
-use Rattle.std.specs.Prelude.{◌≡◌, ℕ, ◌<◌, ◌≤◌, ◌+◌, List, [], ◌∷◌, ◌++◌, length, map, slice_get, slice_index_or, Option, Some, None, Contains, refl}
+use Rattle.std.specs.Prelude.{◌≡◌, ℕ, ◌<◌, ◌≤◌, ◌+◌, List, [], ◌∷◌, ◌++◌, length, map, slice_get, slice_index_or, Option, Some, None, Result, Ok, Err, IfOk, Contains, refl}
 use Rattle.std.specs.List.{AllByRecursion}
 use Rattle.std.proofs.Common.{zero, suc, get_or, sym, ap, subst, ◌∙◌, arith, inl, inr}
 use Rattle.std.proofs.lemmas.List.{append_assoc, get_or-map, length-map, length-append}
 use Rattle.std.proofs.lemmas.Option.{slice_get-get_or}
+use Rattle.mm_base.specs.declared.errors.Memory.{Memory}
+use Rattle.mm_base.specs.declared.kinds.Kinds.{Kinds}
 use Rattle.mm_base.specs.declared.symbols.Typecode.{Typecode}
 use Rattle.mm_base.specs.declared.symbols.Sym.{Sym}
 use Rattle.mm_base.specs.declared.tree.Tree.{Tree}
 use Rattle.mm_base.specs.declared.tree.Tree.TheVariants as tree
 use Rattle.mm_base.specs.Trees.{code_of}
+use Rattle.mm_model.specs.declared.rows.Production.{Production}
+use Rattle.mm_model.specs.Names.{typecode}
+use Rattle.mm_model.specs.Frames.{symbol_in}
 use Rattle.mm_model.specs.Book.{Database, logic_code}
+use Rattle.mm_frames.specs.Contents.{Contents}
+use Rattle.mm_database.specs.Books.{database_of}
+use Rattle.mm_database.specs.Opened.{Opened, IsOpened}
+use Rattle.sheet_text.specs.declared.sheet.Sheet.{Sheet}
+use Rattle.solve_model.specs.Bound.{Binds}
 use Rattle.mm_model.specs.Typed.{IsTyped}
 use Rattle.solve_model.specs.declared.bound.BoundStep.{BoundStep}
 use Rattle.solve_model.specs.declared.bound.Bound.{Bound}
@@ -19,17 +29,21 @@ use Rattle.solve_model.proofs.TreeLaws.{open_leaves-Node}
 use Rattle.solve_laws.proofs.NoFresh.{no_fresh_leaf}
 use Rattle.term_model.specs.declared.shape.Id.{Id}
 use Rattle.term_model.specs.Terms.{Term, Free, term_at, term_code}
-use Rattle.term_model.specs.Store.{tree_at}
+use Rattle.term_model.specs.Store.{tree_at, Store, IsStore, IsSolved}
 use Rattle.term_model.proofs.CycleLaws.{start_solution}
 use Rattle.term_model.proofs.ClosureLaws.{agrees_refl}
 use Rattle.chain_laws.specs.declared.leaves.WorkNode.{WorkNode}
 use Rattle.chain_laws.specs.Adding.{Rooted, Listed, Adder, run, id_of, first_then, there_or, work_at, added}
+use Rattle.chain_laws.specs.Laws.{BoundIsReady}
 use Rattle.chain_laws.specs.Layout.{Layout, IsChained, IsReadyFormula, IsReadyBound, AreFormulaNodes, Fit, valuation_of}
 use Rattle.chain_laws.proofs.LeastLeaves.{first, nothing}
 use Rattle.chain_laws.proofs.Listed.{AreDistinct, OnceEach, unknowns, of_steps, place_in, place_back, all_of_worksheet, only_of_worksheet}
 use Rattle.chain_laws.proofs.Grown.{fit_back, within_front}
 use Rattle.chain_laws.proofs.Added.{IsMade, found_node, own_variable, added_made}
 use Rattle.chain_laws.proofs.Built as built
+use Rattle.step_chain.specs.declared.formulas.FormulaNodes.{FormulaNodes}
+use Rattle.step_chain.specs.Grown.{IsGrown, AreIdsIn, AreWorksIn}
+use Rattle.step_chain.specs.Levels.{IsLevel, IsFront}
 use Rattle.step_chain.specs.Ordered.{formula_at}
 use Rattle.step_chain.specs.Formulas.{Begun, nothing_begun, unknowns_of, formulas_of, blank_nodes, formula_adder, formula_adders, AreFormulas, formula_node, HasFormulas}
 use Rattle.step_chain.proofs.FormulaLaws.{blanks_count}
@@ -257,3 +271,47 @@ module _ (db : Database) (bound : Bound) (ready : IsReadyBound db bound) where
       subst (λ (ns : List Term). HasFormulas db bound ns works formulas) (sym h.nodes_are)
       (subst (λ (ws : List WorkNode). HasFormulas db bound (formulas_of db.rows (logic_code db) bound.steps).nodes ws formulas) (sym h.works_are)
       (subst (λ (ids : List Id). HasFormulas db bound (formulas_of db.rows (logic_code db) bound.steps).nodes (unknowns_of (logic_code db) bound.steps).works ids) (sym h.formulas_are) first_formulas))
+
+-- ---- for the code
+
+-- the first level of a chain
+module _ (d : Opened) (bound : Bound) (law : BoundIsReady) (logic : Typecode) where
+  book_formulas : (db : Database) (sheet : Sheet) (nodes : List Term) (works : List WorkNode) (formulas : List Id) → Binds db sheet bound → logic_code db ≡ logic → AreFormulas db.rows logic bound.steps nodes works formulas
+      → HasFormulas db bound nodes works formulas
+  book_formulas db sheet nodes works formulas binds code h =
+      formulas_chained db bound (law db sheet bound binds) nodes works formulas (subst (λ (c : Typecode). AreFormulas db.rows c bound.steps nodes works formulas) (sym code) h)
+
+  first_level : (db : Database) (nodes : List Term) (works : List WorkNode) (formulas : List Id) → HasFormulas db bound nodes works formulas → IsLevel db d bound works formulas [] nodes []
+  first_level db nodes works formulas h = record {
+    layout = h.lay;
+    chained = h.chained;
+    formula_nodes = h.formulas_are;
+    works_are = h.works_are;
+    before = tt;
+    each = λ i s o at none. cc;
+    kept = λ i p x a none e f. cc;
+  }
+
+  pub first_front : (rows : List Production) (ss : List BoundStep) (r : Result FormulaNodes Memory) (old new : Store) → rows ≡ d.rows → ss ≡ bound.steps → old.links ≡ [] → IsSolved old.nodes old.links → IsGrown old new → IsStore new.nodes new.links
+      → IfOk r (λ f. AreFormulas rows logic ss new.nodes f.works.items f.formulas.items) → IfOk r (λ f. AreIdsIn (length new.nodes) f.formulas.items) → IfOk r (λ f. AreWorksIn (length new.nodes) f.works.items)
+      → IfOk r (λ f. IsFront d logic bound f.works.items f.formulas.items [] new.nodes new.links)
+  first_front rows ss (Err e) old new same_rows same_steps unbound solved grown store h ids works = tt
+  first_front rows ss (Ok f) old new same_rows same_steps unbound solved grown store h ids works =
+      let none : new.links ≡ [] = grown.links ∙ unbound in
+      let here : AreFormulas d.rows logic bound.steps new.nodes f.works.items f.formulas.items =
+      subst (λ (xs : List BoundStep). AreFormulas d.rows logic xs new.nodes f.works.items f.formulas.items) same_steps (subst (λ (xs : List Production). AreFormulas xs logic ss new.nodes f.works.items f.formulas.items) same_rows h) in
+      record {
+        store = store;
+        solved = grown.solved solved;
+        works_in = works;
+        formulas_in = ids;
+        kept_in = tt;
+        level = λ kinds text sheet opened binds code.
+            let db = database_of kinds text d.rows d.parsed in
+            subst (IsLevel db d bound f.works.items f.formulas.items [] new.nodes) (sym none)
+            (first_level db new.nodes f.works.items f.formulas.items (book_formulas db sheet new.nodes f.works.items f.formulas.items binds code here));
+      }
+
+  pub begun_count : (rows : List Production) (ss : List BoundStep) (r : Result FormulaNodes Memory) → ss ≡ bound.steps → IfOk r (λ f. length f.formulas.items ≡ length ss) → IfOk r (λ f. length f.formulas.items ≡ length bound.steps)
+  begun_count rows ss (Err e) same h = tt
+  begun_count rows ss (Ok f) same h = h ∙ ap length same

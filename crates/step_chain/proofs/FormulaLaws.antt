@@ -200,3 +200,13 @@ module _ (logic : Typecode) where
           works_are = w ∙ ap (λ (b : Begun). b.works) unknowns_are;
           formulas_are = l.roots ∙ ap (λ (x : Listed). x.roots) same;
         }
+
+-- the nodes of a list of formulas
+pub listed_count : (rows : List Production) (works : List WorkNode) (logic : Typecode) (os : List (Option ℕ)) (ss : List BoundStep) (nodes0 nodes : List Term) (ids : List Id) → length os ≡ length ss → AreListed (run (formula_adders rows works logic os ss) nodes0) nodes ids → length ids ≡ length ss
+listed_count rows works logic os ss nodes0 nodes ids e h = ap length h.roots ∙ count os ss nodes0 e
+  where
+    count : (os : List (Option ℕ)) (ss : List BoundStep) (nodes : List Term) → length os ≡ length ss → length (run (formula_adders rows works logic os ss) nodes).roots ≡ length ss
+    count [] [] nodes e = refl
+    count [] (s ∷ ss) nodes e = absurd (omega (arith, e))
+    count (o ∷ os) [] nodes e = absurd (omega (arith, e))
+    count (o ∷ os) (s ∷ ss) nodes e = let rest = count os ss (formula_adder rows works logic o s.tree nodes).nodes (omega (arith, e)) in omega (arith, rest)

@@ -5,6 +5,10 @@ pub mod JudgedLaws
 pub mod CopyLaws
 pub mod TakenLaws
 pub mod StandingLaws
+pub mod WorkLaws
+pub mod FormulaLaws
+pub mod UnknownLaws
+pub mod BegunLaws
 pub mod StandingOf
 pub mod Lists
 pub mod AcceptLaws
@@ -12,8 +16,5 @@ pub mod LevelLaws
 pub mod CandidateLaws
 pub mod NextLaws
 pub mod HeldLaws
-pub mod WorkLaws
-pub mod FormulaLaws
-pub mod UnknownLaws
-pub mod BegunLaws
 pub mod ChainLaws
+pub mod SymbolLaws

@@ -1,7 +1,10 @@
 -- What a chain of steps holds.
 use Rattle.std.specs.Prelude.{◌≡◌, ℕ, ◌<◌, ◌≤◌, ◌^◌, List, [], ◌∷◌, ◌++◌, length, take, slice_get, Some}
 use Rattle.std.specs.Option.{option_map_or}
+use Rattle.mm_base.specs.declared.kinds.Kinds.{Kinds}
 use Rattle.mm_base.specs.declared.symbols.Typecode.{Typecode}
+use Rattle.mm_model.specs.Names.{typecode}
+use Rattle.mm_model.specs.Frames.{symbol_in}
 use Rattle.mm_model.specs.Book.{Database, logic_code}
 use Rattle.mm_database.specs.Opened.{Opened}
 use Rattle.solve_model.specs.declared.bound.BoundStep.{BoundStep}
@@ -78,8 +81,8 @@ pub record IsPushed (old new : Held) (v : Verdict) : Type 0 where
       → IsJudgement db old.bound (accepted_in (judgements_of old)) (length (judgements_of old)) s (standing db old.bound.place s) judgement)
 
 -- nothing is pushed yet
-pub record IsFirst (d : Opened) (logic : Typecode) (bound : Bound) (h : Held) : Type 0 where
+pub record IsFirst (kinds : Kinds) (d : Opened) (bound : Bound) (h : Held) : Type 0 where
   pub book : h.book ≡ d
-  pub logic_is : h.logic ≡ logic
+  pub logic : h.logic ≡ typecode (symbol_in d.contents.symbols kinds.logic)
   pub bound_is : h.bound ≡ bound
   pub steps : h.steps ≡ []

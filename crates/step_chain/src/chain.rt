@@ -1,11 +1,11 @@
 ghost use Rattle.std.specs.Prelude.{◌≡◌};
 ghost use Rattle.step_chain.specs.Steps.{verdict_in};
 
-use crate::formulas::add_all;
+use crate::begun::{begin, logic_code};
 use crate::judged::{Judged, Pushed};
 use crate::judging::judge;
-use chain_laws::{WorkNode, bound_is_ready};
-use mm_base::{List, Memory, Typecode};
+use chain_laws::WorkNode;
+use mm_base::{Kinds, List, Memory, Typecode};
 use mm_database::Database;
 use solve_model::{Bound, Verdict};
 use std::alloc::Global;
@@ -60,22 +60,21 @@ impl<'a> Chain<'a> {
     ghost use Rattle.step_chain.specs.Ordered.{formula_at};
     ghost use Rattle.step_chain.specs.Held.{judgements_of, front_of, OfEachBook, IsFirst, IsPushed};
 
-    /// The chain over a bound worksheet, with the nodes of its formulas and no step pushed, where this is the typecode of
-    /// formulas. `Memory`: there is no room for them.
+    /// The chain over a bound worksheet, with the nodes of its formulas and no step pushed, where these are the names of the
+    /// two typecodes that have a meaning. `Memory`: there is no room for them.
     pub fn new(
         alloc: Global,
         db: &'a Database,
-        logic: Typecode,
+        kinds: &Kinds,
         bound: &'a Bound,
     ) -> Result<Chain<'a>, Memory>
         requires placed { ArePlaced bound.now }
         requires few { length bound.now.steps < 2 ^ 32 }
-        ensures { IfOk result (IsFirst db.now logic bound.now) }
+        ensures { IfOk result (IsFirst kinds.now db.now bound.now) }
     {
-        bound_is_ready();
-        let steps = bound.steps.as_slice();
+        let logic = logic_code(db.frames(), kinds);
         let mut arena = Arena::new(alloc)?;
-        let nodes = add_all(alloc, &mut arena, db.grammar(), logic, steps)?;
+        let nodes = begin(alloc, &mut arena, db, logic, bound)?;
         Ok(Chain {
             alloc,
             db,

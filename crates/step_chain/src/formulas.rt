@@ -161,6 +161,8 @@ pub fn add_all(
     ensures formulas { IfOk result (λ f. AreFormulas grammar.now logic steps.now arena.new.nodes f.works.items f.formulas.items) }
     ensures grows { IsGrown arena.old arena.new }
     ensures within { IfOk result (λ f. AreIdsIn (length arena.new.nodes) f.formulas.items) }
+    ensures works_in { IfOk result (λ f. AreWorksIn (length arena.new.nodes) f.works.items) }
+    ensures count { IfOk result (λ f. length f.formulas.items ≡ length steps.now) }
 {
     let mut table = WorkTable::new(alloc);
     let blanks = add_all_unknowns(alloc, arena, &mut table, logic, steps)?;

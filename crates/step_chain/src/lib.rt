@@ -2,6 +2,7 @@
 #![tactic(auto)]
 
 mod adding;
+mod begun;
 mod candidate;
 mod chain;
 mod copies;

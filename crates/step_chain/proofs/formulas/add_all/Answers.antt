@@ -1,7 +1,7 @@
-use Rattle.step_chain.proofs.BegunLaws.{formulas_chained}
-use Rattle.std.proofs.Common.{◌∙◌, sym}
-use Rattle.step_chain.proofs.AddingLaws.{grown_more}
-use Rattle.step_chain.proofs.FormulaLaws.{works_are_in, blanks_are, blanks_are_in, blanks_are_many, formulas_are}
+use Rattle.std.proofs.Common.{◌∙◌, sym, subst, length}
+use Rattle.step_chain.specs.Grown.{AreWorksIn}
+use Rattle.step_chain.proofs.AddingLaws.{grown_more, grown_longer, works_in_more}
+use Rattle.step_chain.proofs.FormulaLaws.{works_are_in, blanks_are, blanks_are_in, blanks_are_many, formulas_are, listed_count}
 use Rattle.step_chain.proofs.formulas.add_all.Goals as goal
 
 pub add_formulas-requires-clause-works : goal.add_formulas-requires-clause-works
@@ -33,3 +33,16 @@ returns-clause-formulas c =
     c.in_ok-works.works.items c.in_ok-formulas.formulas.items
     (blanks_are c.args.logic c.args.arena.now c.add_all_unknowns.new.arena c.new-table.result c.add_all_unknowns.new.works c.args.steps.now c.requires c.new-table.ensures c.in_ok-blanks.ensures.begun c.in_ok-blanks.blanks.items c.deref.result.now c.in_ok-blanks.ensures.nodes c.deref.ensures.value)
     c.in_ok-works.ensures c.in_ok-formulas.ensures.listed
+
+pub returns-clause-works_in : goal.returns-clause-works_in
+returns-clause-works_in c =
+    subst (AreWorksIn (length c.add_formulas.new.arena.nodes)) (sym c.in_ok-works.ensures)
+    (works_in_more _ _ c.add_all_unknowns.new.works (grown_longer c.add_all_unknowns.new.arena c.add_formulas.new.arena c.in_ok-formulas.ensures.grows)
+    (works_are_in c.args.logic c.args.arena.now c.add_all_unknowns.new.arena c.new-table.result c.add_all_unknowns.new.works c.args.steps.now c.requires c.new-table.ensures c.in_ok-blanks.ensures.begun))
+
+pub returns-clause-count : goal.returns-clause-count
+returns-clause-count c =
+    listed_count c.args.grammar.now c.add_all_unknowns.new.works c.args.logic c.deref.result.now c.args.steps.now c.add_all_unknowns.new.arena.nodes c.add_formulas.new.arena.nodes c.in_ok-formulas.formulas.items
+    (blanks_are_many c.args.logic c.args.arena.now c.add_all_unknowns.new.arena c.new-table.result c.add_all_unknowns.new.works c.args.steps.now c.requires c.new-table.ensures c.in_ok-blanks.ensures.begun c.deref.result.now
+    (blanks_are c.args.logic c.args.arena.now c.add_all_unknowns.new.arena c.new-table.result c.add_all_unknowns.new.works c.args.steps.now c.requires c.new-table.ensures c.in_ok-blanks.ensures.begun c.in_ok-blanks.blanks.items c.deref.result.now c.in_ok-blanks.ensures.nodes c.deref.ensures.value))
+    c.in_ok-formulas.ensures.listed
