@@ -11,10 +11,7 @@ type Keys = BTreeSet<(u32, u32)>;
 
 /// The pairs that a use needs.
 pub fn needed_by(alloc: Global, db: &Database, by: &StepUse) -> Result<List<Pair>, Memory> {
-    match pairs(db, by) {
-        None => Ok(List::from_vec(Vec::new(alloc))),
-        Some(pairs) => needed(alloc, pairs, variables(db, by), &by.values),
-    }
+    needed(alloc, pairs(db, by), variables(db, by), &by.values)
 }
 
 /// Puts in pairs.

@@ -1,3 +1,6 @@
+ghost use Rattle.std.specs.Prelude.{◌≡◌, IfOk};
+ghost use Rattle.written_steps.specs.Drafts.{drafts_in, shown};
+
 use mm_base::{Bytes, Label, List, Memory, Name, Tree};
 use sheet_text::Given;
 use std::alloc::Global;
@@ -40,11 +43,14 @@ pub enum DraftItem {
 }
 
 /// The steps alone, in order. It takes memory for a reference to each.
-pub fn draft_steps(alloc: Global, items: &[DraftItem]) -> Result<Vec<&DraftStep>, Memory> {
+pub fn draft_steps(alloc: Global, items: &[DraftItem]) -> Result<Vec<&DraftStep>, Memory>
+    ensures { IfOk result (λ steps. shown steps.items ≡ drafts_in items.now) }
+{
     let mut steps = Vec::new(alloc);
     for item in items {
-        if let DraftItem::Step(step) = item {
-            steps.push(step)?;
+        match item {
+            DraftItem::Comment(_) => {}
+            DraftItem::Step(step) => steps.push(step)?,
         }
     }
     Ok(steps)
