@@ -57,11 +57,7 @@ fn code_text(alloc: Global, code: &Code, mandatory: usize) -> Result<Bytes, Memo
     }
 }
 
-fn compressed_text(
-    alloc: Global,
-    graph: &ProofGraph,
-    mandatory: &[Name],
-) -> Result<Bytes, Memory> {
+fn compressed_text(alloc: Global, graph: &ProofGraph, mandatory: &[Name]) -> Result<Bytes, Memory> {
     let code = code(alloc, graph, mandatory)?;
     code_text(alloc, &code, mandatory.len())
 }

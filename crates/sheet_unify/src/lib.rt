@@ -1,8 +1,8 @@
 //! Unifies a worksheet with an opened database, and writes it back with its report.
 #![tactic(auto)]
 
-mod faults;
 mod fault_lines;
+mod faults;
 mod judging;
 mod lines;
 mod outcome;

@@ -74,7 +74,11 @@ fn report_line(alloc: Global, frames: &Frames, report: &ReportLine) -> Result<By
 }
 
 fn last_line(finished: bool) -> &'static [u8] {
-    if finished { b"finished" } else { b"not finished" }
+    if finished {
+        b"finished"
+    } else {
+        b"not finished"
+    }
 }
 
 /// The lines of a report over the symbols of this database, one for each step in order, and a last one that says whether the

@@ -25,7 +25,7 @@ fn written_items(
     bound: &Bound,
     options: &Options,
 ) -> Result<List<DraftItem>, UnifyFault> {
-    let filled = filled_items(alloc, db, sheet, bound)?;
+    let filled = filled_items(alloc, db, &options.kinds, sheet, bound)?;
     let named = name_items(alloc, db, bound, filled)?;
     let given = &bound.pairs;
     Ok(search_items(alloc, db, bound.place, options.dv, given, named)?)

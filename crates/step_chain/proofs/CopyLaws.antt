@@ -6,6 +6,7 @@ use Rattle.std.proofs.lemmas.List.{append_assoc, length-map, length-append, take
 use Rattle.mm_model.specs.declared.frames.Hyp.{Hyp}
 use Rattle.mm_model.specs.Productions.{TypedVariable, typed_by, typed_variables, floats}
 use Rattle.term_model.specs.Terms.{Term, Free}
+use Rattle.chain_laws.specs.declared.leaves.WorkNode.{WorkNode}
 use Rattle.chain_laws.specs.declared.leaves.VariableNode.{VariableNode}
 use Rattle.mm_base.specs.declared.tree.Tree.{Tree}
 use Rattle.mm_model.specs.declared.rows.Production.{Production}
@@ -55,6 +56,13 @@ copies_are n (v ∷ vs) = ap (λ (ts : List Term). Free v.code ∷ ts) (copies_a
 pub numbered_in : (n m : ℕ) (vs : List TypedVariable) → n + length vs ≤ m → AllByRecursion (λ (v : VariableNode). v.node < m) (numbered n vs)
 numbered_in n m [] h = tt
 numbered_in n m (v ∷ vs) h = (omega (arith, h), numbered_in (n + 1) m vs (omega (arith, h)))
+
+-- the same with a table of work variables that is empty
+pub without_works : (rows : List Production) (works : List WorkNode) (vars : List VariableNode) (t : Tree) (next after : List Term) (id : Id) → works ≡ [] → IsRooted (added rows works vars t next) after id → IsRooted (added rows [] vars t next) after id
+without_works rows works vars t next after id none r = subst (λ (ws : List WorkNode). IsRooted (added rows ws vars t next) after id) none r
+
+pub all_without_works : (rows : List Production) (works : List WorkNode) (vars : List VariableNode) (ts : List Tree) (after last : List Term) (ids : List Id) → works ≡ [] → AreListed (run (map (added rows works vars) ts) after) last ids → AreListed (run (map (added rows [] vars) ts) after) last ids
+all_without_works rows works vars ts after last ids none l = subst (λ (ws : List WorkNode). AreListed (run (map (added rows ws vars) ts) after) last ids) none l
 
 -- the facts of a candidate's nodes, from those of the calls
 module _ (rows : List Production) (nodes : List Term) (hyps : List Hyp) (t : Tree) (ts : List Tree) where

@@ -105,12 +105,12 @@ slice_map f [] k x e = let impossible : ◌≡◌ {A = Option _} None (Some x) =
 slice_map f (y ∷ ys) zero x e = let same : y ≡ x = cc in ap (λ z. Some (f z)) same
 slice_map f (y ∷ ys) (suc k) x e = slice_map f ys k x e
 
-record Mapped {X Y : Type 0} (f : X → Y) (xs : List X) (k : ℕ) (y : Y) : Type 0 where
-  source : X
-  at : slice_get xs k ≡ Some source
-  is : f source ≡ y
+pub record Mapped {X Y : Type 0} (f : X → Y) (xs : List X) (k : ℕ) (y : Y) : Type 0 where
+  pub source : X
+  pub at : slice_get xs k ≡ Some source
+  pub is : f source ≡ y
 
-slice_mapped : {X Y : Type 0} (f : X → Y) (xs : List X) (k : ℕ) (y : Y) → slice_get (map f xs) k ≡ Some y → Mapped f xs k y
+pub slice_mapped : {X Y : Type 0} (f : X → Y) (xs : List X) (k : ℕ) (y : Y) → slice_get (map f xs) k ≡ Some y → Mapped f xs k y
 slice_mapped f [] k y e = let impossible : ◌≡◌ {A = Option _} None (Some y) = e in absurd (cc)
 slice_mapped f (x ∷ xs) zero y e = let same : f x ≡ y = cc in record { source = x; at = refl; is = same }
 slice_mapped f (x ∷ xs) (suc k) y e = let told = slice_mapped f xs k y e in record { source = told.source; at = told.at; is = told.is }
@@ -127,7 +127,7 @@ pairs_are formulas (given.Step k ∷ gs) (h ∷ hs) = ap (λ (ps : List NodePair
 module _ (db : Database) (bound : Bound) (before : List Asked) (i : ℕ) (s : BoundStep) (a : Assertion) (nodes : List Term) (lay : Layout) (formulas : List Id) (root : ℕ) (roots : List Id)
     (formula_nodes : AreFormulaNodes bound nodes lay (λ k. (formula_at formulas k).0)) (candidate_nodes : AreCandidateNodes nodes lay i a root (map (λ (id : Id). id.0) roots))
     (old : List Link) (chained : IsChained db bound (before ++ asked i a s.places ∷ []) before nodes old lay)
-    (sound : (gs : List Given) → IsSoundAsked bound (asked i a gs)) (room : (gs : List Given) → HasRoom gs a.hyps) where
+    (sound : (j : ℕ) (gs : List Given) → slice_get (orders_of s a) j ≡ Some gs → IsSoundAsked bound (asked i a gs)) (room : (j : ℕ) (gs : List Given) → slice_get (orders_of s a) j ≡ Some gs → HasRoom gs a.hyps) where
   abbrev formula_node : ℕ → ℕ
   formula_node k = (formula_at formulas k).0
 
@@ -141,17 +141,17 @@ module _ (db : Database) (bound : Bound) (before : List Asked) (i : ℕ) (s : Bo
   reset gs = chained_same db bound (before ++ asked i a s.places ∷ []) (before ++ asked i a gs ∷ []) before nodes old lay (reordered bound before i a s.places gs) (reordered bound before i a gs s.places) (λ x h. Contains-append_left before (asked i a gs ∷ []) x h) chained
 
   -- what cannot be joined does not fit
-  never : (gs : List Given) → CannotJoin nodes old (candidate_pairs formula_node i gs root numbers) → Fits' gs → ⊥
-  never gs cannot = refuses db bound before i a nodes lay formula_node root numbers formula_nodes candidate_nodes old gs (reset gs) (sound gs) cannot
+  never : (j : ℕ) (gs : List Given) → slice_get (orders_of s a) j ≡ Some gs → CannotJoin nodes old (candidate_pairs formula_node i gs root numbers) → Fits' gs → ⊥
+  never j gs e cannot = refuses db bound before i a nodes lay formula_node root numbers formula_nodes candidate_nodes old gs (reset gs) (sound j gs e) cannot
 
   -- where the conclusion cannot be joined the candidate does not fit
   pub no_conclusion : CannotJoin nodes old ((root, formula_node i) ∷ []) → IsJudgement db bound before i s (candidate a) (stands verdict.NoFit)
-  no_conclusion cannot = no_fit (none_in Fits' (orders_of s a) (λ j gs e. never gs (λ trees sol joined. cannot trees sol (joined.0, tt))))
+  no_conclusion cannot = no_fit (none_in Fits' (orders_of s a) (λ j gs e. never j gs e (λ trees sol joined. cannot trees sol (joined.0, tt))))
 
   module _ (mid : List Link) (conclusion : Joins nodes old mid ((root, formula_node i) ∷ [])) where
-    later : (gs : List Given) → CannotJoin nodes mid (pairs_of (id_pairs formulas gs roots)) → Fits' gs → ⊥
-    later gs cannot =
-        never gs (λ trees sol joined.
+    later : (j : ℕ) (gs : List Given) → slice_get (orders_of s a) j ≡ Some gs → CannotJoin nodes mid (pairs_of (id_pairs formulas gs roots)) → Fits' gs → ⊥
+    later j gs e cannot =
+        never j gs e (λ trees sol joined.
         cannot trees (conclusion.back trees sol (joined.0, tt)) (subst (λ (ps : List NodePair). AllByRecursion (λ (p : NodePair). tree_at trees p.0 ≡ tree_at trees p.1) ps) (sym (pairs_are formulas gs roots)) joined.1))
 
     abbrev listed : List (List ℕ)
@@ -168,25 +168,27 @@ module _ (db : Database) (bound : Bound) (before : List Asked) (i : ℕ) (s : Bo
     no_order new first =
         no_fit (none_in Fits' (orders_of s a) (λ j gs e.
         let told = back_to_order j gs e in
-        later gs (subst (λ (ps : List Given). CannotJoin nodes mid (pairs_of (id_pairs formulas ps roots))) told.is (first j told.source told.at))))
+        later j gs e (subst (λ (ps : List Given). CannotJoin nodes mid (pairs_of (id_pairs formulas ps roots))) told.is (first j told.source told.at))))
 
     module _ (new : List Link) (order : List ℕ) (first : IsFirstFit nodes mid new pairs listed (Some order)) (store : IsStore nodes new) (solved : IsSolved nodes new) where
       abbrev places : List Given
       places = ordered.reordered s.places order
+
+      stands_at : slice_get (orders_of s a) first.0 ≡ Some places
+      stands_at = ap (λ (xs : List (List Given)). slice_get xs first.0) (sym (tried_orders s a)) ∙ slice_map (ordered.reordered s.places) listed first.0 order first.1
 
       joined : Joins nodes old new (candidate_pairs formula_node i places root numbers)
       joined = subst (λ (ps : List NodePair). Joins nodes old new ((root, formula_node i) ∷ ps)) (pairs_are formulas places roots) (joins_more nodes old mid new ((root, formula_node i) ∷ []) (pairs_of (pairs order)) conclusion first.3)
 
       -- the store is that of the accepted candidates, this one among them
       pub accepted_chain : IsChained db bound (before ++ asked i a places ∷ []) (before ++ asked i a places ∷ []) nodes new lay
-      accepted_chain = accepts db bound before i a nodes lay formula_node root numbers formula_nodes candidate_nodes old places (reset places) (sound places) new (room places) store solved joined
+      accepted_chain = accepts db bound before i a nodes lay formula_node root numbers formula_nodes candidate_nodes old places (reset places) (sound first.0 places stands_at) new (room first.0 places stands_at) store solved joined
 
       -- and this is the first order in which it fits
       pub first_order : IsJudgement db bound before i s (candidate a) (accepted (asked i a places))
       first_order =
-          fits (first_in Fits' (orders_of s a) first.0 places
-          (ap (λ (xs : List (List Given)). slice_get xs first.0) (sym (tried_orders s a)) ∙ slice_map (ordered.reordered s.places) listed first.0 order first.1)
+          fits (first_in Fits' (orders_of s a) first.0 places stands_at
           (solvable db bound (before ++ asked i a places ∷ []) nodes new lay accepted_chain)
           (λ j gs below e.
           let told = back_to_order j gs e in
-          later gs (subst (λ (ps : List Given). CannotJoin nodes mid (pairs_of (id_pairs formulas ps roots))) told.is (first.2 j told.source below told.at))))
+          later j gs e (subst (λ (ps : List Given). CannotJoin nodes mid (pairs_of (id_pairs formulas ps roots))) told.is (first.2 j told.source below told.at))))

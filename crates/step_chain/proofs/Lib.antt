@@ -5,3 +5,16 @@ pub mod JudgedLaws
 pub mod CopyLaws
 pub mod TakenLaws
 pub mod StandingLaws
+pub mod WorkLaws
+pub mod FormulaLaws
+pub mod UnknownLaws
+pub mod BegunLaws
+pub mod StandingOf
+pub mod Lists
+pub mod AcceptLaws
+pub mod LevelLaws
+pub mod CandidateLaws
+pub mod NextLaws
+pub mod HeldLaws
+pub mod ChainLaws
+pub mod SymbolLaws

@@ -1,5 +1,5 @@
 -- What was taken is judged.
-use Rattle.std.specs.Prelude.{◌≡◌, ℕ, ◌<◌, ◌≤◌, ◌+◌, ◌⊎◌, List, [], ◌∷◌, ◌++◌, length, map, Option, Some, None, refl}
+use Rattle.std.specs.Prelude.{◌≡◌, ℕ, ◌<◌, ◌≤◌, ◌+◌, ◌⊎◌, List, [], ◌∷◌, ◌++◌, length, map, slice_get, Option, Some, None, refl}
 use Rattle.std.specs.List.{AllByRecursion}
 use Rattle.std.proofs.Common.{zero, suc, sym, ap, subst, ◌∙◌, arith, inl, inr, get_or}
 use Rattle.std.proofs.lemmas.Bool.{cases_lt}
@@ -14,7 +14,7 @@ use Rattle.solve_model.specs.declared.bound.BoundStep.{BoundStep}
 use Rattle.solve_model.specs.declared.bound.Bound.{Bound}
 use Rattle.solve_model.specs.declared.verdict.Verdict.TheVariants as verdict
 use Rattle.solve_model.specs.Bound.{candidate}
-use Rattle.solve_model.specs.Solutions.{copy, IsUnknown, Asked}
+use Rattle.solve_model.specs.Solutions.{copy, IsUnknown, Asked, orders_of}
 use Rattle.solve_model.specs.Verdicts.{asked, Judgement, accepted, stands, IsJudgement}
 use Rattle.term_model.specs.declared.shape.Id.{Id}
 use Rattle.term_model.specs.Terms.{Term, Free, term_at, children_of}
@@ -67,37 +67,37 @@ module _ (db : Database) (bound : Bound) (before : List Asked) (i : ℕ) (s : Bo
     (chained : IsChained db bound before before old.nodes old.links lay) (are : AreFormulaNodes bound old.nodes lay (λ k. (formula_at formulas k).0))
     (vars : a.vars ≡ typed_variables a.frame.hyps) (apart : AreApart a.vars) (fresh : (v : Sym) (c : Typecode) → IsUnknown bound before (copy i v c) → ⊥)
     (tree_over : IsOver a.vars a.tree) (hyps_over : AllByRecursion (IsOver a.vars) a.hyps) (tree_typed : IsTyped db.rows bound.place a.tree) (hyps_typed : AllByRecursion (IsTyped db.rows bound.place) a.hyps)
-    (sound : (gs : List Given) → IsSoundAsked bound (asked i a gs)) (room : (gs : List Given) → HasRoom gs a.hyps) where
+    (sound : (j : ℕ) (gs : List Given) → slice_get (orders_of s a) j ≡ Some gs → IsSoundAsked bound (asked i a gs)) (room : (j : ℕ) (gs : List Given) → slice_get (orders_of s a) j ≡ Some gs → HasRoom gs a.hyps) where
   abbrev nodes : List Term
   nodes = old.nodes
 
   -- the candidate's nodes, by its own list of variables
-  abbrev root : Rooted
+  abbrev pub root : Rooted
   root = added db.rows [] (numbered (length nodes) a.vars) a.tree (nodes ++ map free_of a.vars)
 
-  abbrev roots : Listed
+  abbrev pub roots : Listed
   roots = run (map (added db.rows [] (numbered (length nodes) a.vars)) a.hyps) root.nodes
 
   root_same : root_of db.rows nodes a.frame.hyps a.tree ≡ root
   root_same = ap (λ (vs : List TypedVariable). added db.rows [] (numbered (length nodes) vs) a.tree (nodes ++ map free_of vs)) (sym vars)
 
-  roots_same : roots_of db.rows nodes a.frame.hyps a.tree a.hyps ≡ roots
+  pub roots_same : roots_of db.rows nodes a.frame.hyps a.tree a.hyps ≡ roots
   roots_same = ap (λ (vs : List TypedVariable). run (map (added db.rows [] (numbered (length nodes) vs)) a.hyps) (added db.rows [] (numbered (length nodes) vs) a.tree (nodes ++ map free_of vs)).nodes) (sym vars)
 
   bare : IsStore (nodes ++ map free_of a.vars) []
   bare = copied_store nodes a.vars (record { children = chained.store.children; in_order = tt; codes = tt })
 
-  abbrev lay' : Layout
+  abbrev pub lay' : Layout
   lay' = with_copies (length nodes) i a.vars lay
 
   module _ (ready_store : IsStore roots.nodes old.links) (ready_solved : IsSolved roots.nodes old.links) where
     ready : IsChained db bound (before ++ asked i a s.places ∷ []) before roots.nodes old.links lay'
     ready = prepared db bound before i a s.places nodes old.links lay (λ k. (formula_at formulas k).0) chained are apart fresh tree_over hyps_over tree_typed hyps_typed bare ready_store ready_solved
 
-    ready_formulas : AreFormulaNodes bound roots.nodes lay' (λ k. (formula_at formulas k).0)
+    pub ready_formulas : AreFormulaNodes bound roots.nodes lay' (λ k. (formula_at formulas k).0)
     ready_formulas = prepared_formula_nodes db bound before i a s.places nodes old.links lay (λ k. (formula_at formulas k).0) chained are apart fresh tree_over hyps_over tree_typed hyps_typed bare
 
-    ready_nodes : AreCandidateNodes roots.nodes lay' i a root.root (map (λ (id : Id). id.0) roots.roots)
+    pub ready_nodes : AreCandidateNodes roots.nodes lay' i a root.root (map (λ (id : Id). id.0) roots.roots)
     ready_nodes = prepared_candidate_nodes db bound before i a s.places nodes old.links lay (λ k. (formula_at formulas k).0) chained are apart fresh tree_over hyps_over tree_typed hyps_typed bare
 
     roots_count : length roots.roots ≡ length a.hyps
@@ -129,7 +129,7 @@ module _ (db : Database) (bound : Bound) (before : List Asked) (i : ℕ) (s : Bo
       taken_chain order (inr j) = accepted_chain db bound before i s a roots.nodes lay' formulas root.root roots.roots ready_formulas ready_nodes old.links ready sound room j.mid (subst (Joins roots.nodes old.links j.mid) conclusion_is j.conclusion) new_links order (first_is j.mid (Some order) j.first) new_store new_solved
 
       -- what `take` answers, as the candidate's own lists say it
-      own_tried : (r : Option (List ℕ)) → IsTaken db.rows a.frame.hyps a.tree a.hyps formulas formula s.places old new r → new.links ≡ new_links → IsTried roots.nodes old.links new_links formulas s.places roots.roots (id_of root.root) formula r
+      pub own_tried : (r : Option (List ℕ)) → IsTaken db.rows a.frame.hyps a.tree a.hyps formulas formula s.places old new r → new.links ≡ new_links → IsTried roots.nodes old.links new_links formulas s.places roots.roots (id_of root.root) formula r
       own_tried r h e =
           subst (λ (ls : List Link). IsTried roots.nodes old.links ls formulas s.places roots.roots (id_of root.root) formula r) e
           (subst (λ (x : Listed). IsTried x.nodes old.links new.links formulas s.places x.roots (id_of root.root) formula r) roots_same

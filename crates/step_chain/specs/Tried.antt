@@ -7,7 +7,7 @@ use Rattle.sheet_text.specs.declared.sheet.Given.{Given}
 use Rattle.term_model.specs.declared.shape.Id.{Id}
 use Rattle.term_model.specs.Terms.{Term}
 use Rattle.term_model.specs.Links.{Link}
-use Rattle.term_model.specs.Store.{Store, IsSolved}
+use Rattle.term_model.specs.Store.{Store, IsStore, IsSolved}
 use Rattle.chain_laws.specs.Adding.{id_of}
 use Rattle.chain_laws.specs.Layout.{NodePair, Joins, CannotJoin}
 use Rattle.step_chain.specs.Candidate.{root_of, roots_of}
@@ -38,5 +38,8 @@ pub record IsExtended (old new : Store) : Type 0 where
 -- a candidate's nodes were added, and this came of its orders
 pub record IsTaken (rows : List Production) (hyps : List Hyp) (t : Tree) (ts : List Tree) (formulas : List Id) (formula : Id) (places : List Given) (old new : Store) (result : Option (List ℕ)) : Type 0 where
   pub nodes : new.nodes ≡ (roots_of rows old.nodes hyps t ts).nodes
+  pub added_store : IsStore (roots_of rows old.nodes hyps t ts).nodes old.links
+  pub added_solved : IsSolved (roots_of rows old.nodes hyps t ts).nodes old.links
+  pub store : IsStore new.nodes new.links
   pub solved : IsSolved new.nodes new.links
   pub tried : IsTried (roots_of rows old.nodes hyps t ts).nodes old.links new.links formulas places (roots_of rows old.nodes hyps t ts).roots (id_of (root_of rows old.nodes hyps t).root) formula result

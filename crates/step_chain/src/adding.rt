@@ -3,23 +3,14 @@ ghost use Rattle.std.specs.List.{AllByRecursion};
 ghost use Rattle.std.specs.Option.{ForSome};
 ghost use Rattle.term_model.specs.Terms.{Var, Free, Node};
 ghost use Rattle.step_chain.specs.Grown.{IsGrown, IsRooted, AreWorksIn, AreVariablesIn};
-ghost use Rattle.chain_laws.specs.Adding.{added, id_of, is_constant, row_constants, constants_in, work_at, variable_at, Rooted, there_or};
+ghost use Rattle.chain_laws.specs.Adding.{added, id_of, is_constant, row_constants, constants_in, variable_at, Rooted, there_or};
 
-use chain_laws::{VariableNode, WorkNode};
+use crate::works::WorkTable;
+use chain_laws::VariableNode;
 use mm_base::{Label, List, Memory, Sym, Tree, Typecode};
 use mm_model::{Item, Production};
 use syntax_grammar::Grammar;
 use term_arena::{Arena, Id};
-
-/// The node of a work variable, by a list of them.
-pub fn work_at(works: &[WorkNode], code: Typecode, number: u32) -> Option<u32>
-    ensures { result ≡ work_at works.now code number }
-{
-    works
-        .iter()
-        .find(|work| work.code == code && work.number == number)
-        .map(|work| work.node)
-}
 
 /// The node of a variable, by a list of them.
 pub fn variable_at(variables: &[VariableNode], sym: Sym, code: Typecode) -> Option<u32>
@@ -63,7 +54,7 @@ fn constants_of(grammar: &Grammar, label: Label) -> u32
 }
 
 /// The node that is there, or a new one.
-fn there_or_free(arena: &mut Arena, there: Option<u32>, code: Typecode) -> Result<Id, Memory>
+pub fn there_or_free(arena: &mut Arena, there: Option<u32>, code: Typecode) -> Result<Id, Memory>
     requires { ForSome there (λ i. i < length arena.old.nodes) }
     ensures added { IfOk result (λ id. IsRooted (there_or there (Free code) arena.old.nodes) arena.new.nodes id) }
     ensures grows { IsGrown arena.old arena.new }
@@ -98,7 +89,7 @@ fn there_or_variable(
 pub fn add_tree(
     arena: &mut Arena,
     grammar: &Grammar,
-    works: &[WorkNode],
+    works: &WorkTable,
     variables: &[VariableNode],
     tree: &Tree,
 ) -> Result<Id, Memory>
@@ -114,7 +105,7 @@ pub fn add_tree(
             there_or_variable(arena, there, *sym, *code)
         }
         Tree::Work(code, number) => {
-            let there = work_at(works, *code, *number);
+            let there = works.node(*code, *number);
             there_or_free(arena, there, *code)
         }
         Tree::Fresh(code, _) => arena.add_free(*code),

@@ -1,170 +1,162 @@
-use crate::candidate::{Accepted, accept};
-use crate::formulas::{all_formulas, all_works, logic_code};
-use crate::reading::{TreeFault, Trees};
-use crate::standing::{Standing, standing_of};
+ghost use Rattle.std.specs.Prelude.{◌≡◌};
+ghost use Rattle.step_chain.specs.Steps.{verdict_in};
+
+use crate::begun::{begin, logic_code};
+use crate::judged::{Judged, Pushed};
+use crate::judging::judge;
+use crate::reading::Trees;
 use chain_laws::WorkNode;
-use mm_base::{Label, List, Memory, Sym, Tree, Typecode};
+use mm_base::{Kinds, List, Memory, Typecode};
 use mm_database::Database;
 use solve_model::{Bound, Verdict};
 use std::alloc::Global;
-use term_arena::{Arena, Id, Mark};
-
-/// A step that was pushed: where the store stood before it, and what was judged of it.
-#[derive(Drop)]
-struct Pushed {
-    mark: Mark,
-    verdict: Verdict,
-    accepted: Option<Accepted>,
-}
+use std::marker::Model;
+use term_arena::{Arena, Id};
 
 /// The steps of a bound worksheet, taken one after the other into one store of terms.
 #[derive(Drop)]
 pub struct Chain<'a> {
     alloc: Global,
     db: &'a Database,
+    /// The typecode of formulas.
+    logic: Typecode,
     bound: &'a Bound,
     arena: Arena,
-    works: Vec<WorkNode>,
+    works: List<WorkNode>,
     /// The node of each step's formula.
-    formulas: Vec<Id>,
+    formulas: List<Id>,
     steps: Vec<Pushed>,
 }
 
+impl<'a> Model for Chain<'a> {
+    ghost use Rattle.step_chain.specs.Held.{Held, IsHeld};
+
+    ghost Value = { Held };
+
+    ghost use Rattle.mm_base.specs.contracts.tree.Tree as tree;
+    ghost use Rattle.std.specs.Coded.{codes};
+
+    ghost coded = { Prim.hlevel (codes, tree.the_row.coded) };
+
+    ghost view = { λ c. record { book = c.db.now; logic = c.logic; bound = c.bound.now; nodes = c.arena.nodes; links = c.arena.links;
+        works = c.works; formulas = c.formulas; steps = c.steps.items } };
+
+    ghost invariant = { λ c. IsHeld (record { book = c.db.now; logic = c.logic; bound = c.bound.now; nodes = c.arena.nodes; links = c.arena.links;
+        works = c.works; formulas = c.formulas; steps = c.steps.items }) };
+}
+
+fn verdict_of(judged: &Judged) -> Verdict
+    ensures { result ≡ verdict_in judged.now }
+{
+    match judged {
+        Judged::Stands(verdict) => *verdict,
+        Judged::Fits(_) => Verdict::Fits,
+    }
+}
+
 impl<'a> Chain<'a> {
-    /// The chain over a bound worksheet, with the nodes of its formulas and no step pushed.
-    pub fn new(alloc: Global, db: &'a Database, bound: &'a Bound) -> Result<Chain<'a>, Memory> {
-        let steps = bound.steps.as_slice();
+    ghost use Rattle.std.specs.Prelude.{◌≡◌, ◌<◌, ◌≤◌, ◌^◌, [], length, take, slice_get, Some, IfOk, OnErr};
+    ghost use Rattle.solve_model.specs.Verdicts.{AreJudged};
+    ghost use Rattle.step_chain.specs.Steps.{ArePlaced};
+    ghost use Rattle.step_chain.specs.Ordered.{formula_at};
+    ghost use Rattle.step_chain.specs.Held.{judgements_of, front_of, OfEachBook, IsFirst, IsPushed};
+
+    /// The chain over a bound worksheet, with the nodes of its formulas and no step pushed, where these are the names of the
+    /// two typecodes that have a meaning. `Memory`: there is no room for them.
+    pub fn new(
+        alloc: Global,
+        db: &'a Database,
+        kinds: &Kinds,
+        bound: &'a Bound,
+    ) -> Result<Chain<'a>, Memory>
+        requires placed { ArePlaced bound.now }
+        requires few { length bound.now.steps < 2 ^ 32 }
+        ensures { IfOk result (IsFirst kinds.now db.now bound.now) }
+    {
+        let logic = logic_code(db.frames(), kinds);
         let mut arena = Arena::new(alloc)?;
-        let works = all_works(alloc, &mut arena, steps)?;
-        let logic = logic_code(steps).unwrap_or(Typecode(Sym(0)));
-        let formulas = all_formulas(alloc, &mut arena, db.grammar(), &works, logic, steps)?;
-        arena.ready()?;
+        let nodes = begin(alloc, &mut arena, db, logic, bound)?;
         Ok(Chain {
             alloc,
             db,
+            logic,
             bound,
             arena,
-            works,
-            formulas,
+            works: List::from_vec(nodes.works),
+            formulas: List::from_vec(nodes.formulas),
             steps: Vec::new(alloc),
         })
     }
 
-    /// How many steps were pushed.
-    pub fn pushed(&self) -> u32 {
+    /// How many steps were pushed. Each is judged by those that were accepted before it. It takes constant time.
+    pub fn pushed(&self) -> u32
+        ensures count { result ≡ length (judgements_of self.now) }
+        ensures judged { OfEachBook self.now (λ db. length (judgements_of self.now) ≡ length self.now.bound.steps
+            → AreJudged db self.now.bound (judgements_of self.now)) }
+    {
         self.steps.len() as u32
     }
 
     /// The store of terms.
-    pub fn arena(&self) -> &Arena {
+    pub fn arena(&self) -> &Arena
+        ensures nodes { result.now.nodes ≡ self.now.nodes }
+        ensures links { result.now.links ≡ self.now.links }
+    {
         &self.arena
     }
 
-    /// The node of a step's formula.
-    pub fn node(&self, i: u32) -> Id {
-        self.formulas[i as usize]
+    /// The node of a step's formula. It takes constant time.
+    pub fn node(&self, i: u32) -> Id
+        requires { i < length self.now.bound.steps }
+        ensures node { result ≡ formula_at self.now.formulas i }
+        ensures within { result.0 < length self.now.nodes }
+    {
+        self.formulas.as_slice()[i as usize]
     }
 
-    /// What is kept of a step that was accepted; none of another.
-    pub fn accepted(&self, i: u32) -> Option<&Accepted> {
-        self.steps[i as usize].accepted.as_ref()
+    /// What was judged of a step that was pushed. It takes constant time.
+    pub fn judged(&self, i: u32) -> &Judged {
+        &self.steps[i as usize].judged
     }
 
-    /// The order in which an accepted step fits, as positions in its places.
-    pub fn order(&self, i: u32) -> &List<u32> {
-        match &self.steps[i as usize].accepted {
-            Some(accepted) => &accepted.order,
-            None => unreachable!(),
-        }
+    /// The trees of the store, for several calls in turn.
+    pub fn trees(&self) -> Result<Trees<'_>, Memory> {
+        Trees::of(self.alloc, &self.arena, self.works.as_slice())
     }
 
-    /// Judges the next step, and takes it into the store where it fits. `Memory`: there is no room, and nothing changed.
-    pub fn push_step(&mut self, i: u32) -> Result<Verdict, Memory> {
+    /// Judges the next step, which is that of this number, and takes it into the store where it fits. It takes time in
+    /// proportion to what is bound and to its assertion, in each order that is tried, however large the store is.
+    /// `Memory`: there is no room, and nothing changed.
+    pub fn push_step(&mut self, i: u32) -> Result<Verdict, Memory>
+        requires next { i ≡ length (judgements_of self.old) }
+        requires step { i < length self.old.bound.steps }
+        ensures ok { IfOk result (IsPushed self.old self.new) }
+        ensures err { OnErr result (self.new ≡ self.old) }
+    {
         self.steps.reserve(1)?;
-        let step = &self.bound.steps.as_slice()[i as usize];
-        match standing_of(self.db, self.bound.place, step) {
-            Standing::Settled(verdict) => Ok(self.keep(self.arena.mark(), verdict, None)),
-            Standing::Candidate(label) => self.judge(i, label),
-        }
-    }
-
-    fn keep(&mut self, mark: Mark, verdict: Verdict, accepted: Option<Accepted>) -> Verdict {
-        self.steps
-            .push(Pushed {
-                mark,
-                verdict,
-                accepted,
-            })
-            .unwrap();
-        verdict
-    }
-
-    /// Judges a candidate.
-    fn judge(&mut self, i: u32, label: Label) -> Result<Verdict, Memory> {
         let mark = self.arena.mark();
-        let step = &self.bound.steps.as_slice()[i as usize];
-        let formula = self.formulas[i as usize];
-        let accepted = accept(
+        let judged = judge(
             self.alloc,
             self.db,
+            self.bound,
             &mut self.arena,
-            &self.formulas,
-            label,
-            formula,
-            step.places.as_slice(),
-        );
-        match accepted {
-            Err(_) => {
-                self.arena.undo_to(mark);
-                Err(Memory)
-            }
-            Ok(None) => {
-                self.arena.undo_to(mark);
-                Ok(self.keep(mark, Verdict::NoFit, None))
-            }
-            Ok(Some(accepted)) => Ok(self.keep(mark, Verdict::Fits, Some(accepted))),
-        }
+            self.formulas.as_slice(),
+            i,
+        )?;
+        let verdict = verdict_of(&judged);
+        self.steps.push(Pushed { mark, judged }).unwrap();
+        Ok(verdict)
     }
 
-    /// Goes back to the first `k` steps.
-    pub fn pop_to(&mut self, k: u32) {
+    /// Goes back to the first `k` steps. It takes time in proportion to what the others added.
+    pub fn pop_to(&mut self, k: u32)
+        ensures front { self.new ≡ front_of self.old k }
+        ensures judgements { judgements_of self.new ≡ take k (judgements_of self.old) }
+    {
         if (k as usize) < self.steps.len() {
             let mark = self.steps[k as usize].mark;
             self.arena.undo_to(mark);
             self.steps.truncate(k as usize);
         }
-    }
-
-    /// The trees of the store, for several calls in turn.
-    pub fn trees(&self) -> Result<Trees<'_>, Memory> {
-        Trees::of(self.alloc, &self.arena, &self.works)
-    }
-
-    /// The formula of a step, under the most general valuation of the accepted steps.
-    pub fn formula(&self, i: u32) -> Result<Tree, TreeFault> {
-        self.trees()?.tree(self.node(i))
-    }
-
-    /// The `$e` of a number of an accepted step.
-    pub fn place(&self, i: u32, k: u32) -> Result<Tree, TreeFault> {
-        match &self.steps[i as usize].accepted {
-            Some(accepted) => self.trees()?.tree(accepted.hyps[k as usize]),
-            None => unreachable!(),
-        }
-    }
-
-    /// The trees in place of the mandatory variables of an accepted step.
-    pub fn substitution(&self, i: u32) -> Result<List<Tree>, TreeFault> {
-        let trees = self.trees()?;
-        let mut values = Vec::new(self.alloc);
-        if let Some(accepted) = &self.steps[i as usize].accepted {
-            for variable in &accepted.variables {
-                let tree = trees.tree(Id(variable.node))?;
-                if values.push(tree).is_err() {
-                    return Err(TreeFault::Memory);
-                }
-            }
-        }
-        Ok(List::from_vec(values))
     }
 }

@@ -1,11 +1,12 @@
 ghost use Rattle.std.specs.Prelude.{◌≡◌, ◌<◌, ◌++◌, ◌+◌, [], length, map, IfOk, OnOk};
 ghost use Rattle.mm_model.specs.Productions.{typed_variables};
 ghost use Rattle.chain_laws.specs.Adding.{added, numbered, run};
-ghost use Rattle.step_chain.specs.Grown.{IsGrown, AreListed, AreVariablesIn, AreIdsIn};
+ghost use Rattle.step_chain.specs.Grown.{IsGrown, AreListed, AreWorksIn, AreVariablesIn, AreIdsIn};
 ghost use Rattle.step_chain.specs.Candidate.{table_of, copied, root_of, roots_of};
 ghost use Rattle.step_chain.specs.Copied.{typed_of, free_at};
 
 use crate::adding::add_tree;
+use crate::works::WorkTable;
 use chain_laws::VariableNode;
 use mm_base::{Memory, Tree, Typecode};
 use mm_model::Hyp;
@@ -63,17 +64,19 @@ pub fn add_trees(
     alloc: Global,
     arena: &mut Arena,
     grammar: &Grammar,
+    works: &WorkTable,
     variables: &[VariableNode],
     trees: &[Tree],
 ) -> Result<Vec<Id>, Memory>
-    requires { AreVariablesIn (length arena.old.nodes) variables.now }
-    ensures listed { IfOk result (λ ids. AreListed (run (map (added grammar.now [] variables.now) trees.now) arena.old.nodes) arena.new.nodes ids.items) }
+    requires works { AreWorksIn (length arena.old.nodes) works.now }
+    requires variables { AreVariablesIn (length arena.old.nodes) variables.now }
+    ensures listed { IfOk result (λ ids. AreListed (run (map (added grammar.now works.now variables.now) trees.now) arena.old.nodes) arena.new.nodes ids.items) }
     ensures grows { IsGrown arena.old arena.new }
     ensures within { IfOk result (λ ids. AreIdsIn (length arena.new.nodes) ids.items) }
 {
     let mut ids = Vec::new(alloc);
     for tree in trees {
-        let id = add_tree(arena, grammar, &[], variables, tree)?;
+        let id = add_tree(arena, grammar, works, variables, tree)?;
         ids.push(id)?;
     }
     Ok(ids)
@@ -102,11 +105,13 @@ pub fn add_candidate(
     ensures grows { IsGrown arena.old arena.new }
     ensures root_in { IfOk result (λ c. c.root.0 < length arena.new.nodes) }
     ensures hyps_in { IfOk result (λ c. AreIdsIn (length arena.new.nodes) c.hyps.items) }
+    ensures variables_in { IfOk result (λ c. AreVariablesIn (length arena.new.nodes) c.variables.items) }
 {
     let variables = own_variables(alloc, arena.count(), frame_hyps)?;
     add_copies(arena, &variables)?;
-    let root = add_tree(arena, grammar, &[], &variables, tree)?;
-    let hyps = add_trees(alloc, arena, grammar, &variables, trees)?;
+    let works = WorkTable::new(alloc);
+    let root = add_tree(arena, grammar, &works, &variables, tree)?;
+    let hyps = add_trees(alloc, arena, grammar, &works, &variables, trees)?;
     Ok(CandidateNodes {
         variables,
         root,

@@ -2,20 +2,24 @@
 #![tactic(auto)]
 
 mod adding;
+mod begun;
 mod candidate;
 mod chain;
 mod copies;
 mod formulas;
 mod joining;
+mod judged;
+mod judging;
 mod orders;
 mod reading;
 mod standing;
 #[cfg(test)]
 mod tests;
 mod trying;
+mod works;
 
-pub use candidate::Accepted;
 pub use chain::Chain;
 pub use chain_laws::{VariableNode, WorkNode};
+pub use judged::{Accepted, Judged};
 pub use reading::{TreeFault, Trees};
 pub use solve_model::Verdict;

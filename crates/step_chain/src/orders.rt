@@ -66,7 +66,7 @@ fn place_at(places: &[Given], number: usize) -> Given
 }
 
 /// The node of a step's formula.
-fn formula_at(formulas: &[Id], step: u32) -> Id
+pub fn formula_at(formulas: &[Id], step: u32) -> Id
     ensures { result ≡ formula_at formulas.now step }
 {
     match formulas.get(step as usize) {

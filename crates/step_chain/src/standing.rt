@@ -1,7 +1,9 @@
-ghost use Rattle.std.specs.Prelude.{◌≡◌, ◌<◌, length, IsSome, Some, is_some, slice_index_or};
+ghost use Rattle.std.specs.Prelude.{◌≡◌, ◌<◌, ℕ, List, length, IsSome, Some, is_some, slice_index_or};
+ghost use Rattle.mm_base.specs.declared.kinds.Kinds.{Kinds};
 ghost use Rattle.mm_frames.specs.Contents.{frame_at};
-ghost use Rattle.step_chain.specs.Standings.{standing_in, standing_at_label, standing_at_position, standing_at_usable};
-ghost use Rattle.mm_database.specs.Books.{parsed_at};
+ghost use Rattle.step_chain.specs.Standings.{standing_in, standing_at_label, standing_at_position, standing_at_usable, IsStandingOf};
+ghost use Rattle.mm_database.specs.Books.{parsed_at, database_of};
+ghost use Rattle.mm_database.specs.Opened.{IsOpened};
 
 use mm_base::Label;
 use mm_database::Database;
@@ -69,8 +71,7 @@ fn standing_of_label(db: &Database, place: u32, step: &BoundStep, label: Label) 
     standing_at(db, place, step, label, position)
 }
 
-/// What stands of a step before anything is solved.
-pub fn standing_of(db: &Database, place: u32, step: &BoundStep) -> Standing
+fn standing_kept(db: &Database, place: u32, step: &BoundStep) -> Standing
     ensures { result ≡ standing_in db.now place step.now }
 {
     if step.hyp {
@@ -83,4 +84,13 @@ pub fn standing_of(db: &Database, place: u32, step: &BoundStep) -> Standing
         Some(label) => standing_of_label(db, place, step, label),
         None => Standing::Settled(Verdict::UnknownRef),
     }
+}
+
+/// What stands of a step before anything is solved. It takes constant time.
+pub fn standing_of(db: &Database, place: u32, step: &BoundStep) -> Standing
+    ensures kept { result ≡ standing_in db.now place step.now }
+    ensures standing { (kinds : Kinds) (text : List ℕ) → IsOpened kinds text db.now
+        → IsStandingOf (database_of kinds text db.now.rows db.now.parsed) db.now place step.now result }
+{
+    standing_kept(db, place, step)
 }

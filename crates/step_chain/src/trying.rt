@@ -2,8 +2,9 @@ ghost use Rattle.std.specs.Prelude.{◌≡◌, ◌<◌, ◌^◌, length, true, I
 ghost use Rattle.std.specs.List.{AllByRecursion};
 ghost use Rattle.term_model.specs.Store.{IsSolved};
 ghost use Rattle.written_model.specs.Existence.{IsPlaceIn};
-ghost use Rattle.step_chain.specs.Grown.{AreIdsIn};
+ghost use Rattle.step_chain.specs.Grown.{AreIdsIn, AreVariablesIn};
 ghost use Rattle.step_chain.specs.Joined.{KeepsNodes};
+ghost use Rattle.step_chain.specs.Candidate.{table_of, roots_of};
 ghost use Rattle.step_chain.specs.Tried.{IsTried, IsExtended, IsTaken};
 
 use crate::copies::{CandidateNodes, add_candidate};
@@ -65,9 +66,14 @@ pub fn take(
     requires solved { IsSolved arena.old.nodes arena.old.links }
     ensures extended { IsExtended arena.old arena.new }
     ensures taken { IfOk result (λ r. IsTaken grammar.now frame_hyps.now tree.now trees.now formulas.now formula places.now arena.old arena.new r.1) }
+    ensures variables { IfOk result (λ r. r.0.variables.items ≡ table_of arena.old.nodes frame_hyps.now) }
+    ensures hyps { IfOk result (λ r. r.0.hyps.items ≡ (roots_of grammar.now arena.old.nodes frame_hyps.now tree.now trees.now).roots) }
+    ensures hyps_in { IfOk result (λ r. AreIdsIn (length arena.new.nodes) r.0.hyps.items) }
+    ensures variables_in { IfOk result (λ r. AreVariablesIn (length arena.new.nodes) r.0.variables.items) }
 {
     let nodes = add_candidate(alloc, arena, grammar, frame_hyps, tree, trees)?;
     arena.ready()?;
+    let _added = arena.mark();
     let order = try_orders(
         alloc,
         arena,
@@ -77,5 +83,6 @@ pub fn take(
         nodes.root,
         formula,
     )?;
+    let _tried = arena.mark();
     Ok((nodes, order))
 }

@@ -1,14 +1,13 @@
 use crate::fault::FillFault;
 use crate::names::StepNames;
-use crate::reading::{Judged, accepted, formula, places, values, verdict};
+use crate::reading::{Solved, formula, places, values};
 use crate::table::{TreeTable, tree_key};
 use crate::wanted::fill_places;
 use mm_base::{Bytes, List, Memory, Name, Tree};
 use sheet_text::{Given, Sheet, SheetItem, SheetStep};
 use solve_model::{Bound, Verdict};
 use std::alloc::Global;
-use step_chain::{Accepted, Chain, TreeFault};
-use mm_database::Database;
+use step_chain::{Accepted, Chain, Judged, TreeFault};
 use written_model::ReportVerdict;
 use written_steps::{DraftItem, DraftStep, StepUse, in_order};
 
@@ -134,37 +133,37 @@ fn formula_fault(alloc: Global, step: &SheetStep, fault: TreeFault) -> FillFault
 
 /// How an accepted step uses its reference. Its values are parts of formulas that are not too long, or single leaves.
 fn use_of(
-    judged: &Judged<'_>,
+    solved: &Solved<'_>,
     step: &SheetStep,
     accepted: &Accepted,
 ) -> Result<StepUse, FillFault> {
-    match values(judged, accepted) {
+    match values(solved, accepted) {
         Ok(values) => Ok(StepUse {
             label: accepted.label,
             values,
         }),
-        Err(fault) => Err(formula_fault(judged.alloc, step, fault)),
+        Err(fault) => Err(formula_fault(solved.alloc, step, fault)),
     }
 }
 
 /// A step that is not accepted.
 fn standing_step(
-    judged: &Judged<'_>,
+    solved: &Solved<'_>,
     filling: &Filling,
-    i: u32,
     step: &SheetStep,
     tree: Tree,
+    verdict: Verdict,
 ) -> Result<DraftStep, FillFault> {
-    let alloc = judged.alloc;
+    let alloc = solved.alloc;
     let numbers = filling.numbers.as_slice();
     let places = written_places(alloc, numbers, step.places.as_slice(), &[])?;
-    let verdict = reported(verdict(judged, i));
+    let verdict = reported(verdict);
     Ok(bare_step(alloc, step, places, tree, verdict, None)?)
 }
 
 /// A step that is accepted.
 fn accepted_step(
-    judged: &Judged<'_>,
+    solved: &Solved<'_>,
     filling: &Filling,
     i: u32,
     step: &SheetStep,
@@ -172,26 +171,26 @@ fn accepted_step(
     accepted: &Accepted,
     more: &[u32],
 ) -> Result<DraftStep, FillFault> {
-    let alloc = judged.alloc;
-    let by = use_of(judged, step, accepted)?;
+    let alloc = solved.alloc;
+    let by = use_of(solved, step, accepted)?;
     let numbers = filling.numbers.as_slice();
-    let places = accepted_places(alloc, numbers, places(judged, i), accepted, more)?;
+    let places = accepted_places(alloc, numbers, places(solved, i), accepted, more)?;
     let verdict = ReportVerdict::Fits;
     Ok(bare_step(alloc, step, places, tree, verdict, Some(by))?)
 }
 
 /// A step as it is written.
 fn filled_step(
-    judged: &Judged<'_>,
+    solved: &Solved<'_>,
     filling: &Filling,
     i: u32,
     step: &SheetStep,
     tree: Tree,
     more: &[u32],
 ) -> Result<DraftStep, FillFault> {
-    match accepted(judged, i) {
-        None => standing_step(judged, filling, i, step, tree),
-        Some(accepted) => accepted_step(judged, filling, i, step, tree, accepted, more),
+    match solved.chain.judged(i) {
+        Judged::Stands(verdict) => standing_step(solved, filling, step, tree, *verdict),
+        Judged::Fits(accepted) => accepted_step(solved, filling, i, step, tree, accepted, more),
     }
 }
 
@@ -206,17 +205,17 @@ fn put_step(alloc: Global, filling: &mut Filling, step: DraftStep) -> Result<(),
 
 /// Writes a step of the worksheet, behind the new steps that it needs.
 fn fill_step(
-    judged: &Judged<'_>,
+    solved: &Solved<'_>,
     filling: &mut Filling,
     step: &SheetStep,
 ) -> Result<(), FillFault> {
     let i = filling.numbers.len() as u32;
-    let more = fill_places(judged, filling, i)?;
-    match formula(judged, i) {
-        Err(fault) => Err(formula_fault(judged.alloc, step, fault)),
+    let more = fill_places(solved, filling, i)?;
+    match formula(solved, i) {
+        Err(fault) => Err(formula_fault(solved.alloc, step, fault)),
         Ok(tree) => {
-            let step = filled_step(judged, filling, i, step, tree, more.as_slice())?;
-            Ok(put_step(judged.alloc, filling, step)?)
+            let step = filled_step(solved, filling, i, step, tree, more.as_slice())?;
+            Ok(put_step(solved.alloc, filling, step)?)
         }
     }
 }
@@ -228,15 +227,13 @@ fn fill_comment(alloc: Global, filling: &mut Filling, lines: &[Bytes]) -> Result
 }
 
 fn fill_item(
-    judged: &Judged<'_>,
+    solved: &Solved<'_>,
     filling: &mut Filling,
     item: &SheetItem,
 ) -> Result<(), FillFault> {
     match item {
-        SheetItem::Comment(lines) => {
-            Ok(fill_comment(judged.alloc, filling, lines.as_slice())?)
-        }
-        SheetItem::Step(step) => fill_step(judged, filling, step),
+        SheetItem::Comment(lines) => { Ok(fill_comment(solved.alloc, filling, lines.as_slice())?) }
+        SheetItem::Step(step) => fill_step(solved, filling, step),
     }
 }
 
@@ -251,10 +248,10 @@ fn nothing(alloc: Global, items: &[SheetItem]) -> Result<Filling, Memory> {
 }
 
 /// Writes the items one after the other.
-fn fill_each(judged: &Judged<'_>, items: &[SheetItem]) -> Result<List<DraftItem>, FillFault> {
-    let mut filling = nothing(judged.alloc, items)?;
+fn fill_each(solved: &Solved<'_>, items: &[SheetItem]) -> Result<List<DraftItem>, FillFault> {
+    let mut filling = nothing(solved.alloc, items)?;
     for item in items {
-        fill_item(judged, &mut filling, item)?;
+        fill_item(solved, &mut filling, item)?;
     }
     let Filling {
         items,
@@ -265,7 +262,7 @@ fn fill_each(judged: &Judged<'_>, items: &[SheetItem]) -> Result<List<DraftItem>
     Ok(List::from_vec(items))
 }
 
-/// The comments and steps of a worksheet whose steps are all judged, as they are written before new work variables are
+/// The comments and steps of a worksheet whose steps are all solved, as they are written before new work variables are
 /// named: each with its formula under the most general valuation of the accepted steps; each missing place of an accepted
 /// step names the first step written before that has the formula that is wanted, or else a new step that stands just before
 /// the step. It takes time in proportion to the trees that it gives and to the store of terms.
@@ -275,20 +272,16 @@ fn fill_each(judged: &Judged<'_>, items: &[SheetItem]) -> Result<List<DraftItem>
 /// tokens; it is known before a tree of that formula is built. `Memory` where memory runs out.
 pub fn fill_items(
     alloc: Global,
-    db: &Database,
     sheet: &Sheet,
     bound: &Bound,
     chain: &Chain<'_>,
-    verdicts: &[Verdict],
 ) -> Result<List<DraftItem>, FillFault> {
     let trees = chain.trees()?;
-    let judged = Judged {
+    let solved = Solved {
         alloc,
-        db,
         bound,
         chain,
         trees: &trees,
-        verdicts,
     };
-    fill_each(&judged, sheet.items.as_slice())
+    fill_each(&solved, sheet.items.as_slice())
 }

@@ -1,6 +1,6 @@
 use crate::fault::FillFault;
 use crate::filling::Filling;
-use crate::reading::{Judged, missing};
+use crate::reading::{Solved, missing};
 use crate::table::tree_key;
 use mm_base::{List, Memory, Name, Tree};
 use std::alloc::Global;
@@ -54,9 +54,9 @@ fn too_long(filling: &mut Filling, tokens: u64) -> FillFault {
 }
 
 /// The number of the step that a missing place names.
-fn fill_place(judged: &Judged<'_>, filling: &mut Filling, node: Id) -> Result<u32, FillFault> {
-    match judged.trees.tree(node) {
-        Ok(tree) => Ok(step_of(judged.alloc, filling, tree)?),
+fn fill_place(solved: &Solved<'_>, filling: &mut Filling, node: Id) -> Result<u32, FillFault> {
+    match solved.trees.tree(node) {
+        Ok(tree) => Ok(step_of(solved.alloc, filling, tree)?),
         Err(TreeFault::TooLong(tokens)) => Err(too_long(filling, tokens)),
         Err(TreeFault::Memory) => Err(FillFault::Memory),
     }
@@ -64,13 +64,13 @@ fn fill_place(judged: &Judged<'_>, filling: &mut Filling, node: Id) -> Result<u3
 
 /// The numbers of the steps that the missing places of a step name. The new ones among them are put in.
 pub fn fill_places(
-    judged: &Judged<'_>,
+    solved: &Solved<'_>,
     filling: &mut Filling,
     i: u32,
 ) -> Result<Vec<u32>, FillFault> {
-    let mut numbers = Vec::new(judged.alloc);
-    for node in missing(judged, i) {
-        let number = fill_place(judged, filling, *node)?;
+    let mut numbers = Vec::new(solved.alloc);
+    for node in missing(solved, i) {
+        let number = fill_place(solved, filling, *node)?;
         numbers.push(number)?;
     }
     Ok(numbers)

@@ -11,10 +11,7 @@ type Keys = BTreeSet<(u32, u32)>;
 
 /// The pairs that a use needs.
 pub fn needed_by(alloc: Global, db: &Database, by: &StepUse) -> Result<List<Pair>, Memory> {
-    match pairs(db, by) {
-        None => Ok(List::from_vec(Vec::new(alloc))),
-        Some(pairs) => needed(alloc, pairs, variables(db, by), &by.values),
-    }
+    needed(alloc, pairs(db, by), variables(db, by), &by.values)
 }
 
 /// Puts in pairs.
@@ -26,12 +23,7 @@ fn put_pairs(keys: &mut Keys, pairs: &[Pair]) -> Result<(), Memory> {
 }
 
 /// Puts in the pairs that a step needs.
-fn put_item(
-    alloc: Global,
-    db: &Database,
-    keys: &mut Keys,
-    item: &DraftItem,
-) -> Result<(), Memory> {
+fn put_item(alloc: Global, db: &Database, keys: &mut Keys, item: &DraftItem) -> Result<(), Memory> {
     if let DraftItem::Step(step) = item {
         if let Some(by) = &step.by {
             let pairs = needed_by(alloc, db, by)?;

@@ -8,12 +8,9 @@ use written_steps::{DraftItem, DraftStep, StepUse, pairs, variables};
 
 /// The variable of the clash of a use.
 fn clash_of(db: &Database, by: &StepUse) -> Option<Sym> {
-    match pairs(db, by) {
+    match clash(pairs(db, by), variables(db, by), &by.values) {
         None => None,
-        Some(pairs) => match clash(pairs, variables(db, by), &by.values) {
-            None => None,
-            Some((_, _, shared)) => Some(shared),
-        },
+        Some((_, _, shared)) => Some(shared),
     }
 }
 

@@ -72,11 +72,7 @@ fn put_hyp(hyps: &mut Vec<Tree>, steps: &[&DraftStep], place: Given) -> Result<(
 }
 
 /// The formulas of the steps that places name.
-fn hyps_of(
-    alloc: Global,
-    steps: &[&DraftStep],
-    places: &[Given],
-) -> Result<List<Tree>, Memory> {
+fn hyps_of(alloc: Global, steps: &[&DraftStep], places: &[Given]) -> Result<List<Tree>, Memory> {
     let mut hyps = Vec::new(alloc);
     for place in places {
         put_hyp(&mut hyps, steps, *place)?;
@@ -102,7 +98,13 @@ fn find(
         return Ok(None);
     }
     let wanted = wanted_of(search.alloc, steps, step)?;
-    first(search.alloc, search.db, search.place, &wanted, search.allowed)
+    first(
+        search.alloc,
+        search.db,
+        search.place,
+        &wanted,
+        search.allowed,
+    )
 }
 
 fn find_item(

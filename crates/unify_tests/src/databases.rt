@@ -107,6 +107,19 @@ ax-1 $a T ( ph -> ( ps -> ph ) ) $.
 ax-2 $a T ( ( ph -> ( ps -> ch ) ) -> ( ( ph -> ps ) -> ( ph -> ch ) ) ) $.
 ";
 
+/// A constant with the name of a work variable.
+pub const DECLARED: &str = "$c &W1 $.
+";
+
+/// A theorem.
+pub const GOOD: &str = "good $p |- ( ph -> ( ps -> ph ) ) $= ( ax-1 ) ABC $.
+";
+
+/// A production whose variables stand in another order than its frame has them.
+pub const TURNED: &str = "$c ( ) ~> wff |- $. $v p q $. wp $f wff p $. wq $f wff q $.
+wr $a wff ( q ~> p ) $. ax $a |- ( q ~> p ) $.
+";
+
 /// Implication over sets and classes.
 pub const Q: &[&str] = &[PROP, SETS];
 

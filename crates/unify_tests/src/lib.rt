@@ -6,6 +6,8 @@ mod answers;
 #[cfg(test)]
 mod databases;
 #[cfg(test)]
+mod further;
+#[cfg(test)]
 mod large;
 #[cfg(test)]
 mod row;

@@ -1,4 +1,5 @@
 use crate::answers::{Answer, answer_to, opened};
+use crate::further::FURTHER;
 use crate::row::{Row, database_text, options, sheet_text};
 use crate::rows::ROWS;
 use mm_base::Memory;
@@ -70,6 +71,13 @@ fn first_wrong(alloc: Global, rows: &[Row]) -> Result<&str, Memory> {
 #[test]
 fn rows_are_right(rt: HostRuntime) -> Result<(), Fail> {
     let wrong = first_wrong(rt.alloc(), ROWS)?;
+    assert_eq!(rt; wrong, "");
+    Ok(())
+}
+
+#[test]
+fn further_rows_are_right(rt: HostRuntime) -> Result<(), Fail> {
+    let wrong = first_wrong(rt.alloc(), FURTHER)?;
     assert_eq!(rt; wrong, "");
     Ok(())
 }

@@ -13,7 +13,7 @@ there_or_variable-requires t c =
 
 pub there_or_free-requires : goal.there_or_free-requires
 there_or_free-requires t c =
-    subst (λ o. ForSome o (λ i. i < length c.args.arena.now.nodes)) (sym c.work_at-there.ensures)
+    subst (λ o. ForSome o (λ i. i < length c.args.arena.now.nodes)) (sym c.node-there.ensures)
     (found_work (length c.args.arena.now.nodes) (is_work c.in-Work.code c.in-Work.number) c.args.works.now c.requires.works)
 
 pub loop-child-preserved : goal.loop-child-preserved
@@ -44,7 +44,7 @@ pub returns-in-Work-clause-added : goal.returns-in-Work-clause-added
 returns-in-Work-clause-added t c =
     let nodes = c.args.arena.now.nodes in
     rooted_by c.there_or_free.result c.there_or_free.new.arena.nodes _ _
-    (ap (λ o. there_or o (Free c.in-Work.code) nodes) c.work_at-there.ensures
+    (ap (λ o. there_or o (Free c.in-Work.code) nodes) c.node-there.ensures
     ∙ sym (ap (λ u. added c.args.grammar.now c.args.works.now c.args.variables.now u nodes) c.in-Work.is ∙ added-Work c.args.grammar.now c.args.works.now c.args.variables.now c.in-Work.code c.in-Work.number nodes))
     c.there_or_free.ensures.added
 
