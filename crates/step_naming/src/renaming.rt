@@ -1,3 +1,7 @@
+ghost use Rattle.std.specs.Prelude.{IfOk};
+ghost use Rattle.written_steps.specs.Drafts.{OverEachText, HaveKeptUses, items_in};
+ghost use Rattle.step_naming.specs.Naming.{AreWritable, AreNamed};
+
 use crate::leaves::naming_of;
 use crate::naming::Naming;
 use mm_base::{List, Memory, Tree, Typecode};
@@ -111,7 +115,11 @@ pub fn name_items(
     db: &Database,
     bound: &Bound,
     items: List<DraftItem>,
-) -> Result<List<DraftItem>, Memory> {
+) -> Result<List<DraftItem>, Memory>
+    ensures named { IfOk result (λ named. OverEachText db.now (λ kinds book. AreWritable book bound.now (items_in db.now items)
+        → AreNamed book bound.now (items_in db.now items) (items_in db.now named))) }
+    ensures kept { HaveKeptUses db.now items → IfOk result (HaveKeptUses db.now) }
+{
     let naming = naming_of(alloc, db, bound, items.as_slice())?;
     if naming.is_empty() {
         return Ok(items);

@@ -1,3 +1,7 @@
+ghost use Rattle.std.specs.Prelude.{IfOk};
+ghost use Rattle.written_steps.specs.Drafts.{HaveKeptUses, written_in};
+ghost use Rattle.step_report.specs.Ending.{IsEnd};
+
 use mm_base::{List, Memory};
 use mm_database::Database;
 use ref_search::is_ground;
@@ -100,7 +104,10 @@ pub fn is_finished(
     db: &Database,
     items: &[DraftItem],
     report: &List<ReportLine>,
-) -> Result<bool, Memory> {
+) -> Result<bool, Memory>
+    requires { HaveKeptUses db.now items.now }
+    ensures { IfOk result (IsEnd (written_in db.now items.now) report.now) }
+{
     let steps = draft_steps(alloc, items)?;
     let marks = below_qed(alloc, steps.as_slice())?;
     Ok(are_done(db, steps.as_slice(), report.as_slice(), marks.as_slice()))

@@ -1,3 +1,7 @@
+ghost use Rattle.std.specs.Prelude.{◌≡◌, IfOk};
+ghost use Rattle.written_model.specs.Pairs.{pairs_of};
+ghost use Rattle.written_steps.specs.Drafts.{OverEachText, HaveKeptUses, written_in};
+
 use distinct_vars::needed;
 use mm_base::{List, Memory, Pair, Sym};
 use mm_database::Database;
@@ -77,7 +81,10 @@ pub fn written_pairs(
     mode: DvMode,
     given: &List<Pair>,
     items: &[DraftItem],
-) -> Result<List<Pair>, Memory> {
+) -> Result<List<Pair>, Memory>
+    requires { HaveKeptUses db.now items.now }
+    ensures { IfOk result (λ pairs. OverEachText db.now (λ kinds book. pairs ≡ pairs_of mode given.now (written_in db.now items.now))) }
+{
     match mode {
         DvMode::Given => Ok(List::from_vec(Vec::from_slice(alloc, given.as_slice())?)),
         DvMode::Add => added_pairs(alloc, db, given.as_slice(), items),

@@ -1,3 +1,7 @@
+ghost use Rattle.std.specs.Prelude.{◌≡◌, map, IfOk};
+ghost use Rattle.written_model.specs.Report.{report_of as reported};
+ghost use Rattle.written_steps.specs.Drafts.{OverEachText, HaveKeptUses, written_in};
+
 use crate::pairs::needed_by;
 use distinct_vars::{clash, lacking};
 use mm_base::{List, Memory, Name, Pair, Sym};
@@ -119,7 +123,10 @@ pub fn report_of(
     mode: DvMode,
     given: &List<Pair>,
     items: &[DraftItem],
-) -> Result<List<ReportLine>, Memory> {
+) -> Result<List<ReportLine>, Memory>
+    requires { HaveKeptUses db.now items.now }
+    ensures { IfOk result (λ report. OverEachText db.now (λ kinds book. report ≡ map (reported mode given.now) (written_in db.now items.now))) }
+{
     let mut lines = Vec::new(alloc);
     for item in items {
         if let DraftItem::Step(step) = item {

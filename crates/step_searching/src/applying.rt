@@ -1,3 +1,7 @@
+ghost use Rattle.std.specs.Prelude.{IfOk};
+ghost use Rattle.written_steps.specs.Drafts.{OverEachText, HaveKeptUses, items_in};
+ghost use Rattle.step_searching.specs.Searching.{AreSearched};
+
 use crate::searching::{Search, allowed_pairs, find_all};
 use mm_base::{Label, List, Memory, Name, Pair};
 use mm_database::Database;
@@ -106,7 +110,11 @@ pub fn search_items(
     mode: DvMode,
     given: &List<Pair>,
     items: List<DraftItem>,
-) -> Result<List<DraftItem>, Memory> {
+) -> Result<List<DraftItem>, Memory>
+    requires { HaveKeptUses db.now items }
+    ensures searched { IfOk result (λ searched. OverEachText db.now (λ kinds book. AreSearched book place mode given.now (items_in db.now items) (items_in db.now searched))) }
+    ensures kept { IfOk result (HaveKeptUses db.now) }
+{
     let allowed = allowed_pairs(mode, given);
     let search = Search {
         alloc,

@@ -3,17 +3,22 @@ use Rattle.std.specs.Prelude.{ℕ, List, [], ◌∷◌, map, filter_map, slice_g
 use Rattle.std.specs.List.{AllByRecursion}
 use Rattle.std.specs.Borrow.{Bor}
 use Rattle.mm_base.specs.declared.symbols.Label.{Label}
-use Rattle.mm_model.specs.Book.{Assertion}
 use Rattle.mm_frames.specs.Contents.{frame_at}
-use Rattle.mm_database.specs.Books.{usable_with}
-use Rattle.mm_database.specs.Opened.{Opened}
+use Rattle.mm_base.specs.declared.kinds.Kinds.{Kinds}
+use Rattle.mm_model.specs.Book.{Database, Assertion}
+use Rattle.mm_database.specs.Books.{usable_with, database_of}
+use Rattle.mm_database.specs.Opened.{Opened, IsOpened}
 use Rattle.sheet_text.specs.declared.sheet.Given.{Given}
 use Rattle.sheet_text.specs.declared.sheet.Given.TheVariants as given
-use Rattle.written_model.specs.WrittenSteps.{Use, WrittenStep, WrittenItem, comment, step}
+use Rattle.written_model.specs.WrittenSteps.{Use, WrittenStep, WrittenItem, comment, step, steps_in}
 use Rattle.written_steps.specs.declared.draft.StepUse.{StepUse}
 use Rattle.written_steps.specs.declared.draft.DraftStep.{DraftStep}
 use Rattle.written_steps.specs.declared.draft.DraftItem.{DraftItem}
 use Rattle.written_steps.specs.declared.draft.DraftItem.TheVariants as draft
+
+-- so it is over the database of each text from which it is opened
+abbrev pub OverEachText : Opened → (Kinds → Database → Type 0) → Type 0
+OverEachText d P = (kinds : Kinds) (text : List ℕ) → IsOpened kinds text d → P kinds (database_of kinds text d.rows d.parsed)
 
 -- the usable assertion of a label, from what is kept
 abbrev pub assertion_at : Opened → Label → Option Assertion
@@ -32,6 +37,10 @@ item_in d (draft.Step e) = step (step_in d e)
 -- the comments and steps of the definitions
 abbrev pub items_in : Opened → List DraftItem → List WrittenItem
 items_in d items = map (item_in d) items
+
+-- the steps of the definitions
+abbrev pub written_in : Opened → List DraftItem → List WrittenStep
+written_in d items = steps_in (items_in d items)
 
 abbrev pub draft_of : DraftItem → Option DraftStep
 draft_of (draft.Comment lines) = None
