@@ -1,7 +1,6 @@
 //! Unifies a worksheet with an opened database, and writes it back with its report.
 #![tactic(auto)]
 
-
 mod faults;
 mod judging;
 mod lines;
@@ -10,10 +9,10 @@ mod refusal_line;
 mod unify;
 mod words;
 
-pub use refusal_line::fault_line;
 pub use faults::UnifyFault;
 pub use lines::report_lines;
 pub use outcome::Outcome;
+pub use refusal_line::fault_line;
 pub use sheet_bind::BindCode;
 pub use sheet_read::SheetCode;
 pub use unify::{unify_read, unify_sheet};

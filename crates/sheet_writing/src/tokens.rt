@@ -4,6 +4,7 @@ use mm_database::Database;
 use mm_frames::Frames;
 use std::alloc::Global;
 use work_vars::spelling;
+use written_steps::symbol_name;
 
 pub fn copied(alloc: Global, name: &[u8]) -> Result<Name, Memory> {
     Ok(List::from_vec(Vec::from_slice(alloc, name)?))
@@ -12,9 +13,9 @@ pub fn copied(alloc: Global, name: &[u8]) -> Result<Name, Memory> {
 /// The token of a leaf.
 fn leaf_name(alloc: Global, frames: &Frames, leaf: Leaf) -> Result<Name, Memory> {
     match leaf {
-        Leaf::Const(symbol) => copied(alloc, frames.symbol_name(symbol)),
-        Leaf::Var(symbol, _) => copied(alloc, frames.symbol_name(symbol)),
-        Leaf::Work(code, number) => spelling(alloc, frames.symbol_name(code.0), number),
+        Leaf::Const(symbol) => copied(alloc, symbol_name(frames, symbol)),
+        Leaf::Var(symbol, _) => copied(alloc, symbol_name(frames, symbol)),
+        Leaf::Work(code, number) => spelling(alloc, symbol_name(frames, code.0), number),
     }
 }
 

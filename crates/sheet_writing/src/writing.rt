@@ -4,7 +4,7 @@ use mm_database::Database;
 use mm_frames::Frames;
 use sheet_text::{Given, PairLine, Sheet, SheetItem, SheetStep};
 use std::alloc::Global;
-use written_steps::{DraftItem, DraftStep};
+use written_steps::{DraftItem, DraftStep, symbol_name};
 
 fn copied_option(alloc: Global, name: &Option<Name>) -> Result<Option<Name>, Memory> {
     match name {
@@ -87,8 +87,8 @@ fn written_items(
 /// The `$d` statement of a pair.
 fn written_pair(alloc: Global, frames: &Frames, pair: Pair) -> Result<PairLine, Memory> {
     let mut names = Vec::new(alloc);
-    names.push(copied(alloc, frames.symbol_name(pair.a))?)?;
-    names.push(copied(alloc, frames.symbol_name(pair.b))?)?;
+    names.push(copied(alloc, symbol_name(frames, pair.a))?)?;
+    names.push(copied(alloc, symbol_name(frames, pair.b))?)?;
     Ok(PairLine {
         line: 0,
         names: List::from_vec(names),

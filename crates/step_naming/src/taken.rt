@@ -5,6 +5,7 @@ use mm_frames::Frames;
 use solve_model::{Bound, BoundStep};
 use std::alloc::Global;
 use work_vars::read_name;
+use written_steps::symbol_name;
 
 /// Takes the numbers of the work variables of a tree.
 fn take_tree(numbers: &mut FreeNumbers, tree: &Tree) -> Result<(), Memory> {
@@ -38,7 +39,7 @@ fn take_symbol(
     numbers: &mut FreeNumbers,
     symbol: Sym,
 ) -> Result<(), Memory> {
-    match read_name(alloc, frames.symbol_name(symbol))? {
+    match read_name(alloc, symbol_name(frames, symbol))? {
         None => Ok(()),
         Some((code, number)) => match frames.symbol(code.as_slice()) {
             None => Ok(()),

@@ -1,4 +1,4 @@
-ghost use Rattle.std.specs.Prelude.{IfOk};
+ghost use Rattle.std.specs.Prelude.{◌≡◌, [], slice_index_or, IfOk};
 ghost use Rattle.written_steps.specs.Drafts.{OverEachText, HaveKeptUses, items_in};
 ghost use Rattle.step_searching.specs.Searching.{AreSearched};
 
@@ -9,10 +9,12 @@ use ref_search::Found;
 use sheet_text::Given;
 use std::alloc::Global;
 use written_model::{DvMode, ReportVerdict};
-use written_steps::{DraftItem, DraftStep, StepUse, in_order};
+use written_steps::{DraftItem, DraftStep, StepUse, in_order, label_name};
 
-fn label_name(alloc: Global, db: &Database, label: Label) -> Result<Name, Memory> {
-    Ok(List::from_vec(Vec::from_slice(alloc, db.frames().label_name(label))?))
+fn copied_name(alloc: Global, db: &Database, label: Label) -> Result<Name, Memory>
+    ensures { IfOk result (λ name. name ≡ slice_index_or db.now.contents.labels label.0 []) }
+{
+    Ok(List::from_vec(Vec::from_slice(alloc, label_name(db.frames(), label))?))
 }
 
 /// A step with the reference, the places and the use that were found.
@@ -49,7 +51,7 @@ fn found_step(
         trees,
         order,
     } = found;
-    let reference = label_name(alloc, db, label)?;
+    let reference = copied_name(alloc, db, label)?;
     let places = in_order(alloc, step.places.as_slice(), order.as_slice())?;
     let by = StepUse {
         label,
