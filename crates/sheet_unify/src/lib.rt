@@ -1,18 +1,18 @@
 //! Unifies a worksheet with an opened database, and writes it back with its report.
 #![tactic(auto)]
 
-mod fault_lines;
 mod faults;
 mod judging;
 mod lines;
 mod outcome;
+mod refusal_line;
 mod unify;
 mod words;
 
-pub use fault_lines::fault_line;
 pub use faults::UnifyFault;
 pub use lines::report_lines;
 pub use outcome::Outcome;
+pub use refusal_line::fault_line;
 pub use sheet_bind::BindCode;
 pub use sheet_read::SheetCode;
 pub use unify::{unify_read, unify_sheet};

@@ -4,6 +4,7 @@ use mm_database::Database;
 use mm_frames::Frames;
 use std::alloc::Global;
 use written_model::{ReportLine, ReportVerdict};
+use written_steps::symbol_name;
 
 /// The words of a verdict.
 fn verdict_words(verdict: ReportVerdict) -> &'static [u8] {
@@ -47,7 +48,7 @@ fn put_clash(line: &mut Vec<u8>, frames: &Frames, clash: Option<Sym>) -> Result<
         None => Ok(()),
         Some(shared) => {
             put_word(line, b"clash")?;
-            put_word(line, frames.symbol_name(shared))
+            put_word(line, symbol_name(frames, shared))
         }
     }
 }
@@ -57,8 +58,8 @@ fn put_lack(line: &mut Vec<u8>, frames: &Frames, lack: Option<Pair>) -> Result<(
         None => Ok(()),
         Some(pair) => {
             put_word(line, b"needs")?;
-            put_word(line, frames.symbol_name(pair.a))?;
-            put_word(line, frames.symbol_name(pair.b))
+            put_word(line, symbol_name(frames, pair.a))?;
+            put_word(line, symbol_name(frames, pair.b))
         }
     }
 }
