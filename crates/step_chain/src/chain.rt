@@ -1,4 +1,5 @@
-ghost use Rattle.std.specs.Prelude.{◌≡◌};
+ghost use Rattle.std.specs.Prelude.{◌≡◌, ◌<◌, ◌∷◌, ◌++◌, [], length, vec_len};
+ghost use Rattle.std.specs.Vec.{vec_capacity};
 ghost use Rattle.step_chain.specs.Steps.{verdict_in};
 
 use crate::begun::{begin, logic_code};
@@ -42,6 +43,20 @@ impl<'a> Model for Chain<'a> {
 
     ghost invariant = { λ c. IsHeld (record { book = c.db.now; logic = c.logic; bound = c.bound.now; nodes = c.arena.nodes; links = c.arena.links;
         works = c.works; formulas = c.formulas; steps = c.steps.items }) };
+}
+
+fn count(steps: &[Pushed]) -> usize
+    ensures { result ≡ length steps.now }
+{
+    steps.len()
+}
+
+/// Adds a step where there is room for it.
+fn put(steps: &mut Vec<Pushed>, pushed: Pushed)
+    requires { vec_len steps.old < vec_capacity steps.old }
+    ensures { steps.new.items ≡ steps.old.items ++ pushed ∷ [] }
+{
+    steps.push(pushed).unwrap();
 }
 
 fn verdict_of(judged: &Judged) -> Verdict
@@ -93,7 +108,7 @@ impl<'a> Chain<'a> {
         ensures judged { OfEachBook self.now (λ db. length (judgements_of self.now) ≡ length self.now.bound.steps
             → AreJudged db self.now.bound (judgements_of self.now)) }
     {
-        self.steps.len() as u32
+        count(self.steps.as_slice()) as u32
     }
 
     /// The store of terms.
@@ -133,7 +148,7 @@ impl<'a> Chain<'a> {
             i,
         )?;
         let verdict = verdict_of(&judged);
-        self.steps.push(Pushed { mark, judged }).unwrap();
+        put(&mut self.steps, Pushed { mark, judged });
         Ok(verdict)
     }
 
@@ -142,7 +157,7 @@ impl<'a> Chain<'a> {
         ensures front { self.new ≡ front_of self.old k }
         ensures judgements { judgements_of self.new ≡ take k (judgements_of self.old) }
     {
-        if (k as usize) < self.steps.len() {
+        if (k as usize) < count(self.steps.as_slice()) {
             let mark = self.steps[k as usize].mark;
             self.arena.undo_to(mark);
             self.steps.truncate(k as usize);
