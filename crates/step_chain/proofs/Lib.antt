@@ -16,3 +16,4 @@ pub mod LevelLaws
 pub mod CandidateLaws
 pub mod NextLaws
 pub mod SymbolLaws
+pub mod ReadingLaws

@@ -10,3 +10,4 @@ pub mod Formulas
 pub mod Steps
 pub mod Levels
 pub mod Accepted
+pub mod Readings

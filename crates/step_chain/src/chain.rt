@@ -97,7 +97,7 @@ impl<'a> Chain<'a> {
     }
 
     /// The trees of the store, for several calls in turn.
-    pub fn trees(&self) -> Result<Trees<'_>, Memory> {
+    pub fn trees(&self) -> Result<Trees<'_, '_>, Memory> {
         Trees::of(self.alloc, &self.arena, &self.works)
     }
 
