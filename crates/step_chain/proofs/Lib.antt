@@ -18,3 +18,4 @@ pub mod NextLaws
 pub mod HeldLaws
 pub mod ChainLaws
 pub mod SymbolLaws
+pub mod ReadingLaws

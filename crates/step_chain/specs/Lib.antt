@@ -11,3 +11,4 @@ pub mod Accepted
 pub mod Held
 pub mod Works
 pub mod Formulas
+pub mod Readings
