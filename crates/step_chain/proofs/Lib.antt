@@ -19,3 +19,4 @@ pub mod HeldLaws
 pub mod ChainLaws
 pub mod SymbolLaws
 pub mod ReadingLaws
+pub mod ValueLaws
