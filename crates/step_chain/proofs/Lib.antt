@@ -17,3 +17,4 @@ pub mod CandidateLaws
 pub mod NextLaws
 pub mod SymbolLaws
 pub mod ReadingLaws
+pub mod ConstantLaws

@@ -1,3 +1,4 @@
+use Rattle.step_chain.proofs.ConstantLaws.{formulas_have}
 use Rattle.std.proofs.Common.{ap, ◌∙◌}
 use Rattle.mm_model.specs.Names.{typecode}
 use Rattle.mm_model.specs.Frames.{symbol_in}
