@@ -275,15 +275,11 @@ module _ (db : Database) (bound : Bound) (ready : IsReadyBound db bound) where
 -- ---- for the code
 
 -- the first level of a chain
-module _ (kinds : Kinds) (d : Opened) (bound : Bound) (law : BoundIsReady) (logic : Typecode) (is : logic ≡ typecode (symbol_in d.contents.symbols kinds.logic)) where
-  logic_is : (text : List ℕ) → IsOpened kinds text d → logic ≡ logic_code (database_of kinds text d.rows d.parsed)
-  logic_is text opened = is ∙ ap (λ (c : Contents). typecode (symbol_in c.symbols kinds.logic)) opened.contents
-
-  book_formulas : (text : List ℕ) (sheet : Sheet) (nodes : List Term) (works : List WorkNode) (formulas : List Id) → IsOpened kinds text d → Binds (database_of kinds text d.rows d.parsed) sheet bound → AreFormulas d.rows logic bound.steps nodes works formulas
-      → HasFormulas (database_of kinds text d.rows d.parsed) bound nodes works formulas
-  book_formulas text sheet nodes works formulas opened binds h =
-      let db = database_of kinds text d.rows d.parsed in
-      formulas_chained db bound (law db sheet bound binds) nodes works formulas (subst (λ (c : Typecode). AreFormulas d.rows c bound.steps nodes works formulas) (logic_is text opened) h)
+module _ (d : Opened) (bound : Bound) (law : BoundIsReady) (logic : Typecode) where
+  book_formulas : (db : Database) (sheet : Sheet) (nodes : List Term) (works : List WorkNode) (formulas : List Id) → Binds db sheet bound → logic_code db ≡ logic → AreFormulas db.rows logic bound.steps nodes works formulas
+      → HasFormulas db bound nodes works formulas
+  book_formulas db sheet nodes works formulas binds code h =
+      formulas_chained db bound (law db sheet bound binds) nodes works formulas (subst (λ (c : Typecode). AreFormulas db.rows c bound.steps nodes works formulas) (sym code) h)
 
   first_level : (db : Database) (nodes : List Term) (works : List WorkNode) (formulas : List Id) → HasFormulas db bound nodes works formulas → IsLevel db d bound works formulas [] nodes []
   first_level db nodes works formulas h = record {
@@ -298,7 +294,7 @@ module _ (kinds : Kinds) (d : Opened) (bound : Bound) (law : BoundIsReady) (logi
 
   pub first_front : (rows : List Production) (ss : List BoundStep) (r : Result FormulaNodes Memory) (old new : Store) → rows ≡ d.rows → ss ≡ bound.steps → old.links ≡ [] → IsSolved old.nodes old.links → IsGrown old new → IsStore new.nodes new.links
       → IfOk r (λ f. AreFormulas rows logic ss new.nodes f.works.items f.formulas.items) → IfOk r (λ f. AreIdsIn (length new.nodes) f.formulas.items) → IfOk r (λ f. AreWorksIn (length new.nodes) f.works.items)
-      → IfOk r (λ f. IsFront kinds d bound f.works.items f.formulas.items [] new.nodes new.links)
+      → IfOk r (λ f. IsFront d logic bound f.works.items f.formulas.items [] new.nodes new.links)
   first_front rows ss (Err e) old new same_rows same_steps unbound solved grown store h ids works = tt
   first_front rows ss (Ok f) old new same_rows same_steps unbound solved grown store h ids works =
       let none : new.links ≡ [] = grown.links ∙ unbound in
@@ -310,10 +306,10 @@ module _ (kinds : Kinds) (d : Opened) (bound : Bound) (law : BoundIsReady) (logi
         works_in = works;
         formulas_in = ids;
         kept_in = tt;
-        level = λ text sheet opened binds.
+        level = λ kinds text sheet opened binds code.
             let db = database_of kinds text d.rows d.parsed in
             subst (IsLevel db d bound f.works.items f.formulas.items [] new.nodes) (sym none)
-            (first_level db new.nodes f.works.items f.formulas.items (book_formulas text sheet new.nodes f.works.items f.formulas.items opened binds here));
+            (first_level db new.nodes f.works.items f.formulas.items (book_formulas db sheet new.nodes f.works.items f.formulas.items binds code here));
       }
 
   pub begun_count : (rows : List Production) (ss : List BoundStep) (r : Result FormulaNodes Memory) → ss ≡ bound.steps → IfOk r (λ f. length f.formulas.items ≡ length ss) → IfOk r (λ f. length f.formulas.items ≡ length bound.steps)

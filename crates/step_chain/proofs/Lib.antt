@@ -15,6 +15,8 @@ pub mod AcceptLaws
 pub mod LevelLaws
 pub mod CandidateLaws
 pub mod NextLaws
+pub mod HeldLaws
+pub mod ChainLaws
 pub mod SymbolLaws
 pub mod ReadingLaws
 pub mod ConstantLaws

@@ -2,8 +2,9 @@
 use Rattle.std.specs.Prelude.{◌≡◌, ℕ, ◌<◌, List, length, map, take, Contains, slice_get, Option, Some}
 use Rattle.std.specs.List.{AllByRecursion, AllZip}
 use Rattle.mm_base.specs.declared.kinds.Kinds.{Kinds}
+use Rattle.mm_base.specs.declared.symbols.Typecode.{Typecode}
 use Rattle.mm_model.specs.Productions.{TypedVariable}
-use Rattle.mm_model.specs.Book.{Database, Assertion}
+use Rattle.mm_model.specs.Book.{Database, Assertion, logic_code}
 use Rattle.sheet_text.specs.declared.sheet.Sheet.{Sheet}
 use Rattle.mm_database.specs.Books.{database_of}
 use Rattle.mm_database.specs.Opened.{Opened, IsOpened}
@@ -59,19 +60,15 @@ abbrev pub IsKeptIn : ℕ → Judged → Type 0
 IsKeptIn n (Stands v) = Unit {0}
 IsKeptIn n (Fits x) = AreIdsIn n x.hyps × AreVariablesIn n x.variables
 
--- a fact of the database with these kinds and the worksheet, whatever text and sheet they are of
-abbrev pub ForBook : Kinds → Opened → Bound → (Database → Type 0) → Type 0
-ForBook kinds d bound P = (text : List ℕ) (sheet : Sheet) → IsOpened kinds text d → Binds (database_of kinds text d.rows d.parsed) sheet bound → P (database_of kinds text d.rows d.parsed)
-
--- the same whatever the kinds are
+-- a fact of the database and the worksheet, whatever text and sheet they are of
 abbrev pub ForEachBook : Opened → Bound → (Database → Type 0) → Type 0
-ForEachBook d bound P = (kinds : Kinds) → ForBook kinds d bound P
+ForEachBook d bound P = (kinds : Kinds) (text : List ℕ) (sheet : Sheet) → IsOpened kinds text d → Binds (database_of kinds text d.rows d.parsed) sheet bound → P (database_of kinds text d.rows d.parsed)
 
--- the store after these steps; the typecode of blank formulas is that of these kinds
-pub record IsFront (kinds : Kinds) (d : Opened) (bound : Bound) (works : List WorkNode) (formulas : List Id) (steps : List Pushed) (nodes : List Term) (links : List Link) : Type 0 where
+-- the store after these steps, where this is the logic typecode
+pub record IsFront (d : Opened) (logic : Typecode) (bound : Bound) (works : List WorkNode) (formulas : List Id) (steps : List Pushed) (nodes : List Term) (links : List Link) : Type 0 where
   pub store : IsStore nodes links
   pub solved : IsSolved nodes links
   pub works_in : AreWorksIn (length nodes) works
   pub formulas_in : AreIdsIn (length nodes) formulas
   pub kept_in : AllByRecursion (λ (p : Pushed). IsKeptIn (length nodes) p.judged) steps
-  pub level : ForBook kinds d bound (λ db. IsLevel db d bound works formulas steps nodes links)
+  pub level : ForEachBook d bound (λ db. logic_code db ≡ logic → IsLevel db d bound works formulas steps nodes links)

@@ -5,9 +5,10 @@ pub mod Copied
 pub mod Tried
 pub mod Candidate
 pub mod Standings
-pub mod Works
-pub mod Formulas
 pub mod Steps
 pub mod Levels
 pub mod Accepted
+pub mod Held
+pub mod Works
+pub mod Formulas
 pub mod Readings

@@ -5,6 +5,7 @@ use Rattle.mm_model.specs.Book.{Assertion}
 use Rattle.mm_database.specs.Opened.{Opened}
 use Rattle.solve_model.specs.declared.bound.BoundStep.{BoundStep}
 use Rattle.solve_model.specs.declared.bound.Bound.{Bound}
+use Rattle.solve_model.specs.declared.verdict.Verdict.{Verdict}
 use Rattle.solve_model.specs.declared.verdict.Verdict.TheVariants as verdict
 use Rattle.solve_model.specs.Solutions.{Asked, no_step}
 use Rattle.solve_model.specs.Verdicts.{asked, Judgement, accepted, stands}
@@ -25,12 +26,16 @@ asked_by bound i x a = asked i a (reordered (step_at bound i).places x.order)
 
 -- none is accepted without its assertion
 abbrev pub accepted_by : Bound → ℕ → Accepted → Option Assertion → Judgement
-accepted_by bound i x None = stands verdict.UnknownRef
+accepted_by bound i x None = stands verdict.Fits
 accepted_by bound i x (Some a) = accepted (asked_by bound i x a)
 
 abbrev pub judgement_of : Opened → Bound → ℕ → Judged → Judgement
 judgement_of d bound i (Stands v) = stands v
 judgement_of d bound i (Fits x) = accepted_by bound i x (usable_in d x.label)
+
+abbrev pub verdict_in : Judged → Verdict
+verdict_in (Stands v) = v
+verdict_in (Fits x) = verdict.Fits
 
 -- the judgements of steps from a number on
 abbrev pub judgements_from : Opened → Bound → ℕ → List Pushed → List Judgement

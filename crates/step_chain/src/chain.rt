@@ -1,12 +1,16 @@
-use crate::begun::begin;
-use crate::judged::{Accepted, Judged, Pushed};
+ghost use Rattle.std.specs.Prelude.{◌≡◌, ◌<◌, ◌∷◌, ◌++◌, [], length, vec_len};
+ghost use Rattle.std.specs.Vec.{vec_capacity};
+ghost use Rattle.step_chain.specs.Steps.{verdict_in};
+
+use crate::begun::{begin, logic_code};
+use crate::judged::{Judged, Pushed};
 use crate::judging::judge;
-use crate::reading::{TreeFault, Trees};
 use chain_laws::WorkNode;
-use mm_base::{Kinds, List, Memory, Tree};
+use mm_base::{Kinds, List, Memory, Typecode};
 use mm_database::Database;
 use solve_model::{Bound, Verdict};
 use std::alloc::Global;
+use std::marker::Model;
 use term_arena::{Arena, Id};
 
 /// The steps of a bound worksheet, taken one after the other into one store of terms.
@@ -14,64 +18,125 @@ use term_arena::{Arena, Id};
 pub struct Chain<'a> {
     alloc: Global,
     db: &'a Database,
+    /// The typecode of formulas.
+    logic: Typecode,
     bound: &'a Bound,
     arena: Arena,
-    works: Vec<WorkNode>,
+    works: List<WorkNode>,
     /// The node of each step's formula.
-    formulas: Vec<Id>,
+    formulas: List<Id>,
     steps: Vec<Pushed>,
 }
 
+impl<'a> Model for Chain<'a> {
+    ghost use Rattle.step_chain.specs.Held.{Held, IsHeld};
+
+    ghost Value = { Held };
+
+    ghost use Rattle.mm_base.specs.contracts.tree.Tree as tree;
+    ghost use Rattle.std.specs.Coded.{codes};
+
+    ghost coded = { Prim.hlevel (codes, tree.the_row.coded) };
+
+    ghost view = { λ c. record { book = c.db.now; logic = c.logic; bound = c.bound.now; nodes = c.arena.nodes; links = c.arena.links;
+        works = c.works; formulas = c.formulas; steps = c.steps.items } };
+
+    ghost invariant = { λ c. IsHeld (record { book = c.db.now; logic = c.logic; bound = c.bound.now; nodes = c.arena.nodes; links = c.arena.links;
+        works = c.works; formulas = c.formulas; steps = c.steps.items }) };
+}
+
+fn count(steps: &[Pushed]) -> usize
+    ensures { result ≡ length steps.now }
+{
+    steps.len()
+}
+
+/// Adds a step where there is room for it.
+fn put(steps: &mut Vec<Pushed>, pushed: Pushed)
+    requires { vec_len steps.old < vec_capacity steps.old }
+    ensures { steps.new.items ≡ steps.old.items ++ pushed ∷ [] }
+{
+    steps.push(pushed).unwrap();
+}
+
+fn verdict_of(judged: &Judged) -> Verdict
+    ensures { result ≡ verdict_in judged.now }
+{
+    match judged {
+        Judged::Stands(verdict) => *verdict,
+        Judged::Fits(_) => Verdict::Fits,
+    }
+}
+
 impl<'a> Chain<'a> {
-    /// The chain over a bound worksheet, with the nodes of its formulas and no step pushed.
+    ghost use Rattle.std.specs.Prelude.{◌≡◌, ◌<◌, ◌≤◌, ◌^◌, [], length, take, slice_get, Some, IfOk, OnErr};
+    ghost use Rattle.solve_model.specs.Verdicts.{AreJudged};
+    ghost use Rattle.step_chain.specs.Steps.{ArePlaced};
+    ghost use Rattle.step_chain.specs.Ordered.{formula_at};
+    ghost use Rattle.step_chain.specs.Held.{judgements_of, front_of, OfEachBook, IsFirst, IsPushed};
+
+    /// The chain over a bound worksheet, with the nodes of its formulas and no step pushed, where these are the names of the
+    /// two typecodes that have a meaning. `Memory`: there is no room for them.
     pub fn new(
         alloc: Global,
         db: &'a Database,
         kinds: &Kinds,
         bound: &'a Bound,
-    ) -> Result<Chain<'a>, Memory> {
+    ) -> Result<Chain<'a>, Memory>
+        requires placed { ArePlaced bound.now }
+        requires few { length bound.now.steps < 2 ^ 32 }
+        ensures { IfOk result (IsFirst kinds.now db.now bound.now) }
+    {
+        let logic = logic_code(db.frames(), kinds);
         let mut arena = Arena::new(alloc)?;
-        let nodes = begin(alloc, &mut arena, db, kinds, bound)?;
+        let nodes = begin(alloc, &mut arena, db, logic, bound)?;
         Ok(Chain {
             alloc,
             db,
+            logic,
             bound,
             arena,
-            works: nodes.works,
-            formulas: nodes.formulas,
+            works: List::from_vec(nodes.works),
+            formulas: List::from_vec(nodes.formulas),
             steps: Vec::new(alloc),
         })
     }
 
-    /// How many steps were pushed.
-    pub fn pushed(&self) -> u32 {
-        self.steps.len() as u32
+    /// How many steps were pushed. Each is judged by those that were accepted before it. It takes constant time.
+    pub fn pushed(&self) -> u32
+        ensures count { result ≡ length (judgements_of self.now) }
+        ensures judged { OfEachBook self.now (λ db. length (judgements_of self.now) ≡ length self.now.bound.steps
+            → AreJudged db self.now.bound (judgements_of self.now)) }
+    {
+        count(self.steps.as_slice()) as u32
     }
 
     /// The store of terms.
-    pub fn arena(&self) -> &Arena {
+    pub fn arena(&self) -> &Arena
+        ensures nodes { result.now.nodes ≡ self.now.nodes }
+        ensures links { result.now.links ≡ self.now.links }
+    {
         &self.arena
     }
 
-    /// The node of a step's formula.
-    pub fn node(&self, i: u32) -> Id {
-        self.formulas[i as usize]
+    /// The node of a step's formula. It takes constant time.
+    pub fn node(&self, i: u32) -> Id
+        requires { i < length self.now.bound.steps }
+        ensures node { result ≡ formula_at self.now.formulas i }
+        ensures within { result.0 < length self.now.nodes }
+    {
+        self.formulas.as_slice()[i as usize]
     }
 
-    fn accepted(&self, i: u32) -> &Accepted {
-        match &self.steps[i as usize].judged {
-            Judged::Fits(accepted) => accepted,
-            Judged::Stands(_) => unreachable!(),
-        }
-    }
-
-    /// The order in which an accepted step fits, as positions in its places.
-    pub fn order(&self, i: u32) -> &List<u32> {
-        &self.accepted(i).order
-    }
-
-    /// Judges the next step, and takes it into the store where it fits. `Memory`: there is no room, and nothing changed.
-    pub fn push_step(&mut self, i: u32) -> Result<Verdict, Memory> {
+    /// Judges the next step, which is that of this number, and takes it into the store where it fits. It takes time in
+    /// proportion to what is bound and to its assertion, in each order that is tried, however large the store is.
+    /// `Memory`: there is no room, and nothing changed.
+    pub fn push_step(&mut self, i: u32) -> Result<Verdict, Memory>
+        requires next { i ≡ length (judgements_of self.old) }
+        requires step { i < length self.old.bound.steps }
+        ensures ok { IfOk result (IsPushed self.old self.new) }
+        ensures err { OnErr result (self.new ≡ self.old) }
+    {
         self.steps.reserve(1)?;
         let mark = self.arena.mark();
         let judged = judge(
@@ -79,55 +144,23 @@ impl<'a> Chain<'a> {
             self.db,
             self.bound,
             &mut self.arena,
-            &self.formulas,
+            self.formulas.as_slice(),
             i,
         )?;
         let verdict = verdict_of(&judged);
-        self.steps.push(Pushed { mark, judged }).unwrap();
+        put(&mut self.steps, Pushed { mark, judged });
         Ok(verdict)
     }
 
-    /// Goes back to the first `k` steps.
-    pub fn pop_to(&mut self, k: u32) {
-        if (k as usize) < self.steps.len() {
+    /// Goes back to the first `k` steps. It takes time in proportion to what the others added.
+    pub fn pop_to(&mut self, k: u32)
+        ensures front { self.new ≡ front_of self.old k }
+        ensures judgements { judgements_of self.new ≡ take k (judgements_of self.old) }
+    {
+        if (k as usize) < count(self.steps.as_slice()) {
             let mark = self.steps[k as usize].mark;
             self.arena.undo_to(mark);
             self.steps.truncate(k as usize);
         }
-    }
-
-    /// The trees of the store, for several calls in turn.
-    pub fn trees(&self) -> Result<Trees<'_, '_>, Memory> {
-        Trees::of(self.alloc, &self.arena, &self.works)
-    }
-
-    /// The formula of a step, under the most general valuation of the accepted steps.
-    pub fn formula(&self, i: u32) -> Result<Tree, TreeFault> {
-        self.trees()?.tree(self.node(i))
-    }
-
-    /// The `$e` of a number of an accepted step.
-    pub fn place(&self, i: u32, k: u32) -> Result<Tree, TreeFault> {
-        self.trees()?.tree(self.accepted(i).hyps.as_slice()[k as usize])
-    }
-
-    /// The trees in place of the mandatory variables of an accepted step.
-    pub fn substitution(&self, i: u32) -> Result<List<Tree>, TreeFault> {
-        let trees = self.trees()?;
-        let mut values = Vec::new(self.alloc);
-        for variable in self.accepted(i).variables.as_slice() {
-            let tree = trees.tree(Id(variable.node))?;
-            if values.push(tree).is_err() {
-                return Err(TreeFault::Memory);
-            }
-        }
-        Ok(List::from_vec(values))
-    }
-}
-
-fn verdict_of(judged: &Judged) -> Verdict {
-    match judged {
-        Judged::Stands(verdict) => *verdict,
-        Judged::Fits(_) => Verdict::Fits,
     }
 }

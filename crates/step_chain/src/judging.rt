@@ -83,14 +83,10 @@ pub fn judge(
     ensures err { OnErr result (IsSameStore arena.old arena.new) }
 {
     match standing_of(db, bound.place, step_at(bound, i)) {
-        Standing::Settled(verdict) => Ok(settled(arena, verdict)),
+        Standing::Settled(verdict) => {
+            let _mark = arena.mark();
+            Ok(Judged::Stands(verdict))
+        }
         Standing::Candidate(label) => judge_candidate(alloc, db, bound, arena, formulas, i, label),
     }
-}
-
-fn settled(arena: &Arena, verdict: Verdict) -> Judged
-    ensures { result ≡ Stands verdict }
-{
-    let _ = arena.mark();
-    Judged::Stands(verdict)
 }
