@@ -36,7 +36,9 @@ use Rattle.step_chain.specs.Standings.{usable_in}
 use Rattle.step_chain.specs.Ordered.{formula_at}
 use Rattle.step_chain.specs.Steps.{asked_by, accepted_by, judgement_of, judgements_from}
 use Rattle.step_chain.specs.Levels.{IsLevel}
-use Rattle.step_chain.specs.Held.{Held, judgements_of}
+use Rattle.step_chain.specs.Held.{Held, judgements_of, OfEachBook, IsHeld}
+use Rattle.mm_database.specs.Books.{database_of}
+use Rattle.step_chain.proofs.ChainLaws.{sound_of}
 use Rattle.step_chain.specs.Values as values
 use Rattle.step_chain.specs.Values.{accepted_at, node_in, value_of}
 
@@ -86,7 +88,7 @@ record IsFound (ws : List WorkNode) (c : Typecode) (n : ℕ) : Type 0 where
 is_work_code : (c : Typecode) (n : ℕ) (w : WorkNode) → is_work c n w ≡ true → (w.code ≡ c) × (w.number ≡ n)
 unfolding code_with
 is_work_code c n w e =
-    let parts = both (w.code.0.0 == c.0.0) (w.number == n) e in
+    let parts = both (c.0.0 == w.code.0.0) (n == w.number) e in
     let one : w.code.0.0 ≡ c.0.0 = grind (arith, nat_tests, parts.0) in
     (ap code_with one, grind (arith, nat_tests, parts.1))
 
@@ -127,23 +129,24 @@ step_more d bound i p ps x h =
     let number : suc i + h.place ≡ i + suc h.place = omega arith in
     record { place = suc h.place; pushed = h.pushed; at = h.at; kept = h.kept; fits = h.fits; assertion = h.assertion; usable = h.usable; is = sym (ap (λ (k : ℕ). asked_by bound k h.kept h.assertion) number) ∙ h.is }
 
+module _ (d : Opened) (bound : Bound) (i : ℕ) (p : Pushed) (ps : List Pushed) (x : Asked) (later : Contains (accepted_in (judgements_from d bound (suc i) ps)) x → IsStepOf d bound (suc i) ps x) where
+  first_of : (y : Accepted) → p.judged ≡ Fits y → (a : Assertion) → usable_in d y.label ≡ Some a → Contains (asked_by bound i y a ∷ accepted_in (judgements_from d bound (suc i) ps)) x → IsStepOf d bound i (p ∷ ps) x
+  first_of y fits a u (zero, l, e) =
+      let number : i + 0 ≡ i = omega arith in
+      record { place = 0; pushed = p; at = refl; kept = y; fits = fits; assertion = a; usable = u; is = ap (λ (k : ℕ). asked_by bound k y a) number ∙ e }
+  first_of y fits a u (suc k, l, e) = step_more d bound i p ps x (later (k, omega (arith, l), e))
+
+  by_usable : (y : Accepted) → p.judged ≡ Fits y → (o : Option Assertion) → usable_in d y.label ≡ o → Contains (accepted_in (accepted_by bound i y o ∷ judgements_from d bound (suc i) ps)) x → IsStepOf d bound i (p ∷ ps) x
+  by_usable y fits None u c = step_more d bound i p ps x (later c)
+  by_usable y fits (Some a) u c = first_of y fits a u c
+
+  by_judged : (j : Judged) → p.judged ≡ j → Contains (accepted_in (judgement_of d bound i j ∷ judgements_from d bound (suc i) ps)) x → IsStepOf d bound i (p ∷ ps) x
+  by_judged (Stands v) e c = step_more d bound i p ps x (later c)
+  by_judged (Fits y) e c = by_usable y e (usable_in d y.label) refl c
+
 step_of : (d : Opened) (bound : Bound) (i : ℕ) (ps : List Pushed) (x : Asked) → Contains (accepted_in (judgements_from d bound i ps)) x → IsStepOf d bound i ps x
 step_of d bound i [] x (k, l, e) = absurd (omega (arith, l))
-step_of d bound i (p ∷ ps) x h = by_judged p.judged refl h
-  where
-    first : (y : Accepted) → p.judged ≡ Fits y → (a : Assertion) → usable_in d y.label ≡ Some a → (js : List Asked) → (Contains js x → IsStepOf d bound i (p ∷ ps) x) → Contains (asked_by bound i y a ∷ js) x → IsStepOf d bound i (p ∷ ps) x
-    first y fits a u js rest (zero, l, e) =
-        let number : i + 0 ≡ i = omega arith in
-        record { place = 0; pushed = p; at = refl; kept = y; fits = fits; assertion = a; usable = u; is = ap (λ (k : ℕ). asked_by bound k y a) number ∙ e }
-    first y fits a u js rest (suc k, l, e) = rest (k, omega (arith, l), e)
-
-    by_usable : (y : Accepted) → p.judged ≡ Fits y → (o : Option Assertion) → usable_in d y.label ≡ o → (js : List Judgement) → (Contains (accepted_in js) x → IsStepOf d bound i (p ∷ ps) x) → Contains (accepted_in (accepted_by bound i y o ∷ js)) x → IsStepOf d bound i (p ∷ ps) x
-    by_usable y fits None u js rest c = rest c
-    by_usable y fits (Some a) u js rest c = first y fits a u (accepted_in js) rest c
-
-    by_judged : (j : Judged) → p.judged ≡ j → Contains (accepted_in (judgement_of d bound i j ∷ judgements_from d bound (suc i) ps)) x → IsStepOf d bound i (p ∷ ps) x
-    by_judged (Stands v) e c = step_more d bound i p ps x (step_of d bound (suc i) ps x c)
-    by_judged (Fits y) e c = by_usable y e (usable_in d y.label) refl (judgements_from d bound (suc i) ps) (λ g. step_more d bound i p ps x (step_of d bound (suc i) ps x g)) c
+step_of d bound i (p ∷ ps) x h = by_judged d bound i p ps x (λ c. step_of d bound (suc i) ps x c) p.judged refl h
 
 -- ---- the valuation
 
@@ -211,3 +214,10 @@ module _ (h : Held) (db : Database) (level : IsLevel db h.book h.bound h.works h
   -- a formula's node has the formula, valued
   pub formula_is : (i : ℕ) → i < length h.bound.steps → value_at h.nodes h.links h.works (formula_at h.formulas i).0 ≡ formula h.bound (value_of h) i
   formula_is i below = formula_store i below ∙ formula_same h.bound (accepted_in js) store_value (value_of h) (λ u on. sym (value_same u on)) i below
+
+-- ---- for the code
+
+pub chain_valuation : (h now : Held) → h ≡ now → IsHeld h → OfEachBook now (λ db. IsTheValuation db now.bound (accepted_in (judgements_of now)) (value_of now))
+chain_valuation h now e inv =
+    subst (λ (x : Held). OfEachBook x (λ db. IsTheValuation db x.bound (accepted_in (judgements_of x)) (value_of x))) e
+    (λ kinds text sheet opened binds code. the_valuation h (database_of kinds text h.book.rows h.book.parsed) ((sound_of h inv).level kinds text sheet opened binds code))
