@@ -21,3 +21,5 @@ pub mod SymbolLaws
 pub mod ReadingLaws
 pub mod ValueLaws
 pub mod ConstantLaws
+pub mod AnswerLaws
+pub mod ReaderLaws

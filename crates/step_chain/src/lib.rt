@@ -11,6 +11,7 @@ mod joining;
 mod judged;
 mod judging;
 mod orders;
+mod reader;
 mod reading;
 mod standing;
 #[cfg(test)]
@@ -18,7 +19,8 @@ mod tests;
 mod trying;
 mod works;
 
-pub use chain::Chain;
+pub use chain::{Chain, ChainTrees};
 pub use chain_laws::{VariableNode, WorkNode};
-pub use reading::{TreeFault, Trees};
+pub use judged::{Accepted, Judged};
+pub use reading::TreeFault;
 pub use solve_model::Verdict;
