@@ -20,3 +20,4 @@ pub mod ChainLaws
 pub mod SymbolLaws
 pub mod ReadingLaws
 pub mod ConstantLaws
+pub mod CountLaws

@@ -12,3 +12,4 @@ pub mod Held
 pub mod Works
 pub mod Formulas
 pub mod Readings
+pub mod Sizes
