@@ -1,8 +1,9 @@
 -- The nodes of a worksheet's unknowns and formulas are a chained store.
-use Rattle.std.specs.Prelude.{◌≡◌, ℕ, ◌<◌, ◌≤◌, ◌+◌, List, [], ◌∷◌, ◌++◌, length, map, slice_get, slice_index_or, Option, Some, None, Result, Ok, Err, IfOk, Contains, refl}
+use Rattle.std.specs.Prelude.{◌≡◌, ℕ, ◌<◌, ◌≤◌, ◌+◌, List, [], ◌∷◌, ◌++◌, length, map, sum, slice_get, slice_index_or, Option, Some, None, Result, Ok, Err, IfOk, Contains, refl}
 use Rattle.std.specs.List.{AllByRecursion}
+use Rattle.std.specs.Option.{option_map_or}
 use Rattle.std.proofs.Common.{zero, suc, get_or, sym, ap, subst, ◌∙◌, arith, inl, inr}
-use Rattle.std.proofs.lemmas.List.{append_assoc, get_or-map, length-map, length-append}
+use Rattle.std.proofs.lemmas.List.{append_assoc, get_or-map, length-map, length-append, length_push}
 use Rattle.std.proofs.lemmas.Option.{slice_get-get_or}
 use Rattle.mm_base.specs.declared.errors.Memory.{Memory}
 use Rattle.mm_base.specs.declared.kinds.Kinds.{Kinds}
@@ -28,12 +29,12 @@ use Rattle.solve_model.specs.Solutions.{Unknown, named, blank, copy, IsUnknown, 
 use Rattle.solve_model.proofs.TreeLaws.{open_leaves-Node}
 use Rattle.solve_laws.proofs.NoFresh.{no_fresh_leaf}
 use Rattle.term_model.specs.declared.shape.Id.{Id}
-use Rattle.term_model.specs.Terms.{Term, Free, term_at, term_code}
+use Rattle.term_model.specs.Terms.{Term, Var, Free, term_at, term_code}
 use Rattle.term_model.specs.Store.{tree_at, Store, IsStore, IsSolved}
 use Rattle.term_model.proofs.CycleLaws.{start_solution}
 use Rattle.term_model.proofs.ClosureLaws.{agrees_refl}
 use Rattle.chain_laws.specs.declared.leaves.WorkNode.{WorkNode}
-use Rattle.chain_laws.specs.Adding.{Rooted, Listed, Adder, run, id_of, first_then, there_or, work_at, added}
+use Rattle.chain_laws.specs.Adding.{Rooted, Listed, Adder, run, id_of, first_then, there_or, work_at, variable_at, added}
 use Rattle.chain_laws.specs.Laws.{BoundIsReady}
 use Rattle.chain_laws.specs.Layout.{Layout, IsChained, IsReadyFormula, IsReadyBound, AreFormulaNodes, Fit, valuation_of}
 use Rattle.chain_laws.proofs.LeastLeaves.{first, nothing}
@@ -46,7 +47,9 @@ use Rattle.step_chain.specs.Grown.{IsGrown, AreIdsIn, AreWorksIn}
 use Rattle.step_chain.specs.Levels.{IsLevel, IsFront}
 use Rattle.step_chain.specs.Ordered.{formula_at}
 use Rattle.step_chain.specs.Formulas.{Begun, nothing_begun, unknowns_of, formulas_of, blank_nodes, formula_adder, formula_adders, AreFormulas, formula_node, HasFormulas}
+use Rattle.step_chain.specs.Sizes.{formulas_size}
 use Rattle.step_chain.proofs.FormulaLaws.{blanks_count}
+use Rattle.step_chain.proofs.CountLaws.{sum_cons, new_nodes, tree_adds, tree_size, unknowns_size, sizes_are, unknowns_few}
 use Rattle.step_chain.proofs.UnknownLaws.{IsListed, free_for, work_entry, works_from, IsFoundAt, found_at, IsBlankAt, StepsListing, steps_listed}
 
 module _ (db : Database) (bound : Bound) (ready : IsReadyBound db bound)
@@ -224,9 +227,52 @@ module _ (db : Database) (bound : Bound) (ready : IsReadyBound db bound)
       later_blank : (j j' i : ℕ) (o : Option ℕ) (os : List (Option ℕ)) → j ≡ j' → IsBlankAt logic us (o ∷ os) (suc i) j → IsBlankAt logic us os i j'
       later_blank j j' i o os e h = subst (IsBlankAt logic us os i) e (record { node = h.node; is = h.is; place = h.place })
 
+  -- ---- how many nodes there are
+
+  var_adds : (s : Sym) (c : Typecode) → built.FormulaOk db bound [] once (tree.Var s c) → (ns : List Term) → length (there_or (variable_at [] s c) (Var s c) ns).nodes ≡ length ns + 1
+  var_adds s c ok ns = length_push ns (Var s c)
+
+  work_adds : (c : Typecode) (n : ℕ) → built.FormulaOk db bound [] once (tree.Work c n) → (ns : List Term) → length (there_or (work_at b.works c n) (Free c) ns).nodes ≡ length ns + 0
+  work_adds c n ok ns =
+      let there = work_is c n (ok (work c n) (built.leaf_occurs_work db bound [] once c n)) in
+      ap (λ (o : Option ℕ). length (there_or o (Free c) ns).nodes) there ∙ omega arith
+
+  formula_adds : (t : Tree) → built.FormulaOk db bound [] once t → (ns : List Term) → length (added db.rows b.works [] t ns).nodes ≡ length ns + new_nodes 1 0 t
+  formula_adds = tree_adds db.rows b.works [] 1 0 (built.FormulaOk db bound [] once)
+      (λ l c ts h. built.each_ok db bound [] once ts (λ x o. h x (subst (λ (xs : List Open). Contains xs x) (sym (open_leaves-Node l c ts)) o)))
+      var_adds work_adds
+
+  adder_adds : (i : ℕ) (s : BoundStep) (o : Option ℕ) (t : Option Tree) → slice_get bound.steps i ≡ Some s → s.tree ≡ t → (t ≡ None → o ≡ Some (place_in us (blank i))) → IsReadyFormula db bound.place t → (ns : List Term) → length (formula_adder db.rows b.works logic o t ns).nodes ≡ length ns + option_map_or (new_nodes 1 0) t 0
+  adder_adds i s o None at e there h ns = ap (λ (p : Option ℕ). length (there_or p (Free logic) ns).nodes) (there refl) ∙ omega arith
+  adder_adds i s o (Some t) at e there h ns = formula_adds t ok ns
+    where
+      ok : (x : Open) → Occurs x t → built.OpenOk db bound [] once x
+      ok (work c n) o = in_formula i s t at e o
+      ok (fresh c n) o = no_fresh_leaf c n t h.2 o
+
+  adders_add : (k : ℕ) (ss : List BoundStep) (os : List (Option ℕ)) → ((i : ℕ) (s : BoundStep) → slice_get ss i ≡ Some s → slice_get bound.steps (k + i) ≡ Some s) → AllByRecursion (λ (s : BoundStep). IsReadyFormula db bound.place s.tree) ss
+      → length os ≡ length ss → ((i : ℕ) (s : BoundStep) → slice_get ss i ≡ Some s → s.tree ≡ None → IsBlankAt logic us os i (k + i)) → (ns : List Term) → length (run (formula_adders db.rows b.works logic os ss) ns).nodes ≡ length ns + sum (map tree_size ss)
+  adders_add k [] [] at h count blanks ns = omega arith
+  adders_add k [] (o ∷ os) at h count blanks ns = absurd (omega (arith, count))
+  adders_add k (t ∷ ss) [] at h count blanks ns = absurd (omega (arith, count))
+  adders_add k (t ∷ ss) (o ∷ os) at h count blanks ns =
+      let number : k + 0 ≡ k = omega arith in
+      let one = adder_adds k t o t.tree (subst (λ (j : ℕ). slice_get bound.steps j ≡ Some t) number (at 0 t refl)) refl
+      (λ none. subst (λ (j : ℕ). o ≡ Some (place_in us (blank j))) number (blank_place (o ∷ os) 0 (k + 0) (blanks 0 t refl none))) h.0 ns in
+      let rest = adders_add (k + 1) ss os
+      (λ i s e. let further : k + suc i ≡ k + 1 + i = omega arith in subst (λ (j : ℕ). slice_get bound.steps j ≡ Some s) further (at (suc i) s e)) h.1 (omega (arith, count))
+      (λ i s e none. let further : k + suc i ≡ k + 1 + i = omega arith in further_blank (k + suc i) (k + 1 + i) i o os further (blanks (suc i) s e none))
+      (formula_adder db.rows b.works logic o t.tree ns).nodes in
+      let total = sum_cons (tree_size t) (map tree_size ss) in
+      omega (arith, one, rest, total)
+    where
+      further_blank : (j j' i : ℕ) (o : Option ℕ) (os : List (Option ℕ)) → j ≡ j' → IsBlankAt logic us (o ∷ os) (suc i) j → IsBlankAt logic us os i j'
+      further_blank j j' i o os e h = subst (IsBlankAt logic us os i) e (record { node = h.node; is = h.is; place = h.place })
+
   -- ---- all together
 
-  module _ (os : List (Option ℕ)) (count : length os ≡ length bound.steps) (blanks : (i : ℕ) (s : BoundStep) → slice_get bound.steps i ≡ Some s → s.tree ≡ None → IsBlankAt logic us os i (0 + i)) where
+  module _ (os : List (Option ℕ)) (count : length os ≡ length bound.steps) (blanks : (i : ℕ) (s : BoundStep) → slice_get bound.steps i ≡ Some s → s.tree ≡ None → IsBlankAt logic us os i (0 + i))
+      (unknowns_many : length b.nodes ≤ sum (map unknowns_size bound.steps)) where
     abbrev made_all : Listed
     made_all = run (formula_adders db.rows b.works logic os bound.steps) b.nodes
 
@@ -243,12 +289,19 @@ module _ (db : Database) (bound : Bound) (ready : IsReadyBound db bound)
       sound = tt;
     }
 
+    few : length made_all.nodes ≤ formulas_size bound.steps
+    few =
+        let trees = adders_add 0 bound.steps os (λ i s e. let number : i ≡ 0 + i = omega arith in subst (λ (j : ℕ). slice_get bound.steps j ≡ Some s) number e) ready count blanks b.nodes in
+        let both = sizes_are bound.steps in
+        omega (arith, trees, both, unknowns_many)
+
     has_formulas : HasFormulas db bound made_all.nodes b.works made_all.roots
     has_formulas = record {
       lay = lay;
       chained = chained;
       works_are = works_are;
       count = all_made.count;
+      few = few;
       formulas_are = λ i h.
           let told = all_made.each i (slice_index_or bound.steps i no_step) (slice_get-get_or bound.steps i no_step h) in
           let number : 0 + i ≡ i = omega arith in
@@ -264,7 +317,7 @@ module _ (db : Database) (bound : Bound) (ready : IsReadyBound db bound) where
 
   first_formulas : HasFormulas db bound (formulas_of db.rows (logic_code db) bound.steps).nodes (unknowns_of (logic_code db) bound.steps).works (formulas_of db.rows (logic_code db) bound.steps).roots
   first_formulas = has_formulas db bound ready begun_steps.listing.list (unknowns_of (logic_code db) bound.steps) begun_steps.listing.is begun_steps.listing.all only_steps
-      (blank_nodes (logic_code db) nothing_begun bound.steps) (blanks_count (logic_code db) nothing_begun bound.steps) begun_steps.blanks
+      (blank_nodes (logic_code db) nothing_begun bound.steps) (blanks_count (logic_code db) nothing_begun bound.steps) begun_steps.blanks (let many = unknowns_few (logic_code db) bound.steps nothing_begun in omega (arith, many))
 
   pub formulas_chained : (nodes : List Term) (works : List WorkNode) (formulas : List Id) → AreFormulas db.rows (logic_code db) bound.steps nodes works formulas → HasFormulas db bound nodes works formulas
   formulas_chained nodes works formulas h =

@@ -24,6 +24,9 @@ use Rattle.mm_model.specs.Productions.{TypedVariable, typed_variables}
 use Rattle.mm_model.specs.Sizes.{nodes}
 use Rattle.mm_model.proofs.SizeLaws.{nodes-Var, nodes-Work, nodes-Fresh, nodes-Node}
 use Rattle.mm_model.specs.Book.{Database, Assertion}
+use Rattle.solve_model.specs.declared.bound.BoundStep.{BoundStep}
+use Rattle.solve_model.specs.declared.bound.Bound.{Bound}
+use Rattle.solve_model.specs.Bound.{standing, standing_size, step_size, work_size}
 use Rattle.solve_model.specs.Trees.{Open, work, fresh, open_leaves, flatten}
 use Rattle.solve_model.proofs.TreeLaws.{open_leaves-Var, open_leaves-Work, open_leaves-Fresh, open_leaves-Node}
 use Rattle.term_model.specs.Terms.{Term, Var, Free, Node}
@@ -38,10 +41,12 @@ use Rattle.chain_laws.proofs.Copies.{found}
 use Rattle.again_laws.specs.Leaves.{typed_leaves}
 use Rattle.again_laws.specs.Whole.{StandsIn, IsWhole}
 use Rattle.again_laws.proofs.LeafLaws.{leaves-Var, leaves-Work, leaves-Fresh, leaves-Node}
+use Rattle.step_chain.specs.Formulas.{Begun, with_work, with_leaf, with_leaves, with_formula, with_step, with_steps}
+use Rattle.step_chain.specs.Sizes.{formula_size, formulas_size, candidates_size, size_of_front}
 use Rattle.step_chain.specs.Candidate.{table_of, copied, root_of, roots_of}
 use Rattle.step_chain.proofs.AddingLaws.{added-Var, added-Work, added-Fresh, added-Node}
 
-sum_cons : (n : ℕ) (ns : List ℕ) → sum (n ∷ ns) ≡ n + sum ns
+pub sum_cons : (n : ℕ) (ns : List ℕ) → sum (n ∷ ns) ≡ n + sum ns
 sum_cons n ns = sum_by-cons (λ (x : ℕ). x) n ns
 
 -- ---- the nodes of a tree, where a variable counts so many and a work variable so many
@@ -228,3 +233,129 @@ module _ (rows : List Production) (ns : List Term) (a : Assertion) (vars : a.var
       let a1 = with_leaves_are a.tree in
       let a2 = all_leaves_are a.hyps in
       omega (arith, one, two, long, many, same, a1, a2, variables_few)
+
+-- ---- formulas
+
+abbrev pub works_count : List Open → ℕ
+works_count [] = 0
+works_count (work c n ∷ xs) = works_count xs + 1
+works_count (fresh c n ∷ xs) = works_count xs
+
+works_append : (xs ys : List Open) → works_count (xs ++ ys) ≡ works_count xs + works_count ys
+works_append [] ys = omega arith
+works_append (work c n ∷ xs) ys = let rest = works_append xs ys in omega (arith, rest)
+works_append (fresh c n ∷ xs) ys = works_append xs ys
+
+works_more : (t : Tree) (ts : List Tree) → works_count (flatten (map open_leaves (t ∷ ts))) ≡ works_count (open_leaves t) + works_count (flatten (map open_leaves ts))
+works_more t ts = ap works_count (flat_map-cons (λ (xs : List Open). xs) (open_leaves t) (map open_leaves ts)) ∙ works_append (open_leaves t) (flatten (map open_leaves ts))
+
+abbrev HasWorks : Tree → Type 0
+HasWorks t = nodes t ≡ new_nodes 1 0 t + works_count (open_leaves t)
+
+all_works : (ts : List Tree) → Each HasWorks ts → sum (map nodes ts) ≡ sum (map (new_nodes 1 0) ts) + works_count (flatten (map open_leaves ts))
+all_works [] h = refl
+all_works (t ∷ ts) h =
+    let here = h.0 in
+    let rest = all_works ts h.1 in
+    let one = sum_cons (nodes t) (map nodes ts) in
+    let two = sum_cons (new_nodes 1 0 t) (map (new_nodes 1 0) ts) in
+    omega (arith, here, rest, one, two, works_more t ts)
+
+pub with_works_are : (t : Tree) → HasWorks t
+with_works_are = tree_ind HasWorks
+    (λ s c. let a = nodes-Var s c in let b = new-Var 1 0 s c in let d = ap works_count (open_leaves-Var s c) in omega (arith, a, b, d))
+    (λ c n. let a = nodes-Work c n in let b = new-Work 1 0 c n in let d = ap works_count (open_leaves-Work c n) in omega (arith, a, b, d))
+    (λ c n. let a = nodes-Fresh c n in let b = new-Fresh 1 0 c n in let d = ap works_count (open_leaves-Fresh c n) in omega (arith, a, b, d))
+    (λ l c ts h. let a = nodes-Node l c ts in let b = new-Node 1 0 l c ts in let d = ap works_count (open_leaves-Node l c ts) in let e = all_works ts h in omega (arith, a, b, d, e))
+
+-- what a formula's tree adds, and its unknowns
+abbrev pub tree_size : BoundStep → ℕ
+tree_size s = option_map_or (new_nodes 1 0) s.tree 0
+
+abbrev pub unknowns_size : BoundStep → ℕ
+unknowns_size s = option_map_or (λ (t : Tree). works_count (open_leaves t)) s.tree 1
+
+both_sizes : (t : Option Tree) → option_map_or nodes t 1 ≡ option_map_or (new_nodes 1 0) t 0 + option_map_or (λ (t : Tree). works_count (open_leaves t)) t 1
+both_sizes None = omega arith
+both_sizes (Some t) = with_works_are t
+
+pub sizes_are : (ss : List BoundStep) → formulas_size ss ≡ sum (map tree_size ss) + sum (map unknowns_size ss)
+sizes_are [] = refl
+sizes_are (s ∷ ss) =
+    let here = both_sizes s.tree in
+    let rest = sizes_are ss in
+    let one = sum_cons (formula_size s) (map formula_size ss) in
+    let two = sum_cons (tree_size s) (map tree_size ss) in
+    let three = sum_cons (unknowns_size s) (map unknowns_size ss) in
+    omega (arith, here, rest, one, two, three)
+
+work_few : (b : Begun) (c : Typecode) (n : ℕ) (o : Option ℕ) → length (with_work b c n o).nodes ≤ length b.nodes + 1
+work_few b c n None = let long = length_push b.nodes (Free c) in omega (arith, long)
+work_few b c n (Some i) = omega arith
+
+leaves_few : (xs : List Open) (b : Begun) → length (with_leaves b xs).nodes ≤ length b.nodes + works_count xs
+leaves_few [] b = omega arith
+leaves_few (work c n ∷ xs) b =
+    let one = work_few b c n (work_at b.works c n) in
+    let rest = leaves_few xs (with_leaf b (work c n)) in
+    omega (arith, one, rest)
+leaves_few (fresh c n ∷ xs) b = leaves_few xs b
+
+module _ (logic : Typecode) where
+  formula_few : (t : Option Tree) (b : Begun) → length (with_formula logic b t).nodes ≤ length b.nodes + option_map_or (λ (t : Tree). works_count (open_leaves t)) t 1
+  formula_few None b = let long = length_push b.nodes (Free logic) in omega (arith, long)
+  formula_few (Some t) b = leaves_few (open_leaves t) b
+
+  pub unknowns_few : (ss : List BoundStep) (b : Begun) → length (with_steps logic b ss).nodes ≤ length b.nodes + sum (map unknowns_size ss)
+  unknowns_few [] b = omega arith
+  unknowns_few (s ∷ ss) b =
+      let one = formula_few s.tree b in
+      let rest = unknowns_few ss (with_step logic b s) in
+      let total = sum_cons (unknowns_size s) (map unknowns_size ss) in
+      omega (arith, one, rest, total)
+
+-- ---- all steps
+
+sum_takes : (f : BoundStep → ℕ) (ss : List BoundStep) (k : ℕ) → sum (map f (take k ss)) ≤ sum (map f ss)
+sum_takes f ss zero = omega arith
+sum_takes f [] (suc k) = omega arith
+sum_takes f (s ∷ ss) (suc k) =
+    let rest = sum_takes f ss k in
+    let one = sum_cons (f s) (map f (take k ss)) in
+    let two = sum_cons (f s) (map f ss) in
+    omega (arith, rest, one, two)
+
+step_sizes : (db : Database) (place : ℕ) (ss : List BoundStep) → sum (map (step_size db place) ss) ≡ formulas_size ss + candidates_size db place ss
+step_sizes db place [] = refl
+step_sizes db place (s ∷ ss) =
+    let rest = step_sizes db place ss in
+    let one = sum_cons (step_size db place s) (map (step_size db place) ss) in
+    let two = sum_cons (formula_size s) (map formula_size ss) in
+    let three = sum_cons (standing_size (standing db place s)) (map (λ (x : BoundStep). standing_size (standing db place x)) ss) in
+    omega (arith, rest, one, two, three)
+
+-- the nodes of the formulas and of the first candidates are within the work size
+pub front_few : (db : Database) (bound : Bound) (k : ℕ) → size_of_front db bound k ≤ work_size db bound
+front_few db bound k =
+    let some_of = sum_takes (λ (s : BoundStep). standing_size (standing db bound.place s)) bound.steps k in
+    let all = step_sizes db bound.place bound.steps in
+    omega (arith, some_of, all)
+
+-- with one candidate more
+pub front_more : (db : Database) (bound : Bound) (k : ℕ) (s : BoundStep) → slice_get bound.steps k ≡ Some s → size_of_front db bound (k + 1) ≡ size_of_front db bound k + standing_size (standing db bound.place s)
+front_more db bound k s e = let more = taken bound.steps k e in omega (arith, more)
+  where
+    taken : (ss : List BoundStep) (j : ℕ) → slice_get ss j ≡ Some s → sum (map (λ (x : BoundStep). standing_size (standing db bound.place x)) (take (j + 1) ss)) ≡ sum (map (λ (x : BoundStep). standing_size (standing db bound.place x)) (take j ss)) + standing_size (standing db bound.place s)
+    taken [] j is = let impossible : ◌≡◌ {A = Option BoundStep} None (Some s) = is in absurd (cc)
+    taken (x ∷ ss) zero is =
+        let same : x ≡ s = cc in
+        let one = sum_cons (standing_size (standing db bound.place x)) [] in
+        let size = ap (λ (y : BoundStep). standing_size (standing db bound.place y)) same in
+        omega (arith, one, size)
+    taken (x ∷ ss) (suc j) is =
+        let number : suc j + 1 ≡ suc (j + 1) = omega arith in
+        let rest = taken ss j is in
+        let one = sum_cons (standing_size (standing db bound.place x)) (map (λ (x : BoundStep). standing_size (standing db bound.place x)) (take (j + 1) ss)) in
+        let two = sum_cons (standing_size (standing db bound.place x)) (map (λ (x : BoundStep). standing_size (standing db bound.place x)) (take j ss)) in
+        let whole = ap (λ (m : ℕ). sum (map (λ (x : BoundStep). standing_size (standing db bound.place x)) (take m (x ∷ ss)))) number in
+        omega (arith, rest, one, two, whole)

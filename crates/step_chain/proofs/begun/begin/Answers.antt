@@ -1,4 +1,3 @@
-use Rattle.step_chain.proofs.CountLaws.{candidate_few}
 use Rattle.step_chain.proofs.ConstantLaws.{begun_have}
 use Rattle.step_chain.proofs.BegunLaws.{first_front}
 use Rattle.step_chain.proofs.begun.begin.Goals as goal
