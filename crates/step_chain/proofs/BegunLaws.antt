@@ -34,7 +34,8 @@ use Rattle.term_model.specs.Store.{tree_at, Store, IsStore, IsSolved}
 use Rattle.term_model.proofs.CycleLaws.{start_solution}
 use Rattle.term_model.proofs.ClosureLaws.{agrees_refl}
 use Rattle.chain_laws.specs.declared.leaves.WorkNode.{WorkNode}
-use Rattle.chain_laws.specs.Adding.{Rooted, Listed, Adder, run, id_of, first_then, there_or, work_at, variable_at, added}
+use Rattle.term_model.specs.Sizes.{HaveConstants}
+use Rattle.chain_laws.specs.Adding.{constants_in, Rooted, Listed, Adder, run, id_of, first_then, there_or, work_at, variable_at, added}
 use Rattle.chain_laws.specs.Laws.{BoundIsReady}
 use Rattle.chain_laws.specs.Layout.{Layout, IsChained, IsReadyFormula, IsReadyBound, AreFormulaNodes, Fit, valuation_of}
 use Rattle.chain_laws.proofs.LeastLeaves.{first, nothing}
@@ -334,22 +335,23 @@ module _ (d : Opened) (bound : Bound) (law : BoundIsReady) (logic : Typecode) wh
   book_formulas db sheet nodes works formulas binds code h =
       formulas_chained db bound (law db sheet bound binds) nodes works formulas (subst (λ (c : Typecode). AreFormulas db.rows c bound.steps nodes works formulas) (sym code) h)
 
-  first_level : (db : Database) (nodes : List Term) (works : List WorkNode) (formulas : List Id) → HasFormulas db bound nodes works formulas → IsLevel db d bound works formulas [] nodes []
-  first_level db nodes works formulas h = record {
+  first_level : (db : Database) (nodes : List Term) (works : List WorkNode) (formulas : List Id) → HasFormulas db bound nodes works formulas → HaveConstants (constants_in d.rows) nodes → IsLevel db d bound works formulas [] nodes []
+  first_level db nodes works formulas h constants = record {
     layout = h.lay;
     chained = h.chained;
     formula_nodes = h.formulas_are;
     works_are = h.works_are;
     before = tt;
     each = λ i s o at none. cc;
-    kept = λ i p x a none e f. cc;
+    kept = λ i p x none e. cc;
+    constants = constants;
   }
 
   pub first_front : (rows : List Production) (ss : List BoundStep) (r : Result FormulaNodes Memory) (old new : Store) → rows ≡ d.rows → ss ≡ bound.steps → old.links ≡ [] → IsSolved old.nodes old.links → IsGrown old new → IsStore new.nodes new.links
       → IfOk r (λ f. AreFormulas rows logic ss new.nodes f.works.items f.formulas.items) → IfOk r (λ f. AreIdsIn (length new.nodes) f.formulas.items) → IfOk r (λ f. AreWorksIn (length new.nodes) f.works.items)
-      → IfOk r (λ f. IsFront d logic bound f.works.items f.formulas.items [] new.nodes new.links)
-  first_front rows ss (Err e) old new same_rows same_steps unbound solved grown store h ids works = tt
-  first_front rows ss (Ok f) old new same_rows same_steps unbound solved grown store h ids works =
+      → IfOk r (λ f. HaveConstants (constants_in d.rows) new.nodes) → IfOk r (λ f. IsFront d logic bound f.works.items f.formulas.items [] new.nodes new.links)
+  first_front rows ss (Err e) old new same_rows same_steps unbound solved grown store h ids works constants = tt
+  first_front rows ss (Ok f) old new same_rows same_steps unbound solved grown store h ids works constants =
       let none : new.links ≡ [] = grown.links ∙ unbound in
       let here : AreFormulas d.rows logic bound.steps new.nodes f.works.items f.formulas.items =
       subst (λ (xs : List BoundStep). AreFormulas d.rows logic xs new.nodes f.works.items f.formulas.items) same_steps (subst (λ (xs : List Production). AreFormulas xs logic ss new.nodes f.works.items f.formulas.items) same_rows h) in
@@ -362,7 +364,7 @@ module _ (d : Opened) (bound : Bound) (law : BoundIsReady) (logic : Typecode) wh
         level = λ kinds text sheet opened binds code.
             let db = database_of kinds text d.rows d.parsed in
             subst (IsLevel db d bound f.works.items f.formulas.items [] new.nodes) (sym none)
-            (first_level db new.nodes f.works.items f.formulas.items (book_formulas db sheet new.nodes f.works.items f.formulas.items binds code here));
+            (first_level db new.nodes f.works.items f.formulas.items (book_formulas db sheet new.nodes f.works.items f.formulas.items binds code here) constants);
       }
 
   pub begun_count : (rows : List Production) (ss : List BoundStep) (r : Result FormulaNodes Memory) → ss ≡ bound.steps → IfOk r (λ f. length f.formulas.items ≡ length ss) → IfOk r (λ f. length f.formulas.items ≡ length bound.steps)

@@ -28,7 +28,8 @@ use Rattle.term_model.specs.Links.{Link}
 use Rattle.term_model.specs.Store.{Store, IsStore, IsSolved}
 use Rattle.chain_laws.specs.declared.leaves.WorkNode.{WorkNode}
 use Rattle.chain_laws.specs.declared.leaves.VariableNode.{VariableNode}
-use Rattle.chain_laws.specs.Adding.{Listed, numbered, AreApart, variable_at}
+use Rattle.term_model.specs.Sizes.{HaveConstants}
+use Rattle.chain_laws.specs.Adding.{Listed, constants_in, numbered, AreApart, variable_at}
 use Rattle.chain_laws.specs.Layout.{Layout, IsReadyAsked, IsSoundAsked, HasRoom, IsChained, AreFormulaNodes, AreCandidateNodes, IsInstanceNode}
 use Rattle.chain_laws.proofs.Copies.{with_copies, kept_node, copied_is, found, variable_with}
 use Rattle.step_chain.specs.declared.judged.Accepted.{Accepted}
@@ -43,6 +44,7 @@ use Rattle.step_chain.specs.Steps.{IsPlaced, ArePlaced, step_at, asked_by, judge
 use Rattle.step_chain.specs.Levels.{IsLevel, AreKeptNodes}
 use Rattle.step_chain.specs.Accepted.{IsKeptOf, IsTakenAs, order_of}
 use Rattle.step_chain.proofs.Lists.{all_at}
+use Rattle.step_chain.proofs.ConstantLaws.{candidate_have}
 use Rattle.step_chain.proofs.OrderLaws.{reordered_inside}
 use Rattle.step_chain.proofs.JudgedLaws.{tried_orders, slice_mapped, Mapped}
 use Rattle.step_chain.proofs.TakenLaws.{judged, roots, roots_same, ready_formulas, ready_nodes, taken_judged, taken_chain, own_tried}
@@ -262,7 +264,10 @@ module _ (db : Database) (d : Opened) (book : IsBookOf db d) (facts : IsDatabase
     judged_now : (t : BoundStep) → slice_get bound.steps i ≡ Some t → IsJudgement db bound before i t (standing db bound.place t) (accepted (asked_by bound i x a))
     judged_now t f = subst (λ (y : Asked). IsJudgement db bound before i t (standing db bound.place t) (accepted y)) own_asked (last_of (Some x.order) (is_judged (Some x.order) h.taken) t f)
 
+    constants : HaveConstants (constants_in d.rows) (old.nodes ++ more)
+    constants = subst (HaveConstants (constants_in d.rows)) (sym h.taken.nodes ∙ longer) (candidate_have d.rows old.nodes a.frame.hyps a.tree a.hyps level.constants)
+
     pub level_accepted : IsLevel db d bound works formulas (steps ++ p ∷ []) new.nodes new.links
     level_accepted =
         subst (λ (ks : List Term). IsLevel db d bound works formulas (steps ++ p ∷ []) ks new.links) (sym longer)
-        (level_fits db d bound works formulas steps p old.nodes old.links level more new.links lay'' x a e own_usable same_node refl chained formulas_now kept_now judged_now)
+        (level_fits db d bound works formulas steps p old.nodes old.links level more new.links lay'' x a e own_usable same_node refl chained formulas_now kept_now constants judged_now)

@@ -19,5 +19,6 @@ pub mod HeldLaws
 pub mod ChainLaws
 pub mod SymbolLaws
 pub mod ReadingLaws
+pub mod ValueLaws
 pub mod ConstantLaws
 pub mod CountLaws

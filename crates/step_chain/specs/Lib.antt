@@ -13,3 +13,4 @@ pub mod Works
 pub mod Formulas
 pub mod Readings
 pub mod Sizes
+pub mod Values

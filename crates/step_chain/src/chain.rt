@@ -70,9 +70,11 @@ fn verdict_of(judged: &Judged) -> Verdict
 
 impl<'a> Chain<'a> {
     ghost use Rattle.std.specs.Prelude.{◌≡◌, ◌<◌, ◌≤◌, ◌^◌, [], length, take, slice_get, Some, IfOk, OnErr};
-    ghost use Rattle.solve_model.specs.Verdicts.{AreJudged};
+    ghost use Rattle.solve_model.specs.Verdicts.{AreJudged, accepted_in};
+    ghost use Rattle.solve_model.specs.MostGeneral.{IsTheValuation};
     ghost use Rattle.step_chain.specs.Steps.{ArePlaced};
     ghost use Rattle.step_chain.specs.Ordered.{formula_at};
+    ghost use Rattle.step_chain.specs.Values.{value_of};
     ghost use Rattle.step_chain.specs.Held.{judgements_of, front_of, OfEachBook, IsFirst, IsPushed};
 
     /// The chain over a bound worksheet, with the nodes of its formulas and no step pushed, where these are the names of the
@@ -102,11 +104,13 @@ impl<'a> Chain<'a> {
         })
     }
 
-    /// How many steps were pushed. Each is judged by those that were accepted before it. It takes constant time.
+    /// How many steps were pushed. Each is judged by those that were accepted before it, and the chain stands for the most
+    /// general valuation of those that are accepted. It takes constant time.
     pub fn pushed(&self) -> u32
         ensures count { result ≡ length (judgements_of self.now) }
         ensures judged { OfEachBook self.now (λ db. length (judgements_of self.now) ≡ length self.now.bound.steps
             → AreJudged db self.now.bound (judgements_of self.now)) }
+        ensures valuation { OfEachBook self.now (λ db. IsTheValuation db self.now.bound (accepted_in (judgements_of self.now)) (value_of self.now)) }
     {
         count(self.steps.as_slice()) as u32
     }
