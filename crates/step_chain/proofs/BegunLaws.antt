@@ -344,6 +344,7 @@ module _ (d : Opened) (bound : Bound) (law : BoundIsReady) (logic : Typecode) wh
     before = tt;
     each = λ i s o at none. cc;
     kept = λ i p x none e. cc;
+    few = (let all = h.few in omega (arith, all));
     constants = constants;
   }
 

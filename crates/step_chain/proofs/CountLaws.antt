@@ -341,6 +341,22 @@ front_few db bound k =
     let all = step_sizes db bound.place bound.steps in
     omega (arith, some_of, all)
 
+-- more steps are no fewer nodes
+pub front_rises : (db : Database) (bound : Bound) (k : ℕ) → size_of_front db bound k ≤ size_of_front db bound (k + 1)
+front_rises db bound k = let rises = longer bound.steps k in omega (arith, rises)
+  where
+    longer : (ss : List BoundStep) (j : ℕ) → candidates_size db bound.place (take j ss) ≤ candidates_size db bound.place (take (j + 1) ss)
+    longer [] zero = omega arith
+    longer [] (suc j) = omega arith
+    longer (s ∷ ss) zero = omega arith
+    longer (s ∷ ss) (suc j) =
+        let number : suc j + 1 ≡ suc (j + 1) = omega arith in
+        let rest = longer ss j in
+        let one = sum_cons (standing_size (standing db bound.place s)) (map (λ (x : BoundStep). standing_size (standing db bound.place x)) (take j ss)) in
+        let two = sum_cons (standing_size (standing db bound.place s)) (map (λ (x : BoundStep). standing_size (standing db bound.place x)) (take (j + 1) ss)) in
+        let whole = ap (λ (m : ℕ). candidates_size db bound.place (take m (s ∷ ss))) number in
+        omega (arith, rest, one, two, whole)
+
 -- with one candidate more
 pub front_more : (db : Database) (bound : Bound) (k : ℕ) (s : BoundStep) → slice_get bound.steps k ≡ Some s → size_of_front db bound (k + 1) ≡ size_of_front db bound k + standing_size (standing db bound.place s)
 front_more db bound k s e = let more = taken bound.steps k e in omega (arith, more)
