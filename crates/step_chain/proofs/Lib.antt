@@ -22,3 +22,4 @@ pub mod ReadingLaws
 pub mod ValueLaws
 pub mod ConstantLaws
 pub mod CountLaws
+pub mod RowSizes

@@ -14,3 +14,4 @@ pub mod Formulas
 pub mod Readings
 pub mod Sizes
 pub mod Values
+pub mod Constants

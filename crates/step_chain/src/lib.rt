@@ -10,6 +10,7 @@ mod formulas;
 mod joining;
 mod judged;
 mod judging;
+mod laws;
 mod orders;
 mod reading;
 mod standing;
@@ -20,5 +21,6 @@ mod works;
 
 pub use chain::Chain;
 pub use chain_laws::{VariableNode, WorkNode};
+pub use laws::constants_are_counted;
 pub use reading::{TreeFault, Trees};
 pub use solve_model::Verdict;
