@@ -120,6 +120,7 @@ module _ (rows : List Production) where
         subst Have (sym h.nodes_are) (adders_have (unknowns_of logic ss).works (blank_nodes logic nothing_begun ss) ss (unknowns_of logic ss).nodes (steps_have ss nothing_begun none_have))
 
 -- of a store that was begun
-pub begun_have : (rows rows' : List Production) (logic : Typecode) (ss : List BoundStep) (r : Result FormulaNodes Memory) (nodes : List Term) → rows' ≡ rows → IfOk r (λ f. AreFormulas rows' logic ss nodes f.works.items f.formulas.items) → IfOk r (λ f. HaveConstants (constants_in rows) nodes)
+pub begun_have : (rows rows' : List Production) (logic : Typecode) (ss : List BoundStep) (r : Result FormulaNodes Memory) (nodes : List Term) → rows' ≡ rows
+    → IfOk r (λ f. AreFormulas rows' logic ss nodes f.works.items f.formulas.items) → IfOk r (λ f. HaveConstants (constants_in rows) nodes)
 begun_have rows rows' logic ss (Err e) nodes same h = tt
 begun_have rows rows' logic ss (Ok f) nodes same h = subst (λ (xs : List Production). HaveConstants (constants_in xs) nodes) same (formulas_have rows' logic ss nodes f.works.items f.formulas.items h)

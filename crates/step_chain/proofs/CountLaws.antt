@@ -77,7 +77,8 @@ module _ (v w : ℕ) where
   unfolding new_nodes
   new-Node l c ts = fold-Node ℕ (layer_new v w) l c ts
 
-module _ (rows : List Production) (works : List WorkNode) (vars : List VariableNode) (v w : ℕ) (Ok : Tree → Type 0) (ok_node : (l : Label) (c : Typecode) (ts : List Tree) → Ok (tree.Node l c ts) → Each Ok ts)
+module _ (rows : List Production) (works : List WorkNode) (vars : List VariableNode) (v w : ℕ) (Ok : Tree → Type 0) (ok_node : (l : Label) (c : Typecode) (ts : List Tree) → Ok (tree.Node l c ts)
+    → Each Ok ts)
     (at_var : (s : Sym) (c : Typecode) → Ok (tree.Var s c) → (ns : List Term) → length (there_or (variable_at vars s c) (Var s c) ns).nodes ≡ length ns + v)
     (at_work : (c : Typecode) (n : ℕ) → Ok (tree.Work c n) → (ns : List Term) → length (there_or (work_at works c n) (Free c) ns).nodes ≡ length ns + w) where
   abbrev add : Tree → Adder
@@ -104,7 +105,8 @@ module _ (rows : List Production) (works : List WorkNode) (vars : List VariableN
       (λ c n ok ns. by_new ns _ _ _ _ (added-Fresh rows works vars c n ns) (new-Fresh v w c n) (length_push ns (Free c)))
       (λ l c ts h ok ns. by_new ns _ _ _ _ (added-Node rows works vars l c ts ns) (new-Node v w l c ts) (production_adds l c ts ns (run_adds ts h (ok_node l c ts ok) ns)))
     where
-      production_adds : (l : Label) (c : Typecode) (ts : List Tree) (ns : List Term) → length (run (map add ts) ns).nodes ≡ length ns + sum (map (new_nodes v w) ts) → length (with_production l c (constants_in rows l) (run (map add ts) ns)).nodes ≡ length ns + (sum (map (new_nodes v w) ts) + 1)
+      production_adds : (l : Label) (c : Typecode) (ts : List Tree) (ns : List Term) → length (run (map add ts) ns).nodes ≡ length ns + sum (map (new_nodes v w) ts)
+          → length (with_production l c (constants_in rows l) (run (map add ts) ns)).nodes ≡ length ns + (sum (map (new_nodes v w) ts) + 1)
       production_adds l c ts ns h = let kids = run (map add ts) ns in let long = length_push kids.nodes (Node l c (constants_in rows l) kids.roots) in omega (arith, long, h)
 
   pub trees_add : (ts : List Tree) → Each Ok ts → (ns : List Term) → length (run (map add ts) ns).nodes ≡ length ns + sum (map (new_nodes v w) ts)
@@ -163,7 +165,11 @@ module _ {X : Type 0} where
   unfolding drop_at
   still_there [] k x y e off h = absurd (nothing y h)
   still_there (z ∷ xs) zero x y e off h = elim (parted y z xs h) [ inl same ↦ absurd (off (sym e ∙ same)) | inr rest ↦ rest ]
-  still_there (z ∷ xs) (suc k) x y e off h = elim (parted y z xs h) [ inl same ↦ subst (Contains (z ∷ drop_at xs k)) same (first z (drop_at xs k)) | inr rest ↦ later y z (drop_at xs k) (still_there xs k x y e off rest) ]
+  still_there (z ∷ xs) (suc k) x y e off h = elim (parted y z xs h) [
+    | inl same ↦ subst (Contains (z ∷ drop_at xs k)) same (first z (drop_at xs k))
+    | inr rest ↦ later y z (drop_at xs k)
+        (still_there xs k x y e off rest)
+  ]
 
 pub at_most : (vs xs : List TypedVariable) → AreApart vs → ((v : TypedVariable) → Contains vs v → Contains xs v) → length vs ≤ length xs
 at_most [] xs apart h = omega arith
@@ -175,7 +181,8 @@ at_most (v ∷ vs) xs apart h =
 
 -- ---- a candidate
 
-module _ (rows : List Production) (ns : List Term) (a : Assertion) (vars : a.vars ≡ typed_variables a.frame.hyps) (apart : AreApart a.vars) (over : IsOver a.vars a.tree) (all_over : AllByRecursion (IsOver a.vars) a.hyps)
+module _ (rows : List Production) (ns : List Term) (a : Assertion) (vars : a.vars ≡ typed_variables a.frame.hyps) (apart : AreApart a.vars) (over : IsOver a.vars a.tree)
+    (all_over : AllByRecursion (IsOver a.vars) a.hyps)
     (stand : (v : TypedVariable) → Contains a.vars v → StandsIn a v) where
   abbrev own : List VariableNode
   own = numbered (length ns) a.vars
@@ -199,9 +206,11 @@ module _ (rows : List Production) (ns : List Term) (a : Assertion) (vars : a.var
   in_hyps [] j t v e h = let impossible : ◌≡◌ {A = Option Tree} None (Some t) = e in absurd (cc)
   in_hyps (u ∷ ts) zero t v e h =
       let same : u ≡ t = cc in
-      subst (λ (xs : List TypedVariable). Contains xs v) (sym (flat_map-cons (λ (xs : List TypedVariable). xs) (typed_leaves u) (map typed_leaves ts))) (Contains-append_left (typed_leaves u) (flatten (map typed_leaves ts)) v (subst (λ (x : Tree). Contains (typed_leaves x) v) (sym same) h))
+      subst (λ (xs : List TypedVariable). Contains xs v) (sym (flat_map-cons (λ (xs : List TypedVariable). xs) (typed_leaves u) (map typed_leaves ts))) (Contains-append_left (typed_leaves u)
+      (flatten (map typed_leaves ts)) v (subst (λ (x : Tree). Contains (typed_leaves x) v) (sym same) h))
   in_hyps (u ∷ ts) (suc j) t v e h =
-      subst (λ (xs : List TypedVariable). Contains xs v) (sym (flat_map-cons (λ (xs : List TypedVariable). xs) (typed_leaves u) (map typed_leaves ts))) (Contains-append_right (typed_leaves u) (flatten (map typed_leaves ts)) v (in_hyps ts j t v e h))
+      subst (λ (xs : List TypedVariable). Contains xs v) (sym (flat_map-cons (λ (xs : List TypedVariable). xs) (typed_leaves u) (map typed_leaves ts))) (Contains-append_right (typed_leaves u)
+      (flatten (map typed_leaves ts)) v (in_hyps ts j t v e h))
 
   stands : (v : TypedVariable) → StandsIn a v → Contains all_typed v
   stands v (inl h) = Contains-append_left (typed_leaves a.tree) (flatten (map typed_leaves a.hyps)) v h
@@ -358,10 +367,13 @@ front_rises db bound k = let rises = longer bound.steps k in omega (arith, rises
         omega (arith, rest, one, two, whole)
 
 -- with one candidate more
-pub front_more : (db : Database) (bound : Bound) (k : ℕ) (s : BoundStep) → slice_get bound.steps k ≡ Some s → size_of_front db bound (k + 1) ≡ size_of_front db bound k + standing_size (standing db bound.place s)
+pub front_more : (db : Database) (bound : Bound) (k : ℕ) (s : BoundStep) → slice_get bound.steps k ≡ Some s
+    → size_of_front db bound (k + 1) ≡ size_of_front db bound k + standing_size (standing db bound.place s)
 front_more db bound k s e = let more = taken bound.steps k e in omega (arith, more)
   where
-    taken : (ss : List BoundStep) (j : ℕ) → slice_get ss j ≡ Some s → sum (map (λ (x : BoundStep). standing_size (standing db bound.place x)) (take (j + 1) ss)) ≡ sum (map (λ (x : BoundStep). standing_size (standing db bound.place x)) (take j ss)) + standing_size (standing db bound.place s)
+    taken : (ss : List BoundStep) (j : ℕ) → slice_get ss j ≡ Some s
+        → sum (map (λ (x : BoundStep). standing_size (standing db bound.place x)) (take (j + 1) ss)) ≡ sum (map (λ (x : BoundStep). standing_size (standing db bound.place x))
+        (take j ss)) + standing_size (standing db bound.place s)
     taken [] j is = let impossible : ◌≡◌ {A = Option BoundStep} None (Some s) = is in absurd (cc)
     taken (x ∷ ss) zero is =
         let same : x ≡ s = cc in

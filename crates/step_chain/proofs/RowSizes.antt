@@ -96,11 +96,13 @@ formula_short ss n l f at s false h e = let impossible : ◌≡◌ {A = Option F
 abbrev frame_by : List Statement → Label → Option (ℕ × Statement) → Option Frame
 frame_by ss l o = option_and_then (λ p. if is_assertion p.1 then Some (frame_at ss l p.0 p.1) else None) o
 
-frame_there : (ss : List Statement) (n : ℕ) (l : Label) (f : Frame) (at : ℕ) (o : Option Statement) → slice_get ss at ≡ o → AllByRecursion (IsShort n) ss → frame_by ss l (option_map (λ s. (at, s)) o) ≡ Some f → length f.formula ≤ n
+frame_there : (ss : List Statement) (n : ℕ) (l : Label) (f : Frame) (at : ℕ) (o : Option Statement) → slice_get ss at ≡ o → AllByRecursion (IsShort n) ss
+    → frame_by ss l (option_map (λ s. (at, s)) o) ≡ Some f → length f.formula ≤ n
 frame_there ss n l f at None is h e = let impossible : ◌≡◌ {A = Option Frame} None (Some f) = e in absurd (cc)
 frame_there ss n l f at (Some s) is h e = formula_short ss n l f at s (is_assertion s) (all_at (IsShort n) ss at s h is) e
 
-frame_placed : (ss : List Statement) (n : ℕ) (l : Label) (f : Frame) (o : Option ℕ) → AllByRecursion (IsShort n) ss → frame_by ss l (option_and_then (λ at. option_map (λ s. (at, s)) (slice_get ss at)) o) ≡ Some f → length f.formula ≤ n
+frame_placed : (ss : List Statement) (n : ℕ) (l : Label) (f : Frame) (o : Option ℕ) → AllByRecursion (IsShort n) ss
+    → frame_by ss l (option_and_then (λ at. option_map (λ s. (at, s)) (slice_get ss at)) o) ≡ Some f → length f.formula ≤ n
 frame_placed ss n l f None h e = let impossible : ◌≡◌ {A = Option Frame} None (Some f) = e in absurd (cc)
 frame_placed ss n l f (Some at) h e = frame_there ss n l f at (slice_get ss at) refl h e
 
