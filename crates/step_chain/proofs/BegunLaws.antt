@@ -3,29 +3,25 @@ use Rattle.std.specs.Prelude.{◌≡◌, ℕ, ◌<◌, ◌≤◌, ◌+◌, List,
 use Rattle.std.specs.List.{AllByRecursion}
 use Rattle.std.specs.Option.{option_map_or}
 use Rattle.std.proofs.Common.{zero, suc, get_or, sym, ap, subst, ◌∙◌, arith, inl, inr}
-use Rattle.std.proofs.lemmas.List.{append_assoc, get_or-map, length-map, length-append, length_push}
+use Rattle.std.proofs.lemmas.List.{append_assoc, length_push}
 use Rattle.std.proofs.lemmas.Option.{slice_get-get_or}
 use Rattle.mm_base.specs.declared.errors.Memory.{Memory}
-use Rattle.mm_base.specs.declared.kinds.Kinds.{Kinds}
 use Rattle.mm_base.specs.declared.symbols.Typecode.{Typecode}
 use Rattle.mm_base.specs.declared.symbols.Sym.{Sym}
 use Rattle.mm_base.specs.declared.tree.Tree.{Tree}
 use Rattle.mm_base.specs.declared.tree.Tree.TheVariants as tree
 use Rattle.mm_base.specs.Trees.{code_of}
 use Rattle.mm_model.specs.declared.rows.Production.{Production}
-use Rattle.mm_model.specs.Names.{typecode}
-use Rattle.mm_model.specs.Frames.{symbol_in}
 use Rattle.mm_model.specs.Book.{Database, logic_code}
-use Rattle.mm_frames.specs.Contents.{Contents}
 use Rattle.mm_database.specs.Books.{database_of}
-use Rattle.mm_database.specs.Opened.{Opened, IsOpened}
+use Rattle.mm_database.specs.Opened.{Opened}
 use Rattle.sheet_text.specs.declared.sheet.Sheet.{Sheet}
 use Rattle.solve_model.specs.Bound.{Binds}
 use Rattle.mm_model.specs.Typed.{IsTyped}
 use Rattle.solve_model.specs.declared.bound.BoundStep.{BoundStep}
 use Rattle.solve_model.specs.declared.bound.Bound.{Bound}
-use Rattle.solve_model.specs.Trees.{Open, work, fresh, open_leaves, Occurs}
-use Rattle.solve_model.specs.Solutions.{Unknown, named, blank, copy, IsUnknown, in_formula, is_blank, unknown_code, formula_value, formula, open_value, no_step}
+use Rattle.solve_model.specs.Trees.{Open, work, fresh, Occurs}
+use Rattle.solve_model.specs.Solutions.{Unknown, named, blank, copy, IsUnknown, in_formula, is_blank, unknown_code, formula_value, open_value, no_step}
 use Rattle.solve_model.proofs.TreeLaws.{open_leaves-Node}
 use Rattle.solve_laws.proofs.NoFresh.{no_fresh_leaf}
 use Rattle.term_model.specs.declared.shape.Id.{Id}
@@ -35,23 +31,22 @@ use Rattle.term_model.proofs.CycleLaws.{start_solution}
 use Rattle.term_model.proofs.ClosureLaws.{agrees_refl}
 use Rattle.chain_laws.specs.declared.leaves.WorkNode.{WorkNode}
 use Rattle.term_model.specs.Sizes.{HaveConstants}
-use Rattle.chain_laws.specs.Adding.{constants_in, Rooted, Listed, Adder, run, id_of, first_then, there_or, work_at, variable_at, added}
+use Rattle.chain_laws.specs.Adding.{constants_in, Rooted, Listed, run, id_of, first_then, there_or, work_at, variable_at, added}
 use Rattle.chain_laws.specs.Laws.{BoundIsReady}
-use Rattle.chain_laws.specs.Layout.{Layout, IsChained, IsReadyFormula, IsReadyBound, AreFormulaNodes, Fit, valuation_of}
-use Rattle.chain_laws.proofs.LeastLeaves.{first, nothing}
-use Rattle.chain_laws.proofs.Listed.{AreDistinct, OnceEach, unknowns, of_steps, place_in, place_back, all_of_worksheet, only_of_worksheet}
+use Rattle.chain_laws.specs.Layout.{Layout, IsChained, IsReadyFormula, IsReadyBound, Fit, valuation_of}
+use Rattle.chain_laws.proofs.LeastLeaves.{nothing}
+use Rattle.chain_laws.proofs.Listed.{OnceEach, unknowns, of_steps, place_in, place_back, all_of_worksheet, only_of_worksheet}
 use Rattle.chain_laws.proofs.Grown.{fit_back, within_front}
 use Rattle.chain_laws.proofs.Added.{IsMade, found_node, own_variable, added_made}
 use Rattle.chain_laws.proofs.Built as built
 use Rattle.step_chain.specs.declared.formulas.FormulaNodes.{FormulaNodes}
 use Rattle.step_chain.specs.Grown.{IsGrown, AreIdsIn, AreWorksIn}
 use Rattle.step_chain.specs.Levels.{IsLevel, IsFront}
-use Rattle.step_chain.specs.Ordered.{formula_at}
 use Rattle.step_chain.specs.Formulas.{Begun, nothing_begun, unknowns_of, formulas_of, blank_nodes, formula_adder, formula_adders, AreFormulas, formula_node, HasFormulas}
 use Rattle.step_chain.specs.Sizes.{formulas_size}
 use Rattle.step_chain.proofs.FormulaLaws.{blanks_count}
 use Rattle.step_chain.proofs.CountLaws.{sum_cons, new_nodes, tree_adds, tree_size, unknowns_size, sizes_are, unknowns_few}
-use Rattle.step_chain.proofs.UnknownLaws.{IsListed, free_for, work_entry, works_from, IsFoundAt, found_at, IsBlankAt, StepsListing, steps_listed}
+use Rattle.step_chain.proofs.UnknownLaws.{IsListed, free_for, works_from, IsFoundAt, found_at, IsBlankAt, StepsListing, steps_listed}
 
 module _ (db : Database) (bound : Bound) (ready : IsReadyBound db bound)
     (us : List Unknown) (b : Begun) (is : IsListed (logic_code db) us b)

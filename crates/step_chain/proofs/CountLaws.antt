@@ -1,11 +1,11 @@
 -- How many nodes trees add to a store.
-use Rattle.std.specs.Prelude.{◌≡◌, ℕ, ◌<◌, ◌≤◌, ◌+◌, ◌⊎◌, List, [], ◌∷◌, ◌++◌, length, map, sum, fold, take, slice_get, Option, Some, None, Contains, refl}
-use Rattle.std.specs.List.{AllByRecursion, flat_map}
+use Rattle.std.specs.Prelude.{◌≡◌, ℕ, ◌<◌, ◌≤◌, ◌+◌, List, [], ◌∷◌, ◌++◌, length, map, sum, take, slice_get, Option, Some, None, Contains, refl}
+use Rattle.std.specs.List.{AllByRecursion}
 use Rattle.std.specs.Option.{option_map_or}
 use Rattle.std.proofs.Common.{zero, suc, get_or, sym, ap, subst, ◌∙◌, arith, inl, inr}
 use Rattle.std.proofs.lemmas.List.{length-append, length-map, length_push}
 use Rattle.std.proofs.lemmas.List.Concat.{flat_map-cons}
-use Rattle.std.proofs.lemmas.List.Elements.{Contains-append_left, Contains-append_right, Contains-append_cases}
+use Rattle.std.proofs.lemmas.List.Elements.{Contains-append_left, Contains-append_right}
 use Rattle.std.proofs.lemmas.List.Sums.{sum_by-cons}
 use Rattle.mm_base.specs.declared.symbols.Sym.{Sym}
 use Rattle.mm_base.specs.declared.symbols.Label.{Label}
@@ -18,7 +18,6 @@ use Rattle.mm_base.specs.Trees.{Each}
 use Rattle.mm_base.proofs.TreeFolds.{fold-Var, fold-Work, fold-Fresh, fold-Node}
 use Rattle.mm_base.proofs.TreeInduction.{tree_ind}
 use Rattle.mm_base.proofs.TreeFacts.{node_held}
-use Rattle.mm_model.specs.declared.frames.Hyp.{Hyp}
 use Rattle.mm_model.specs.declared.rows.Production.{Production}
 use Rattle.mm_model.specs.Productions.{TypedVariable, typed_variables}
 use Rattle.mm_model.specs.Sizes.{nodes}
@@ -36,14 +35,14 @@ use Rattle.chain_laws.specs.Adding.{Rooted, Listed, Adder, run, there_or, work_a
 use Rattle.chain_laws.specs.Layout.{LayerIsOver, IsOver}
 use Rattle.chain_laws.proofs.LeastLeaves.{first, later, nothing}
 use Rattle.chain_laws.proofs.Listed.{parted}
-use Rattle.chain_laws.proofs.Agreement.{over_Var, over_Work, over_Fresh}
+use Rattle.chain_laws.proofs.Agreement.{over_Var, over_Work}
 use Rattle.chain_laws.proofs.Copies.{found}
 use Rattle.again_laws.specs.Leaves.{typed_leaves}
-use Rattle.again_laws.specs.Whole.{StandsIn, IsWhole}
+use Rattle.again_laws.specs.Whole.{StandsIn}
 use Rattle.again_laws.proofs.LeafLaws.{leaves-Var, leaves-Work, leaves-Fresh, leaves-Node}
 use Rattle.step_chain.specs.Formulas.{Begun, with_work, with_leaf, with_leaves, with_formula, with_step, with_steps}
 use Rattle.step_chain.specs.Sizes.{formula_size, formulas_size, candidates_size, size_of_front}
-use Rattle.step_chain.specs.Candidate.{table_of, copied, root_of, roots_of}
+use Rattle.step_chain.specs.Candidate.{roots_of}
 use Rattle.step_chain.proofs.AddingLaws.{added-Var, added-Work, added-Fresh, added-Node}
 
 pub sum_cons : (n : ℕ) (ns : List ℕ) → sum (n ∷ ns) ≡ n + sum ns

@@ -1,31 +1,28 @@
 -- Laws of what is read off a store, for the code that reads.
-use Rattle.std.specs.Prelude.{◌≡◌, ℕ, ◌<◌, ◌≤◌, ◌+◌, ◌-◌, ◌^◌, ◌==◌, nat_le, min, Bool, true, false, List, [], ◌∷◌, ◌++◌, length, map, take, slice_get, Option, Some, None, Result, Ok, Err, IfOk, refl}
+use Rattle.std.specs.Prelude.{◌≡◌, ℕ, ◌<◌, ◌≤◌, ◌+◌, ◌-◌, ◌^◌, ◌==◌, nat_le, min, Bool, true, false, List, [], ◌∷◌, ◌++◌, length, map, take, slice_get, Option, Some, None, Ok, Err, refl}
 use Rattle.std.proofs.Common.{zero, suc, get_or, set, sym, ap, subst, ◌∙◌, arith, inl, inr, cond}
 use Rattle.std.proofs.lemmas.Bool.{cases_eq}
 use Rattle.std.proofs.lemmas.Bool.Decides.{nat_tests}
 use Rattle.std.proofs.lemmas.List.{length-set, get_or-set_same, get_or-set_other, take_more, take_all, map_push, get_or_default}
-use Rattle.mm_base.specs.declared.errors.Memory.{Memory}
 use Rattle.mm_base.specs.declared.symbols.Sym.{Sym}
 use Rattle.mm_base.specs.declared.symbols.Label.{Label}
 use Rattle.mm_base.specs.declared.symbols.Typecode.{Typecode}
 use Rattle.mm_base.specs.declared.tree.Tree.{Tree}
 use Rattle.mm_base.specs.declared.tree.Tree.TheVariants as tree
 use Rattle.term_model.specs.declared.shape.Id.{Id}
-use Rattle.term_model.specs.declared.shape.Shape.{Shape}
 use Rattle.term_model.specs.declared.shape.Shape.TheVariants as shape
 use Rattle.term_model.specs.Terms.{Term, Var, Free, Node, term_at, shape_of, children_of}
 use Rattle.term_model.specs.Links.{Link, end_of}
 use Rattle.term_model.specs.Ranks.{IsAbove}
-use Rattle.term_model.specs.Store.{IsStore, IsSolved}
-use Rattle.term_model.specs.Sizes.{saturated, size_at, tokens, HaveConstants, AreTreeSizes}
+use Rattle.term_model.specs.Store.{IsStore}
+use Rattle.term_model.specs.Sizes.{saturated, size_at, tokens, HaveConstants}
 use Rattle.chain_laws.specs.declared.leaves.WorkNode.{WorkNode}
 use Rattle.chain_laws.specs.Leaves.{lesser, least_at, named_leaf, leaf_at}
 use Rattle.chain_laws.specs.Reading.{made, read, value_at, AreWorkNodes}
 use Rattle.chain_laws.proofs.Chained.{ranked_of}
 use Rattle.chain_laws.proofs.ReadValues.{read_tokens}
-use Rattle.step_chain.specs.declared.reading.TreeFault.{TreeFault}
 use Rattle.step_chain.specs.declared.reading.TreeFault.TheVariants as fault
-use Rattle.step_chain.specs.Readings.{kept, AreNames, IsReadable, IsRead, IsReadOff, most_tokens}
+use Rattle.step_chain.specs.Readings.{kept, AreNames, IsReadable, IsReadOff, most_tokens}
 
 -- ---- the least of one work variable more
 

@@ -1,29 +1,25 @@
 -- A production has no more items than its database's text has bytes.
-use Rattle.std.specs.Prelude.{◌≡◌, ℕ, ◌<◌, ◌≤◌, ◌+◌, ◌-◌, ◌^◌, min, Bool, true, false, List, [], ◌∷◌, ◌++◌, length, map, reverse, take, drop, take_while, count_by, slice_get, nat_lt, option_map, option_and_then, if◌then◌else◌, Option, Some, None, Contains, refl}
+use Rattle.std.specs.Prelude.{◌≡◌, ℕ, ◌≤◌, ◌-◌, ◌^◌, min, Bool, true, false, List, [], ◌∷◌, ◌++◌, length, reverse, take, drop, take_while, count_by, slice_get, nat_lt, option_map, option_and_then, if◌then◌else◌, Option, Some, None, refl}
 use Rattle.std.specs.List.{AllByRecursion, prefix_len}
 use Rattle.std.specs.Option.{option_map_or}
-use Rattle.std.proofs.Common.{zero, suc, get_or, sym, ap, subst, ◌∙◌, arith, inl, inr, cond}
+use Rattle.std.proofs.Common.{zero, suc, sym, ap, subst, ◌∙◌, arith, inl, inr, cond}
 use Rattle.std.proofs.lemmas.Bool.{cases_Bool}
 use Rattle.std.proofs.lemmas.Bool.Decides.{nat_tests}
 use Rattle.std.proofs.lemmas.List.{length-append, length-map, length-reverse, length-drop, reverse-append}
 use Rattle.std.proofs.lemmas.List.Sums.{count_by-le-length}
 use Rattle.mm_base.specs.declared.symbols.Label.{Label}
-use Rattle.mm_base.specs.declared.kinds.Kinds.{Kinds}
 use Rattle.mm_model.specs.declared.frames.Frame.{Frame}
-use Rattle.mm_model.specs.declared.rows.Item.{Item}
 use Rattle.mm_model.specs.declared.rows.Production.{Production}
 use Rattle.mm_model.specs.Faults.{fault, or_else}
 use Rattle.mm_model.specs.Words.{Word}
 use Rattle.mm_model.specs.Tokens.{tokens, token_fault}
 use Rattle.mm_model.specs.Statements.{Statement, statements, unended, ended, ends_statement, is_word, body, symbols_in, statement_fault, database_fault}
-use Rattle.mm_model.specs.Frames.{symbols, symbol_in, positions, frame_at, frame_of, statement_of, is_assertion}
+use Rattle.mm_model.specs.Frames.{symbols, symbol_in, positions, frame_at, frame_of, is_assertion}
 use Rattle.mm_model.specs.Productions.{typed_variables}
-use Rattle.mm_model.specs.Texts.{row_of}
-use Rattle.mm_model.specs.Book.{Database, IsDatabaseOf}
-use Rattle.mm_model.specs.BookFacts.{IsRowFrame, IsDatabase, item_symbol}
+use Rattle.mm_model.specs.BookFacts.{item_symbol}
 use Rattle.mm_frames.proofs.TokenFacts.{tokens-length}
 use Rattle.model_laws.specs.DatabaseLaws.{HasDatabaseFacts}
-use Rattle.chain_laws.specs.Adding.{is_constant, row_constants, constants_in}
+use Rattle.chain_laws.specs.Adding.{is_constant, row_constants}
 use Rattle.step_chain.specs.Constants.{ConstantsAreCounted}
 
 -- ---- statements

@@ -1,6 +1,6 @@
 -- Laws of the table of work variables.
-use Rattle.std.specs.Prelude.{◌≡◌, ℕ, ◌&&◌, nat_eq, Bool, true, false, List, [], ◌∷◌, ◌++◌, map, find, option_map, Option, Some, None, refl}
-use Rattle.std.proofs.Common.{sym, ap, ◌∙◌, cond}
+use Rattle.std.specs.Prelude.{◌≡◌, ℕ, ◌&&◌, nat_eq, Bool, true, false, List, [], ◌∷◌, ◌++◌, map, find, option_map, Option, Some, refl}
+use Rattle.std.proofs.Common.{ap, ◌∙◌, cond}
 use Rattle.std.proofs.lemmas.List.{map_push}
 use Rattle.std.specs.Map.{lookup}
 use Rattle.mm_base.specs.declared.symbols.Typecode.{Typecode}

@@ -1,5 +1,5 @@
 -- How many nodes the steps of a worksheet have.
-use Rattle.std.specs.Prelude.{◌≡◌, ℕ, ◌+◌, List, [], ◌∷◌, map, sum, take}
+use Rattle.std.specs.Prelude.{ℕ, ◌+◌, List, map, sum, take}
 use Rattle.std.specs.Option.{option_map_or}
 use Rattle.mm_model.specs.Sizes.{nodes}
 use Rattle.mm_model.specs.Book.{Database}
