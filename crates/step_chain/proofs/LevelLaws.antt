@@ -68,7 +68,7 @@ module _ (d : Opened) (bound : Bound) where
   pub judgement_fits : (i : ℕ) (j : Judged) (x : Accepted) (a : Assertion) → j ≡ Fits x → usable_in d x.label ≡ Some a → judgement_of d bound i j ≡ accepted (asked_by bound i x a)
   judgement_fits i j x a e u = ap (judgement_of d bound i) e ∙ ap (accepted_by bound i x) u
 
-among : (js : List Judgement) (k : ℕ) (x : Asked) → slice_get js k ≡ Some (accepted x) → Contains (accepted_in js) x
+pub among : (js : List Judgement) (k : ℕ) (x : Asked) → slice_get js k ≡ Some (accepted x) → Contains (accepted_in js) x
 among [] k x e = let impossible : ◌≡◌ {A = Option Judgement} None (Some (accepted x)) = e in absurd (cc)
 among (j ∷ js) zero x e = let same : accepted x ≡ j = cc in subst (λ (o : Judgement). Contains (accepted_in (o ∷ js)) x) same (0, omega arith, refl)
 among (accepted y ∷ js) (suc k) x e = let rest = among js k x e in (suc rest.0, omega (arith, rest.1), rest.2)

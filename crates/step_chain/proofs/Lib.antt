@@ -23,3 +23,5 @@ pub mod ValueLaws
 pub mod ConstantLaws
 pub mod CountLaws
 pub mod RowSizes
+pub mod AnswerLaws
+pub mod ReaderLaws

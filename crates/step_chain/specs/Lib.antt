@@ -15,3 +15,4 @@ pub mod Readings
 pub mod Sizes
 pub mod Values
 pub mod Constants
+pub mod Answers

@@ -17,9 +17,12 @@ abbrev pub accepted_in : Judged → Option Accepted
 accepted_in (Stands v) = None
 accepted_in (Fits x) = Some x
 
+abbrev pub kept_at : List Pushed → ℕ → Option Accepted
+kept_at steps i = option_and_then (λ (p : Pushed). accepted_in p.judged) (slice_get steps i)
+
 -- what is kept of a step that was accepted; none where it was not pushed or was not accepted
 abbrev pub accepted_at : Held → ℕ → Option Accepted
-accepted_at h i = option_and_then (λ (p : Pushed). accepted_in p.judged) (slice_get h.steps i)
+accepted_at h i = kept_at h.steps i
 
 -- the node of an unknown
 abbrev pub node_in : Held → Unknown → ℕ
