@@ -1,8 +1,8 @@
 -- A candidate of the next step, taken into the store.
-use Rattle.std.specs.Prelude.{◌≡◌, ℕ, ◌<◌, ◌≤◌, ◌+◌, Bool, true, false, List, [], ◌∷◌, ◌++◌, length, map, find, slice_get, Contains, Option, Some, None, option_map, refl}
+use Rattle.std.specs.Prelude.{◌≡◌, ℕ, ◌<◌, ◌≤◌, ◌+◌, Bool, true, false, List, [], ◌∷◌, ◌++◌, length, map, find, slice_get, Contains, Option, Some, None, option_map, sum, refl}
 use Rattle.std.specs.List.{AllByRecursion, AllZip, flat_map, range_with_len}
 use Rattle.std.proofs.Common.{zero, suc, get_or, sym, ap, subst, ◌∙◌, arith, cond}
-use Rattle.std.proofs.lemmas.List.{length-map}
+use Rattle.std.proofs.lemmas.List.{length-map, length_push}
 use Rattle.std.proofs.lemmas.Option.{slice_get_within, get_or_from_slice_get, slice_get-get_or}
 use Rattle.mm_base.specs.declared.symbols.Sym.{Sym}
 use Rattle.mm_base.specs.declared.symbols.Label.{Label}
@@ -10,6 +10,7 @@ use Rattle.mm_base.specs.declared.symbols.Typecode.{Typecode}
 use Rattle.mm_base.specs.declared.tree.Tree.{Tree}
 use Rattle.mm_model.specs.declared.rows.Production.{Production}
 use Rattle.mm_model.specs.Productions.{TypedVariable, typed_variables}
+use Rattle.mm_model.specs.Sizes.{nodes}
 use Rattle.mm_model.specs.Book.{Database, Assertion, IsUsable, position_of}
 use Rattle.mm_model.specs.BookFacts.{IsDatabase, VariablesDiffer}
 use Rattle.mm_database.specs.Opened.{Opened}
@@ -17,7 +18,7 @@ use Rattle.sheet_text.specs.declared.sheet.Given.{Given}
 use Rattle.solve_model.specs.declared.bound.BoundStep.{BoundStep}
 use Rattle.solve_model.specs.declared.bound.Bound.{Bound}
 use Rattle.solve_model.specs.declared.verdict.Verdict.TheVariants as verdict
-use Rattle.solve_model.specs.Bound.{standing, candidate}
+use Rattle.solve_model.specs.Bound.{standing, candidate, standing_size}
 use Rattle.solve_model.specs.Firsts.{orders, picks}
 use Rattle.solve_model.specs.Solutions.{Unknown, IsUnknown, copy, Asked, orders_of, no_step}
 use Rattle.solve_model.specs.Verdicts.{accepted, stands, asked, accepted_in, IsJudgement}
@@ -32,10 +33,13 @@ use Rattle.term_model.specs.Sizes.{HaveConstants}
 use Rattle.chain_laws.specs.Adding.{Listed, constants_in, numbered, AreApart, is_variable, variable_at}
 use Rattle.chain_laws.specs.Layout.{Layout, IsReadyAsked, IsSoundAsked, HasRoom, IsChained, AreFormulaNodes, AreCandidateNodes, IsInstanceNode}
 use Rattle.chain_laws.proofs.Copies.{with_copies, kept_node, copied_is, found, variable_with, same_variable, self_variable}
+use Rattle.again_laws.specs.Whole.{IsWhole}
 use Rattle.step_chain.specs.declared.judged.Accepted.{Accepted}
 use Rattle.step_chain.specs.declared.judged.Judged.{Judged}
 use Rattle.step_chain.specs.declared.judged.Judged.TheVariants.{Stands, Fits}
 use Rattle.step_chain.specs.declared.judged.Pushed.{Pushed}
+use Rattle.step_chain.specs.Sizes.{size_of_front}
+use Rattle.step_chain.proofs.CountLaws.{candidate_few, front_more}
 use Rattle.step_chain.specs.Candidate.{table_of, root_of, roots_of}
 use Rattle.step_chain.specs.Standings.{usable_in, IsBookOf, IsCandidateOf}
 use Rattle.step_chain.specs.Ordered.{formula_at, reordered, may_reorder, tried}
@@ -143,7 +147,7 @@ own_found n (v ∷ vs) apart w (suc k, l, e) =
 
 -- ---- the next step
 
-module _ (db : Database) (d : Opened) (book : IsBookOf db d) (facts : IsDatabase db) (bound : Bound) (placed : ArePlaced bound) (ready_of : (x : Asked) → IsCandidate db bound x → IsReadyAsked db bound x)
+module _ (db : Database) (d : Opened) (book : IsBookOf db d) (facts : IsDatabase db) (whole : (b : Assertion) → db.usable b.label ≡ Some b → IsWhole b) (bound : Bound) (placed : ArePlaced bound) (ready_of : (x : Asked) → IsCandidate db bound x → IsReadyAsked db bound x)
     (works : List WorkNode) (formulas : List Id) (steps : List Pushed) (p : Pushed) (old new : Store) (level : IsLevel db d bound works formulas steps old.nodes old.links)
     (s : BoundStep) (at : slice_get bound.steps (length steps) ≡ Some s) (l : Label) (is : IsCandidateOf db d bound.place s l) where
   abbrev i : ℕ
@@ -297,7 +301,17 @@ module _ (db : Database) (d : Opened) (book : IsBookOf db d) (facts : IsDatabase
     constants : HaveConstants (constants_in d.rows) (old.nodes ++ more)
     constants = subst (HaveConstants (constants_in d.rows)) (sym h.taken.nodes ∙ longer) (candidate_have d.rows old.nodes a.frame.hyps a.tree a.hyps level.constants)
 
+    few : length (old.nodes ++ more) ≤ size_of_front db bound (length (steps ++ p ∷ []))
+    few =
+        let added = candidate_few d.rows old.nodes a usable.vars apart own_ready.sound.tree own_ready.sound.hyps (whole a usable_db).all_stand in
+        let same : length (old.nodes ++ more) ≡ length (roots_of d.rows old.nodes a.frame.hyps a.tree a.hyps).nodes = ap length (sym longer ∙ h.taken.nodes) in
+        let before_this = level.few in
+        let next_size = front_more db bound i s at in
+        let own_size : standing_size (standing db bound.place s) ≡ nodes a.tree + sum (map nodes a.hyps) = ap standing_size is.standing in
+        let long = ap (size_of_front db bound) (length_push steps p) in
+        omega (arith, added, same, before_this, next_size, own_size, long)
+
     pub level_accepted : IsLevel db d bound works formulas (steps ++ p ∷ []) new.nodes new.links
     level_accepted =
         subst (λ (ks : List Term). IsLevel db d bound works formulas (steps ++ p ∷ []) ks new.links) (sym longer)
-        (level_fits db d bound works formulas steps p old.nodes old.links level more new.links lay'' x a e own_usable same_node refl chained formulas_now kept_now constants judged_now)
+        (level_fits db d bound works formulas steps p old.nodes old.links level more new.links lay'' x a e own_usable same_node refl chained formulas_now kept_now constants few judged_now)

@@ -1,11 +1,9 @@
 -- Each production of the store has the number of constants of its label.
-use Rattle.std.specs.Prelude.{◌≡◌, ℕ, ◌<◌, ◌+◌, List, [], ◌∷◌, ◌++◌, length, map, fold, Option, Some, None, Result, Ok, Err, IfOk, refl}
-use Rattle.std.proofs.Common.{zero, suc, get_or, sym, ap, subst, ◌∙◌, arith, inl, inr}
+use Rattle.std.specs.Prelude.{◌≡◌, ℕ, ◌<◌, List, [], ◌∷◌, ◌++◌, length, map, Option, Some, None, Result, Ok, Err, IfOk, refl}
+use Rattle.std.proofs.Common.{sym, ap, subst, arith, inl, inr}
 use Rattle.std.proofs.lemmas.Bool.{cases_eq}
 use Rattle.std.proofs.lemmas.List.{append_assoc, get_or_append_left, get_or_push, length_push}
 use Rattle.mm_base.specs.declared.errors.Memory.{Memory}
-use Rattle.mm_base.specs.declared.symbols.Sym.{Sym}
-use Rattle.mm_base.specs.declared.symbols.Label.{Label}
 use Rattle.mm_base.specs.declared.symbols.Typecode.{Typecode}
 use Rattle.mm_base.specs.declared.tree.Tree.{Tree}
 use Rattle.mm_base.specs.Trees.{Each}
@@ -16,14 +14,14 @@ use Rattle.mm_model.specs.Productions.{TypedVariable, typed_variables}
 use Rattle.solve_model.specs.declared.bound.BoundStep.{BoundStep}
 use Rattle.solve_model.specs.Trees.{Open, work, fresh, open_leaves}
 use Rattle.term_model.specs.declared.shape.Id.{Id}
-use Rattle.term_model.specs.Terms.{Term, Var, Free, Node, term_at}
+use Rattle.term_model.specs.Terms.{Term, Var, Free, Node}
 use Rattle.term_model.specs.Sizes.{HasConstants, HaveConstants}
 use Rattle.chain_laws.specs.declared.leaves.WorkNode.{WorkNode}
 use Rattle.chain_laws.specs.declared.leaves.VariableNode.{VariableNode}
-use Rattle.chain_laws.specs.Adding.{Rooted, Listed, Adder, run, there_or, work_at, variable_at, constants_in, with_production, added, free_of}
+use Rattle.chain_laws.specs.Adding.{Rooted, Adder, run, there_or, work_at, variable_at, constants_in, added, free_of}
 use Rattle.step_chain.specs.declared.formulas.FormulaNodes.{FormulaNodes}
 use Rattle.step_chain.specs.Candidate.{table_of, copied, root_of, roots_of}
-use Rattle.step_chain.specs.Formulas.{Begun, nothing_begun, with_work, with_leaf, with_leaves, with_formula, with_step, with_steps, unknowns_of, formulas_of, blank_nodes, formula_adder, formula_adders, AreFormulas}
+use Rattle.step_chain.specs.Formulas.{Begun, nothing_begun, with_work, with_leaf, with_leaves, with_formula, with_step, with_steps, unknowns_of, blank_nodes, formula_adder, formula_adders, AreFormulas}
 use Rattle.step_chain.proofs.AddingLaws.{added-Var, added-Work, added-Fresh, added-Node}
 
 module _ (rows : List Production) where
@@ -120,6 +118,7 @@ module _ (rows : List Production) where
         subst Have (sym h.nodes_are) (adders_have (unknowns_of logic ss).works (blank_nodes logic nothing_begun ss) ss (unknowns_of logic ss).nodes (steps_have ss nothing_begun none_have))
 
 -- of a store that was begun
-pub begun_have : (rows rows' : List Production) (logic : Typecode) (ss : List BoundStep) (r : Result FormulaNodes Memory) (nodes : List Term) → rows' ≡ rows → IfOk r (λ f. AreFormulas rows' logic ss nodes f.works.items f.formulas.items) → IfOk r (λ f. HaveConstants (constants_in rows) nodes)
+pub begun_have : (rows rows' : List Production) (logic : Typecode) (ss : List BoundStep) (r : Result FormulaNodes Memory) (nodes : List Term) → rows' ≡ rows
+    → IfOk r (λ f. AreFormulas rows' logic ss nodes f.works.items f.formulas.items) → IfOk r (λ f. HaveConstants (constants_in rows) nodes)
 begun_have rows rows' logic ss (Err e) nodes same h = tt
 begun_have rows rows' logic ss (Ok f) nodes same h = subst (λ (xs : List Production). HaveConstants (constants_in xs) nodes) same (formulas_have rows' logic ss nodes f.works.items f.formulas.items h)

@@ -36,6 +36,8 @@ use Rattle.step_chain.specs.declared.judged.Pushed.{Pushed}
 use Rattle.step_chain.specs.Standings.{usable_in}
 use Rattle.step_chain.specs.Ordered.{formula_at}
 use Rattle.step_chain.specs.Steps.{asked_by, accepted_by, judgement_of, judgements_from}
+use Rattle.step_chain.specs.Sizes.{size_of_front}
+use Rattle.step_chain.proofs.CountLaws.{front_rises}
 use Rattle.step_chain.specs.Levels.{AreKeptNodes, IsKeptStep, AreEachJudged, AreBefore, IsLevel}
 use Rattle.step_chain.proofs.Lists.{get_front, get_seam, get_past, all_has, all_join, all_weaker, all_at, zip_weaker}
 
@@ -141,7 +143,7 @@ module _ (db : Database) (d : Opened) (bound : Bound) (works : List WorkNode) (f
         (before : AreBefore (length (steps ++ p ∷ [])) accepted_now)
         (last : (s : BoundStep) → slice_get bound.steps i ≡ Some s → IsJudgement db bound (accepted_in js) i s (standing db bound.place s) o)
         (old : (k : ℕ) (q : Pushed) (x : Accepted) → slice_get steps k ≡ Some q → q.judged ≡ Fits x → IsKeptStep d nodes' layout k x)
-        (new : (x : Accepted) → p.judged ≡ Fits x → IsKeptStep d nodes' layout i x) (constants : HaveConstants (constants_in d.rows) nodes') where
+        (new : (x : Accepted) → p.judged ≡ Fits x → IsKeptStep d nodes' layout i x) (constants : HaveConstants (constants_in d.rows) nodes') (few : length nodes' ≤ size_of_front db bound (length (steps ++ p ∷ []))) where
       abbrev Now : List Asked → Type 0
       Now xs = IsChained db bound xs xs nodes' links' layout
 
@@ -169,12 +171,20 @@ module _ (db : Database) (d : Opened) (bound : Bound) (works : List WorkNode) (f
         each = each_pushed last;
         kept = kept_by;
         constants = constants;
+        few = few;
       }
 
   -- ---- a step that stands
 
   before_more : (xs : List Asked) → AreBefore i xs → AreBefore (length (steps ++ p ∷ [])) xs
   before_more xs h = all_weaker (λ (x : Asked). x.step < i) (λ (x : Asked). x.step < length (steps ++ p ∷ [])) (λ x below. let long = length_push steps p in omega (arith, below, long)) xs h
+
+  few_more : length nodes ≤ size_of_front db bound (length (steps ++ p ∷ []))
+  few_more =
+      let long = length_push steps p in
+      let rises = front_rises db bound i in
+      let same = ap (size_of_front db bound) long in
+      omega (arith, rises, same, level.few)
 
   module _ (v : Verdict) (is : p.judged ≡ Stands v) where
     fits_no : (x : Accepted) → p.judged ≡ Fits x → ⊥
@@ -183,7 +193,7 @@ module _ (db : Database) (d : Opened) (bound : Bound) (works : List WorkNode) (f
     pub level_stands : ((s : BoundStep) → slice_get bound.steps i ≡ Some s → IsJudgement db bound (accepted_in js) i s (standing db bound.place s) (stands v)) → IsLevel db d bound works formulas (steps ++ p ∷ []) nodes links
     level_stands last =
         level_more (stands v) (ap (judgement_of d bound i) is) (accepted_in js) (append-nil (accepted_in js)) nodes links level.layout level.chained level.formula_nodes level.works_are
-        (before_more (accepted_in js) level.before) last level.kept (λ x e. absurd (fits_no x e)) level.constants
+        (before_more (accepted_in js) level.before) last level.kept (λ x e. absurd (fits_no x e)) level.constants few_more
 
   -- ---- a step that is accepted
 
@@ -213,6 +223,7 @@ module _ (db : Database) (d : Opened) (bound : Bound) (works : List WorkNode) (f
       (same : (u : Unknown) → IsUnknown bound (accepted_in js) u → lay'.node_of u ≡ level.layout.node_of u) (same_works : lay'.works ≡ level.layout.works)
       (chained : IsChained db bound (accepted_in js ++ asked_by bound i x a ∷ []) (accepted_in js ++ asked_by bound i x a ∷ []) (nodes ++ more) links' lay')
       (formula_nodes : AreFormulaNodes bound (nodes ++ more) lay' (λ k. (formula_at formulas k).0)) (kept : AreKeptNodes (nodes ++ more) lay' i x a) (constants : HaveConstants (constants_in d.rows) (nodes ++ more))
+      (few : length (nodes ++ more) ≤ size_of_front db bound (length (steps ++ p ∷ [])))
       (last : (s : BoundStep) → slice_get bound.steps i ≡ Some s → IsJudgement db bound (accepted_in js) i s (standing db bound.place s) (accepted (asked_by bound i x a))) where
     before_now : AreBefore (length (steps ++ p ∷ [])) (accepted_in js ++ asked_by bound i x a ∷ [])
     before_now = all_join (λ (y : Asked). y.step < length (steps ++ p ∷ [])) (accepted_in js) (asked_by bound i x a ∷ []) (before_more (accepted_in js) level.before) (let long = length_push steps p in omega (arith, long), tt)
@@ -237,4 +248,4 @@ module _ (db : Database) (d : Opened) (bound : Bound) (works : List WorkNode) (f
     level_fits =
         level_more (accepted (asked_by bound i x a)) (judgement_fits d bound i p.judged x a is usable) (accepted_in js ++ asked_by bound i x a ∷ []) refl (nodes ++ more) links' lay' chained formula_nodes
         (same_works ∙ level.works_are) before_now last
-        old_kept own_kept constants
+        old_kept own_kept constants few

@@ -21,5 +21,7 @@ pub mod SymbolLaws
 pub mod ReadingLaws
 pub mod ValueLaws
 pub mod ConstantLaws
+pub mod CountLaws
+pub mod RowSizes
 pub mod AnswerLaws
 pub mod ReaderLaws

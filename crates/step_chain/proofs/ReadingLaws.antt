@@ -1,31 +1,28 @@
 -- Laws of what is read off a store, for the code that reads.
-use Rattle.std.specs.Prelude.{◌≡◌, ℕ, ◌<◌, ◌≤◌, ◌+◌, ◌-◌, ◌^◌, ◌==◌, nat_le, min, Bool, true, false, List, [], ◌∷◌, ◌++◌, length, map, take, slice_get, Option, Some, None, Result, Ok, Err, IfOk, refl}
+use Rattle.std.specs.Prelude.{◌≡◌, ℕ, ◌<◌, ◌≤◌, ◌+◌, ◌-◌, ◌^◌, ◌==◌, nat_le, min, Bool, true, false, List, [], ◌∷◌, ◌++◌, length, map, take, slice_get, Option, Some, None, Ok, Err, refl}
 use Rattle.std.proofs.Common.{zero, suc, get_or, set, sym, ap, subst, ◌∙◌, arith, inl, inr, cond}
 use Rattle.std.proofs.lemmas.Bool.{cases_eq}
 use Rattle.std.proofs.lemmas.Bool.Decides.{nat_tests}
 use Rattle.std.proofs.lemmas.List.{length-set, get_or-set_same, get_or-set_other, take_more, take_all, map_push, get_or_default}
-use Rattle.mm_base.specs.declared.errors.Memory.{Memory}
 use Rattle.mm_base.specs.declared.symbols.Sym.{Sym}
 use Rattle.mm_base.specs.declared.symbols.Label.{Label}
 use Rattle.mm_base.specs.declared.symbols.Typecode.{Typecode}
 use Rattle.mm_base.specs.declared.tree.Tree.{Tree}
 use Rattle.mm_base.specs.declared.tree.Tree.TheVariants as tree
 use Rattle.term_model.specs.declared.shape.Id.{Id}
-use Rattle.term_model.specs.declared.shape.Shape.{Shape}
 use Rattle.term_model.specs.declared.shape.Shape.TheVariants as shape
 use Rattle.term_model.specs.Terms.{Term, Var, Free, Node, term_at, shape_of, children_of}
 use Rattle.term_model.specs.Links.{Link, end_of}
 use Rattle.term_model.specs.Ranks.{IsAbove}
-use Rattle.term_model.specs.Store.{IsStore, IsSolved}
-use Rattle.term_model.specs.Sizes.{saturated, size_at, tokens, HaveConstants, AreTreeSizes}
+use Rattle.term_model.specs.Store.{IsStore}
+use Rattle.term_model.specs.Sizes.{saturated, size_at, tokens, HaveConstants}
 use Rattle.chain_laws.specs.declared.leaves.WorkNode.{WorkNode}
 use Rattle.chain_laws.specs.Leaves.{lesser, least_at, named_leaf, leaf_at}
 use Rattle.chain_laws.specs.Reading.{made, read, value_at, AreWorkNodes}
 use Rattle.chain_laws.proofs.Chained.{ranked_of}
 use Rattle.chain_laws.proofs.ReadValues.{read_tokens}
-use Rattle.step_chain.specs.declared.reading.TreeFault.{TreeFault}
 use Rattle.step_chain.specs.declared.reading.TreeFault.TheVariants as fault
-use Rattle.step_chain.specs.Readings.{kept, AreNames, IsReadable, IsRead, IsReadOff, most_tokens}
+use Rattle.step_chain.specs.Readings.{kept, AreNames, IsReadable, IsReadOff, most_tokens}
 
 -- ---- the least of one work variable more
 
@@ -42,7 +39,8 @@ lesser_kept w None v = refl
 lesser_kept w (Some x) v = by_numbers w x v (nat_le w.number x.number) (nat_le x.number v.number) (nat_le w.number v.number) refl refl refl
 
 module _ (links : List Link) (e : ℕ) where
-  by_ends : (w v : WorkNode) (x y : Option WorkNode) (a b : Bool) → x ≡ cond b (Some (kept y v)) y → cond a (Some (lesser w x)) x ≡ cond b (Some (kept (cond a (Some (lesser w y)) y) v)) (cond a (Some (lesser w y)) y)
+  by_ends : (w v : WorkNode) (x y : Option WorkNode) (a b : Bool) → x ≡ cond b (Some (kept y v)) y
+      → cond a (Some (lesser w x)) x ≡ cond b (Some (kept (cond a (Some (lesser w y)) y) v)) (cond a (Some (lesser w y)) y)
   by_ends w v x y true true h = ap (λ (o : Option WorkNode). Some (lesser w o)) h ∙ ap (λ (u : WorkNode). Some u) (lesser_kept w y v)
   by_ends w v x y true false h = ap (λ (o : Option WorkNode). Some (lesser w o)) h
   by_ends w v x y false b h = h
@@ -62,7 +60,8 @@ module _ (links : List Link) (e : ℕ) where
       least_push ws v ∙ ap (λ (b : Bool). cond b (Some (kept (least_at links e ws) v)) (least_at links e ws)) other
 
 -- one work variable more is named
-pub names_more : (links : List Link) (works : List WorkNode) (n k : ℕ) (d : WorkNode) (names : List (Option WorkNode)) (end : ℕ) (o : Option WorkNode) (v : WorkNode) → k < length works → end ≡ end_of links (get_or works k d).node → end < n → o ≡ get_or names end o → v ≡ kept o (get_or works k d)
+pub names_more : (links : List Link) (works : List WorkNode) (n k : ℕ) (d : WorkNode) (names : List (Option WorkNode)) (end : ℕ) (o : Option WorkNode) (v : WorkNode) → k < length works
+    → end ≡ end_of links (get_or works k d).node → end < n → o ≡ get_or names end o → v ≡ kept o (get_or works k d)
     → AreNames links (take k works) n names → AreNames links (take (k + 1) works) n (set names end (Some v))
 names_more links works n k d names end o v below ends inside was e' h =
     let w = get_or works k d in
@@ -76,7 +75,8 @@ names_more links works n k d names end o v below ends inside was e' h =
             let there : end_of links w.node ≡ i = sym ends ∙ sym at in
             let count = h.count in
             let here : get_or (set names end (Some v)) end None ≡ Some v = get_or-set_same names end (Some v) None (omega (arith, inside, count)) in
-            ap (λ (j : ℕ). get_or (set names end (Some v)) j None) at ∙ here ∙ ap (λ (x : WorkNode). Some x) (e ∙ ap (λ (o : Option WorkNode). kept o w) (h.each end inside ∙ ap (λ (j : ℕ). least_at links j (take k works)) (sym at)))
+            ap (λ (j : ℕ). get_or (set names end (Some v)) j None) at ∙ here ∙ ap (λ (x : WorkNode). Some x) (e ∙ ap (λ (o : Option WorkNode). kept o w) (h.each end inside
+            ∙ ap (λ (j : ℕ). least_at links j (take k works)) (sym at)))
             ∙ sym (least_there links i (take k works) w there)
         | inr past ↦
             get_or-set_other names end i (Some v) None past ∙ h.each i l ∙ sym (least_elsewhere links i (take k works) w (λ (t : end_of links w.node ≡ i). past (sym t ∙ sym ends)))
@@ -130,10 +130,12 @@ module _ (nodes : List Term) (links : List Link) (works : List WorkNode) where
     pub read_Var : (s : Sym) (c : Typecode) → shape_of (term_at nodes end) ≡ shape.Var s c → tree.Var s c ≡ read nodes links leaf depth i
     read_Var s c is = sym (whole ∙ made_Var end (below depth) (term_at nodes end) s c is)
 
-    pub read_Free : (c : Typecode) (names : List (Option WorkNode)) (t : Tree) → shape_of (term_at nodes end) ≡ shape.Free c → AreNames links works (length nodes) names → end < length nodes → t ≡ named_leaf end c (get_or names end None) → t ≡ read nodes links leaf depth i
+    pub read_Free : (c : Typecode) (names : List (Option WorkNode)) (t : Tree) → shape_of (term_at nodes end) ≡ shape.Free c → AreNames links works (length nodes) names → end < length nodes
+        → t ≡ named_leaf end c (get_or names end None) → t ≡ read nodes links leaf depth i
     read_Free c names t is h inside e = e ∙ ap (named_leaf end c) (h.each end inside) ∙ sym (whole ∙ made_Free end (below depth) (term_at nodes end) c is)
 
-    pub read_Node : (l : Label) (c : Typecode) (n k : ℕ) (ts items : List Tree) → shape_of (term_at nodes end) ≡ shape.Node l c n → n ≤ k → items ≡ map (λ (id : Id). below depth id.0) (take k (children_of (term_at nodes end))) → ts ≡ items → tree.Node l c ts ≡ read nodes links leaf depth i
+    pub read_Node : (l : Label) (c : Typecode) (n k : ℕ) (ts items : List Tree) → shape_of (term_at nodes end) ≡ shape.Node l c n → n ≤ k
+        → items ≡ map (λ (id : Id). below depth id.0) (take k (children_of (term_at nodes end))) → ts ≡ items → tree.Node l c ts ≡ read nodes links leaf depth i
     read_Node l c n k ts items is past e same =
         let kids = children_of (term_at nodes end) in
         let count = made_count (term_at nodes end) l c n is in
@@ -141,11 +143,13 @@ module _ (nodes : List Term) (links : List Link) (works : List WorkNode) where
         ap (λ xs. tree.Node l c xs) (same ∙ e ∙ ap (map (λ (id : Id). below depth id.0)) all) ∙ sym (whole ∙ made_Node end (below depth) (term_at nodes end) l c n is)
 
     -- one child more
-    pub child_more : (k : ℕ) (child : Id) (old new : List Tree) (t : Tree) → slice_get (children_of (term_at nodes end)) k ≡ Some child → t ≡ below depth child.0 → new ≡ old ++ t ∷ [] → old ≡ map (λ (id : Id). below depth id.0) (take k (children_of (term_at nodes end)))
+    pub child_more : (k : ℕ) (child : Id) (old new : List Tree) (t : Tree) → slice_get (children_of (term_at nodes end)) k ≡ Some child → t ≡ below depth child.0 → new ≡ old ++ t ∷ []
+        → old ≡ map (λ (id : Id). below depth id.0) (take k (children_of (term_at nodes end)))
         → new ≡ map (λ (id : Id). below depth id.0) (take (k + 1) (children_of (term_at nodes end)))
     child_more k child old new t at is e h =
         let kids = children_of (term_at nodes end) in
-        e ∙ ap (λ (ts : List Tree). ts ++ t ∷ []) h ∙ ap (λ (x : Tree). map (λ (id : Id). below depth id.0) (take k kids) ++ x ∷ []) is ∙ sym (ap (map (λ (id : Id). below depth id.0)) (taken kids k child at) ∙ map_push (λ (id : Id). below depth id.0) (take k kids) child)
+        e ∙ ap (λ (ts : List Tree). ts ++ t ∷ []) h ∙ ap (λ (x : Tree). map (λ (id : Id). below depth id.0) (take k kids) ++ x ∷ []) is
+        ∙ sym (ap (map (λ (id : Id). below depth id.0)) (taken kids k child at) ∙ map_push (λ (id : Id). below depth id.0) (take k kids) child)
       where
         taken : (xs : List Id) (j : ℕ) (x : Id) → slice_get xs j ≡ Some x → take (j + 1) xs ≡ take j xs ++ x ∷ []
         taken [] j x e = let impossible : ◌≡◌ {A = Option Id} None (Some x) = e in absurd (cc)
@@ -157,9 +161,11 @@ module _ (nodes : List Term) (links : List Link) (works : List WorkNode) where
 one_more_token : (s t : ℕ) → s ≡ saturated t → min (s + 1) (2 ^ 64 - 1) ≡ saturated (t + 1)
 one_more_token s t e = omega (arith, e)
 
-module _ (nodes : List Term) (links : List Link) (works : List WorkNode) (names : List (Option WorkNode)) (sizes : List ℕ) (store : IsStore nodes links) (h : IsReadable nodes links works names sizes) (i n : ℕ) (inside : i < length nodes) (is : n ≡ min (size_at sizes i + 1) (2 ^ 64 - 1)) where
+module _ (nodes : List Term) (links : List Link) (works : List WorkNode) (names : List (Option WorkNode)) (sizes : List ℕ) (store : IsStore nodes links)
+    (h : IsReadable nodes links works names sizes) (i n : ℕ) (inside : i < length nodes) (is : n ≡ min (size_at sizes i + 1) (2 ^ 64 - 1)) where
   tokens_are : (constants : Label → ℕ) → HaveConstants constants nodes → AreWorkNodes nodes works → n ≡ saturated (tokens constants (value_at nodes links works i) + 1)
-  tokens_are constants have own = is ∙ one_more_token (size_at sizes i) (tokens constants (value_at nodes links works i)) (read_tokens nodes links works store h.solved own constants sizes i have h.sizes_are inside)
+  tokens_are constants have own = is ∙ one_more_token (size_at sizes i) (tokens constants (value_at nodes links works i))
+      (read_tokens nodes links works store h.solved own constants sizes i have h.sizes_are inside)
 
   pub read_long : most_tokens < n → IsReadOff nodes links works i (Err (fault.TooLong n))
   read_long more constants have own = (tokens_are constants have own, more)

@@ -1,5 +1,5 @@
 -- What the store has after some steps were pushed.
-use Rattle.std.specs.Prelude.{◌≡◌, ℕ, ◌<◌, List, length, map, take, Contains, slice_get, Option, Some}
+use Rattle.std.specs.Prelude.{◌≡◌, ℕ, ◌<◌, ◌≤◌, List, length, map, take, Contains, slice_get, Option, Some}
 use Rattle.std.specs.List.{AllByRecursion, AllZip}
 use Rattle.mm_base.specs.declared.kinds.Kinds.{Kinds}
 use Rattle.mm_base.specs.declared.symbols.Typecode.{Typecode}
@@ -29,6 +29,7 @@ use Rattle.step_chain.specs.declared.judged.Pushed.{Pushed}
 use Rattle.step_chain.specs.Standings.{usable_in}
 use Rattle.step_chain.specs.Ordered.{formula_at}
 use Rattle.step_chain.specs.Grown.{AreIdsIn, AreVariablesIn, AreWorksIn}
+use Rattle.step_chain.specs.Sizes.{size_of_front}
 use Rattle.step_chain.specs.Steps.{judgements_from}
 
 -- the nodes that are kept of an accepted step are those of its `$e` and of its copies of variables
@@ -63,6 +64,7 @@ pub record IsLevel (db : Database) (d : Opened) (bound : Bound) (works : List Wo
   pub each : AreEachJudged db bound (judgements_from d bound 0 steps)
   pub kept : (i : ℕ) (p : Pushed) (x : Accepted) → slice_get steps i ≡ Some p → p.judged ≡ Fits x → IsKeptStep d nodes layout i x
   pub constants : HaveConstants (constants_in d.rows) nodes
+  pub few : length nodes ≤ size_of_front db bound (length steps)
 
 -- the nodes that are kept are nodes of the store
 abbrev pub IsKeptIn : ℕ → Judged → Type 0

@@ -12,5 +12,7 @@ pub mod Held
 pub mod Works
 pub mod Formulas
 pub mod Readings
+pub mod Sizes
 pub mod Values
+pub mod Constants
 pub mod Answers

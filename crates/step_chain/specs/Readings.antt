@@ -1,10 +1,10 @@
 -- What is kept to read trees off a store.
-use Rattle.std.specs.Prelude.{◌≡◌, ℕ, ◌+◌, ◌<◌, ◌≤◌, ◌==◌, nat_le, List, [], ◌∷◌, length, slice_index_or, if◌then◌else◌, Option, Some, None, Result, Ok, Err}
+use Rattle.std.specs.Prelude.{◌≡◌, ℕ, ◌+◌, ◌<◌, ◌≤◌, nat_le, List, length, slice_index_or, if◌then◌else◌, Option, Some, None, Result, Ok, Err}
 use Rattle.mm_base.specs.declared.symbols.Label.{Label}
 use Rattle.mm_base.specs.declared.tree.Tree.{Tree}
 use Rattle.term_model.specs.Terms.{Term}
-use Rattle.term_model.specs.Links.{Link, end_of}
-use Rattle.term_model.specs.Store.{IsStore, IsSolved}
+use Rattle.term_model.specs.Links.{Link}
+use Rattle.term_model.specs.Store.{IsSolved}
 use Rattle.term_model.specs.Sizes.{saturated, tokens, HaveConstants, AreTreeSizes}
 use Rattle.chain_laws.specs.declared.leaves.WorkNode.{WorkNode}
 use Rattle.chain_laws.specs.Leaves.{least_at}

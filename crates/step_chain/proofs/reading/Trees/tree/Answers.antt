@@ -1,4 +1,4 @@
-use Rattle.std.proofs.Common.{◌<◌, ℕ, ◌+◌, ◌-◌, ◌^◌, length, min, List, sym, ap, subst, ◌∙◌, Ok, Err, arith}
+use Rattle.std.proofs.Common.{◌<◌, ℕ, ◌+◌, ◌-◌, ◌^◌, length, min, List, sym, ap, subst, ◌∙◌, Ok, Err}
 use Rattle.term_model.specs.Sizes.{size_at}
 use Rattle.chain_laws.specs.Leaves.{leaf_at}
 use Rattle.chain_laws.specs.Reading.{read}
