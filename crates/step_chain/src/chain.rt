@@ -94,6 +94,7 @@ impl<'a> Chain<'a> {
     ghost use Rattle.solve_model.specs.Verdicts as verdicts;
     ghost use Rattle.solve_model.specs.Verdicts.{AreJudged};
     ghost use Rattle.solve_model.specs.MostGeneral.{IsTheValuation};
+    ghost use Rattle.solve_model.specs.Bound.{work_size};
     ghost use Rattle.step_chain.specs.Steps.{ArePlaced, step_at};
     ghost use Rattle.solve_model.specs.Solutions.{Asked};
     ghost use Rattle.step_chain.specs.Ordered.{formula_at, reordered};
@@ -129,12 +130,14 @@ impl<'a> Chain<'a> {
     }
 
     /// How many steps were pushed. Each is judged by those that were accepted before it, and the chain stands for the most
-    /// general valuation of those that are accepted. It takes constant time.
+    /// general valuation of those that are accepted. Its store has no more nodes than the work size counts. It takes constant
+    /// time.
     pub fn pushed(&self) -> u32
         ensures count { result ≡ length (judgements_of self.now) }
         ensures judged { OfEachBook self.now (λ db. length (judgements_of self.now) ≡ length self.now.bound.steps
             → AreJudged db self.now.bound (judgements_of self.now)) }
         ensures valuation { OfEachBook self.now (λ db. IsTheValuation db self.now.bound (verdicts.accepted_in (judgements_of self.now)) (value_of self.now)) }
+        ensures few { OfEachBook self.now (λ db. length self.now.nodes ≤ work_size db self.now.bound) }
     {
         count(self.steps.as_slice()) as u32
     }
