@@ -79,7 +79,8 @@ module _ (nodes : List Term) (links : List Link) (works : List WorkNode) (store 
   unfolding general_trees
   read_tree i h = tree_is nodes links leaf at store is_made codes solved.closed i h
 
-  free_tokens : (constants : Label → ℕ) (i : ℕ) (e : Term) → i < length nodes → target_of links i ≡ None → term_at nodes i ≡ e → is_free e ≡ true → tokens constants (tree_at (store_trees nodes links works) i) ≡ 1
+  free_tokens : (constants : Label → ℕ) (i : ℕ) (e : Term) → i < length nodes → target_of links i ≡ None → term_at nodes i ≡ e → is_free e ≡ true
+      → tokens constants (tree_at (store_trees nodes links works) i) ≡ 1
   free_tokens constants i (Var s c) h u is f = absurd (cc)
   free_tokens constants i (Free c) h u is f =
       let tree_here : at i ≡ leaf i c = is_made.each i h ∙ ap (λ (k : ℕ). made leaf k at (term_at nodes k)) (end_of_unbound links i u) ∙ ap (made leaf i at) is in
@@ -87,7 +88,8 @@ module _ (nodes : List Term) (links : List Link) (works : List WorkNode) (store 
   free_tokens constants i (Node l c k kids) h u is f = absurd (cc)
 
   -- the sizes of the nodes are the tokens of the trees that are read
-  pub read_tokens : (constants : Label → ℕ) (sizes : List ℕ) (i : ℕ) → HaveConstants constants nodes → AreTreeSizes nodes links sizes → i < length nodes → size_at sizes i ≡ saturated (tokens constants (value_at nodes links works i))
+  pub read_tokens : (constants : Label → ℕ) (sizes : List ℕ) (i : ℕ) → HaveConstants constants nodes → AreTreeSizes nodes links sizes → i < length nodes
+      → size_at sizes i ≡ saturated (tokens constants (value_at nodes links works i))
   read_tokens constants sizes i have sized h =
       sized constants (store_trees nodes links works) have (record { solves = read_solution; leaves = λ k below u f. free_tokens constants k (term_at nodes k) below u refl f }) i h
       ∙ ap (λ (t : Tree). saturated (tokens constants t)) (read_tree i h)

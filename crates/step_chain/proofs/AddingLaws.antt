@@ -1,8 +1,7 @@
 -- Laws of the nodes that trees add.
 use Rattle.std.specs.Prelude.{◌≡◌, ℕ, ◌<◌, ◌≤◌, ◌+◌, List, [], ◌∷◌, ◌++◌, length, map, take, Option, Some, None, find, option_map, Bool, true, false, refl, Result, Ok, Err, IfOk, OnOk}
-use Rattle.std.specs.List.{AllByRecursion}
 use Rattle.std.specs.Option.{ForSome}
-use Rattle.std.proofs.Common.{zero, suc, sym, ap, subst, ◌∙◌, arith, cond, get_or}
+use Rattle.std.proofs.Common.{sym, ap, subst, ◌∙◌, arith, cond, get_or}
 use Rattle.std.proofs.lemmas.List.{append_assoc, length-append, take_more, take_all, map_push}
 use Rattle.mm_base.specs.declared.errors.Memory.{Memory}
 use Rattle.mm_base.specs.declared.symbols.Sym.{Sym}
@@ -14,10 +13,10 @@ use Rattle.mm_base.proofs.TreeFolds.{fold-Var, fold-Work, fold-Fresh, fold-Node}
 use Rattle.mm_model.specs.declared.rows.Production.{Production}
 use Rattle.term_model.specs.declared.shape.Id.{Id}
 use Rattle.term_model.specs.Terms.{Term, Var, Free, Node}
-use Rattle.term_model.specs.Store.{Store, IsSolved, with_node}
+use Rattle.term_model.specs.Store.{Store, with_node}
 use Rattle.chain_laws.specs.declared.leaves.WorkNode.{WorkNode}
 use Rattle.chain_laws.specs.declared.leaves.VariableNode.{VariableNode}
-use Rattle.chain_laws.specs.Adding.{Rooted, Listed, Adder, run, id_of, first_then, put, there_or, is_work, work_at, is_variable, variable_at, constants_in, with_production, layer_adder, added}
+use Rattle.chain_laws.specs.Adding.{Rooted, Adder, run, id_of, put, there_or, work_at, variable_at, constants_in, with_production, layer_adder, added}
 use Rattle.step_chain.specs.Grown.{IsGrown, IsRooted, AreListed, AreWorksIn, AreVariablesIn, AreIdsIn}
 
 module _ (rows : List Production) (works : List WorkNode) (vars : List VariableNode) where

@@ -1,8 +1,8 @@
 -- A candidate of the next step, taken into the store.
-use Rattle.std.specs.Prelude.{◌≡◌, ℕ, ◌<◌, ◌≤◌, ◌+◌, Bool, true, false, List, [], ◌∷◌, ◌++◌, length, map, slice_get, Contains, Option, Some, None, option_map, refl}
+use Rattle.std.specs.Prelude.{◌≡◌, ℕ, ◌<◌, ◌≤◌, ◌+◌, Bool, true, false, List, [], ◌∷◌, ◌++◌, length, map, find, slice_get, Contains, Option, Some, None, option_map, sum, refl}
 use Rattle.std.specs.List.{AllByRecursion, AllZip, flat_map, range_with_len}
 use Rattle.std.proofs.Common.{zero, suc, get_or, sym, ap, subst, ◌∙◌, arith, cond}
-use Rattle.std.proofs.lemmas.List.{length-map}
+use Rattle.std.proofs.lemmas.List.{length-map, length_push}
 use Rattle.std.proofs.lemmas.Option.{slice_get_within, get_or_from_slice_get, slice_get-get_or}
 use Rattle.mm_base.specs.declared.symbols.Sym.{Sym}
 use Rattle.mm_base.specs.declared.symbols.Label.{Label}
@@ -10,6 +10,7 @@ use Rattle.mm_base.specs.declared.symbols.Typecode.{Typecode}
 use Rattle.mm_base.specs.declared.tree.Tree.{Tree}
 use Rattle.mm_model.specs.declared.rows.Production.{Production}
 use Rattle.mm_model.specs.Productions.{TypedVariable, typed_variables}
+use Rattle.mm_model.specs.Sizes.{nodes}
 use Rattle.mm_model.specs.Book.{Database, Assertion, IsUsable, position_of}
 use Rattle.mm_model.specs.BookFacts.{IsDatabase, VariablesDiffer}
 use Rattle.mm_database.specs.Opened.{Opened}
@@ -17,7 +18,7 @@ use Rattle.sheet_text.specs.declared.sheet.Given.{Given}
 use Rattle.solve_model.specs.declared.bound.BoundStep.{BoundStep}
 use Rattle.solve_model.specs.declared.bound.Bound.{Bound}
 use Rattle.solve_model.specs.declared.verdict.Verdict.TheVariants as verdict
-use Rattle.solve_model.specs.Bound.{standing, candidate}
+use Rattle.solve_model.specs.Bound.{standing, candidate, standing_size}
 use Rattle.solve_model.specs.Firsts.{orders, picks}
 use Rattle.solve_model.specs.Solutions.{Unknown, IsUnknown, copy, Asked, orders_of, no_step}
 use Rattle.solve_model.specs.Verdicts.{accepted, stands, asked, accepted_in, IsJudgement}
@@ -28,13 +29,17 @@ use Rattle.term_model.specs.Links.{Link}
 use Rattle.term_model.specs.Store.{Store, IsStore, IsSolved}
 use Rattle.chain_laws.specs.declared.leaves.WorkNode.{WorkNode}
 use Rattle.chain_laws.specs.declared.leaves.VariableNode.{VariableNode}
-use Rattle.chain_laws.specs.Adding.{Listed, numbered, AreApart, variable_at}
+use Rattle.term_model.specs.Sizes.{HaveConstants}
+use Rattle.chain_laws.specs.Adding.{Listed, constants_in, numbered, AreApart, is_variable, variable_at}
 use Rattle.chain_laws.specs.Layout.{Layout, IsReadyAsked, IsSoundAsked, HasRoom, IsChained, AreFormulaNodes, AreCandidateNodes, IsInstanceNode}
-use Rattle.chain_laws.proofs.Copies.{with_copies, kept_node, copied_is, found, variable_with}
+use Rattle.chain_laws.proofs.Copies.{with_copies, kept_node, copied_is, found, variable_with, same_variable, self_variable}
+use Rattle.again_laws.specs.Whole.{IsWhole}
 use Rattle.step_chain.specs.declared.judged.Accepted.{Accepted}
 use Rattle.step_chain.specs.declared.judged.Judged.{Judged}
 use Rattle.step_chain.specs.declared.judged.Judged.TheVariants.{Stands, Fits}
 use Rattle.step_chain.specs.declared.judged.Pushed.{Pushed}
+use Rattle.step_chain.specs.Sizes.{size_of_front}
+use Rattle.step_chain.proofs.CountLaws.{candidate_few, front_more}
 use Rattle.step_chain.specs.Candidate.{table_of, root_of, roots_of}
 use Rattle.step_chain.specs.Standings.{usable_in, IsBookOf, IsCandidateOf}
 use Rattle.step_chain.specs.Ordered.{formula_at, reordered, may_reorder, tried}
@@ -43,6 +48,7 @@ use Rattle.step_chain.specs.Steps.{IsPlaced, ArePlaced, step_at, asked_by, judge
 use Rattle.step_chain.specs.Levels.{IsLevel, AreKeptNodes}
 use Rattle.step_chain.specs.Accepted.{IsKeptOf, IsTakenAs, order_of}
 use Rattle.step_chain.proofs.Lists.{all_at}
+use Rattle.step_chain.proofs.ConstantLaws.{candidate_have}
 use Rattle.step_chain.proofs.OrderLaws.{reordered_inside}
 use Rattle.step_chain.proofs.JudgedLaws.{tried_orders, slice_mapped, Mapped}
 use Rattle.step_chain.proofs.TakenLaws.{judged, roots, roots_same, ready_formulas, ready_nodes, taken_judged, taken_chain, own_tried}
@@ -112,9 +118,36 @@ variables_of : (n : ℕ) (vs : List TypedVariable) → map (λ (w : VariableNode
 variables_of n [] = refl
 variables_of n (v ∷ vs) = ap (λ (ws : List TypedVariable). v ∷ ws) (variables_of (n + 1) vs)
 
+-- of variables that are apart each is found at its own node
+numbered_has : (n : ℕ) (vs : List TypedVariable) (w : VariableNode) → Contains (numbered n vs) w → Contains vs (record { sym = w.sym; code = w.code }) × (n ≤ w.node)
+numbered_has n [] w (k, l, e) = absurd (omega (arith, l))
+numbered_has n (v ∷ vs) w (zero, l, e) = ((0, omega arith, ap (λ (x : VariableNode). record { sym = x.sym; code = x.code }) e), let node : n ≡ w.node = ap (λ (x : VariableNode). x.node) e in omega (arith, node))
+numbered_has n (v ∷ vs) w (suc k, l, e) =
+    let told = numbered_has (n + 1) vs w (k, omega (arith, l), e) in
+    let more = told.1 in
+    ((suc told.0.0, omega (arith, told.0.1), told.0.2), omega (arith, more))
+
+own_by : (n : ℕ) (v : TypedVariable) (vs : List TypedVariable) (w : VariableNode) (b : Bool) → is_variable w.sym w.code (record { sym = v.sym; code = v.code; node = n }) ≡ b → (v ∷ vs ≡ v ∷ vs)
+    → (b ≡ false → option_map (λ (x : VariableNode). x.node) (find (is_variable w.sym w.code) (numbered (n + 1) vs)) ≡ Some w.node) → (b ≡ true → n ≡ w.node)
+    → option_map (λ (x : VariableNode). x.node) (cond b (Some (record { sym = v.sym; code = v.code; node = n })) (find (is_variable w.sym w.code) (numbered (n + 1) vs))) ≡ Some w.node
+own_by n v vs w true e s rest here = ap (λ (k : ℕ). Some k) (here refl)
+own_by n v vs w false e s rest here = rest refl
+
+own_found : (n : ℕ) (vs : List TypedVariable) → AreApart vs → (w : VariableNode) → Contains (numbered n vs) w → variable_at (numbered n vs) w.sym w.code ≡ Some w.node
+own_found n [] apart w (k, l, e) = absurd (omega (arith, l))
+own_found n (v ∷ vs) apart w (zero, l, e) =
+    let self : is_variable w.sym w.code (record { sym = v.sym; code = v.code; node = n }) ≡ true = subst (λ (x : VariableNode). is_variable x.sym x.code (record { sym = v.sym; code = v.code; node = n }) ≡ true) e (self_variable v.sym v.code n) in
+    own_by n v vs w (is_variable w.sym w.code (record { sym = v.sym; code = v.code; node = n })) refl refl
+    (λ no. let impossible : false ≡ true = sym no ∙ self in absurd (cc)) (λ yes. ap (λ (x : VariableNode). x.node) e)
+own_found n (v ∷ vs) apart w (suc k, l, e) =
+    let later : Contains (numbered (n + 1) vs) w = (k, omega (arith, l), e) in
+    own_by n v vs w (is_variable w.sym w.code (record { sym = v.sym; code = v.code; node = n })) refl refl
+    (λ no. own_found (n + 1) vs apart.1 w later)
+    (λ yes. absurd (apart.0 (subst (Contains vs) (sym (same_variable w.sym w.code (record { sym = v.sym; code = v.code; node = n }) yes)) (numbered_has (n + 1) vs w later).0)))
+
 -- ---- the next step
 
-module _ (db : Database) (d : Opened) (book : IsBookOf db d) (facts : IsDatabase db) (bound : Bound) (placed : ArePlaced bound) (ready_of : (x : Asked) → IsCandidate db bound x → IsReadyAsked db bound x)
+module _ (db : Database) (d : Opened) (book : IsBookOf db d) (facts : IsDatabase db) (whole : (b : Assertion) → db.usable b.label ≡ Some b → IsWhole b) (bound : Bound) (placed : ArePlaced bound) (ready_of : (x : Asked) → IsCandidate db bound x → IsReadyAsked db bound x)
     (works : List WorkNode) (formulas : List Id) (steps : List Pushed) (p : Pushed) (old new : Store) (level : IsLevel db d bound works formulas steps old.nodes old.links)
     (s : BoundStep) (at : slice_get bound.steps (length steps) ≡ Some s) (l : Label) (is : IsCandidateOf db d bound.place s l) where
   abbrev i : ℕ
@@ -256,13 +289,29 @@ module _ (db : Database) (d : Opened) (book : IsBookOf db d) (facts : IsDatabase
       copies = λ v o.
           ap (λ (vs : List VariableNode). variable_at vs v.sym v.code) variables_are ∙ (found (length old.nodes) a.vars v.sym v.code o).node
           ∙ ap (λ (k : ℕ). Some k) (sym (copied_is db bound before i a s.places old.nodes lay level.chained.laid_out apart own_fresh v.sym v.code o));
+      found = λ w c.
+          subst (λ (vs : List VariableNode). variable_at vs w.sym w.code ≡ Some w.node) (sym variables_are)
+          (own_found (length old.nodes) a.vars apart w (subst (λ (vs : List VariableNode). Contains vs w) variables_are c));
       order = ap (map (λ (w : VariableNode). record { sym = w.sym; code = w.code })) variables_are ∙ variables_of (length old.nodes) a.vars;
     }
 
     judged_now : (t : BoundStep) → slice_get bound.steps i ≡ Some t → IsJudgement db bound before i t (standing db bound.place t) (accepted (asked_by bound i x a))
     judged_now t f = subst (λ (y : Asked). IsJudgement db bound before i t (standing db bound.place t) (accepted y)) own_asked (last_of (Some x.order) (is_judged (Some x.order) h.taken) t f)
 
+    constants : HaveConstants (constants_in d.rows) (old.nodes ++ more)
+    constants = subst (HaveConstants (constants_in d.rows)) (sym h.taken.nodes ∙ longer) (candidate_have d.rows old.nodes a.frame.hyps a.tree a.hyps level.constants)
+
+    few : length (old.nodes ++ more) ≤ size_of_front db bound (length (steps ++ p ∷ []))
+    few =
+        let added = candidate_few d.rows old.nodes a usable.vars apart own_ready.sound.tree own_ready.sound.hyps (whole a usable_db).all_stand in
+        let same : length (old.nodes ++ more) ≡ length (roots_of d.rows old.nodes a.frame.hyps a.tree a.hyps).nodes = ap length (sym longer ∙ h.taken.nodes) in
+        let before_this = level.few in
+        let next_size = front_more db bound i s at in
+        let own_size : standing_size (standing db bound.place s) ≡ nodes a.tree + sum (map nodes a.hyps) = ap standing_size is.standing in
+        let long = ap (size_of_front db bound) (length_push steps p) in
+        omega (arith, added, same, before_this, next_size, own_size, long)
+
     pub level_accepted : IsLevel db d bound works formulas (steps ++ p ∷ []) new.nodes new.links
     level_accepted =
         subst (λ (ks : List Term). IsLevel db d bound works formulas (steps ++ p ∷ []) ks new.links) (sym longer)
-        (level_fits db d bound works formulas steps p old.nodes old.links level more new.links lay'' x a e own_usable same_node refl chained formulas_now kept_now judged_now)
+        (level_fits db d bound works formulas steps p old.nodes old.links level more new.links lay'' x a e own_usable same_node refl chained formulas_now kept_now constants few judged_now)

@@ -1,8 +1,8 @@
 -- The variables of hypotheses, one after the other.
-use Rattle.std.specs.Prelude.{◌≡◌, ℕ, ◌<◌, ◌≤◌, ◌+◌, Bool, true, false, List, [], ◌∷◌, ◌++◌, length, map, take, filter, refl}
+use Rattle.std.specs.Prelude.{◌≡◌, ℕ, ◌<◌, ◌≤◌, ◌+◌, Bool, true, false, List, [], ◌∷◌, ◌++◌, length, map, take, refl}
 use Rattle.std.specs.List.{AllByRecursion, flat_map}
-use Rattle.std.proofs.Common.{zero, suc, get_or, sym, ap, subst, ◌∙◌, arith, cond}
-use Rattle.std.proofs.lemmas.List.{append_assoc, length-map, length-append, take_more, map_push, append-nil}
+use Rattle.std.proofs.Common.{get_or, sym, ap, subst, ◌∙◌, arith, cond}
+use Rattle.std.proofs.lemmas.List.{append_assoc, length-map, length-append, take_more, append-nil}
 use Rattle.mm_model.specs.declared.frames.Hyp.{Hyp}
 use Rattle.mm_model.specs.Productions.{TypedVariable, typed_by, typed_variables, floats}
 use Rattle.term_model.specs.Terms.{Term, Free}

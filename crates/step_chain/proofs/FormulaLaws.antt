@@ -29,15 +29,18 @@ with_tree b t = with_leaves b (open_leaves t)
 with_trees : (b : Begun) (ts : List Tree) → with_leaves b (flatten (map open_leaves ts)) ≡ fold with_tree b ts
 with_trees b [] = refl
 with_trees b (t ∷ ts) =
-    ap (with_leaves b) (flat_map-cons (λ (xs : List Open). xs) (open_leaves t) (map open_leaves ts)) ∙ fold-append with_leaf b (open_leaves t) (flatten (map open_leaves ts)) ∙ with_trees (with_tree b t) ts
+    ap (with_leaves b) (flat_map-cons (λ (xs : List Open). xs) (open_leaves t) (map open_leaves ts)) ∙ fold-append with_leaf b (open_leaves t) (flatten (map open_leaves ts))
+    ∙ with_trees (with_tree b t) ts
 
 -- one tree more
-pub tree_more : (b : Begun) (ts : List Tree) (i : ℕ) (t : Tree) (now after : Begun) → i < length ts → t ≡ get_or ts i t → now ≡ fold with_tree b (take i ts) → after ≡ with_leaves now (open_leaves t) → after ≡ fold with_tree b (take (i + 1) ts)
+pub tree_more : (b : Begun) (ts : List Tree) (i : ℕ) (t : Tree) (now after : Begun) → i < length ts → t ≡ get_or ts i t → now ≡ fold with_tree b (take i ts)
+    → after ≡ with_leaves now (open_leaves t) → after ≡ fold with_tree b (take (i + 1) ts)
 tree_more b ts i t now after h is n e =
     e ∙ ap (λ x. with_leaves x (open_leaves t)) n ∙ ap (λ x. with_leaves (fold with_tree b (take i ts)) (open_leaves x)) is ∙ sym (fold_more with_tree b ts i t h)
 
 -- all trees of a production
-pub all_trees : (b : Begun) (ts us : List Tree) (xs : List Open) (i : ℕ) (now : Begun) → us ≡ ts → xs ≡ flatten (map open_leaves ts) → length us ≤ i → now ≡ fold with_tree b (take i us) → now ≡ with_leaves b xs
+pub all_trees : (b : Begun) (ts us : List Tree) (xs : List Open) (i : ℕ) (now : Begun) → us ≡ ts → xs ≡ flatten (map open_leaves ts) → length us ≤ i → now ≡ fold with_tree b (take i us)
+    → now ≡ with_leaves b xs
 all_trees b ts us xs i now same is h n =
     n ∙ ap (fold with_tree b) (take_all i us h) ∙ ap (fold with_tree b) same ∙ sym (with_trees b ts) ∙ ap (with_leaves b) (sym is)
 
@@ -47,7 +50,8 @@ ok_leaves r b after xs ys e h = subst (λ (zs : List Open). OnOk r (after ≡ wi
 -- ---- the unknowns of steps
 
 module _ (logic : Typecode) where
-  pub step_more : (b : Begun) (ss : List BoundStep) (i : ℕ) (s : BoundStep) (now after : Begun) → i < length ss → s ≡ get_or ss i s → now ≡ with_steps logic b (take i ss) → after ≡ with_formula logic now s.tree → after ≡ with_steps logic b (take (i + 1) ss)
+  pub step_more : (b : Begun) (ss : List BoundStep) (i : ℕ) (s : BoundStep) (now after : Begun) → i < length ss → s ≡ get_or ss i s → now ≡ with_steps logic b (take i ss)
+      → after ≡ with_formula logic now s.tree → after ≡ with_steps logic b (take (i + 1) ss)
   step_more b ss i s now after h is n e =
       e ∙ ap (λ x. with_step logic x s) n ∙ ap (λ x. with_step logic (with_steps logic b (take i ss)) x) is ∙ sym (fold_more (with_step logic) b ss i s h)
 
@@ -55,7 +59,8 @@ module _ (logic : Typecode) where
   blanks_push b [] s = refl
   blanks_push b (t ∷ ss) s = ap (λ (os : List (Option ℕ)). blank_node b t.tree ∷ os) (blanks_push (with_step logic b t) ss s)
 
-  pub blanks_more : (b : Begun) (ss : List BoundStep) (i : ℕ) (s : BoundStep) (now : Begun) (old new : List (Option ℕ)) (o : Option ℕ) → i < length ss → s ≡ get_or ss i s → now ≡ with_steps logic b (take i ss) → old ≡ blank_nodes logic b (take i ss)
+  pub blanks_more : (b : Begun) (ss : List BoundStep) (i : ℕ) (s : BoundStep) (now : Begun) (old new : List (Option ℕ)) (o : Option ℕ) → i < length ss → s ≡ get_or ss i s
+      → now ≡ with_steps logic b (take i ss) → old ≡ blank_nodes logic b (take i ss)
       → o ≡ blank_node now s.tree → new ≡ old ++ o ∷ [] → new ≡ blank_nodes logic b (take (i + 1) ss)
   blanks_more b ss i s now old new o h is n e a put =
       let list : take (i + 1) ss ≡ take i ss ++ s ∷ [] = take_more ss i s h ∙ ap (λ (x : BoundStep). take i ss ++ x ∷ []) (sym is) in
@@ -75,7 +80,8 @@ module _ (rows : List Production) (works : List WorkNode) (logic : Typecode) whe
   abbrev adder : Option ℕ → BoundStep → Adder
   adder o s = formula_adder rows works logic o s.tree
 
-  adders_more : (os : List (Option ℕ)) (ss : List BoundStep) (k : ℕ) (s : BoundStep) → k < length os → k < length ss → adders (take (k + 1) os) (take (k + 1) ss) ≡ adders (take k os) (take k ss) ++ adder (get_or os k None) (get_or ss k s) ∷ []
+  adders_more : (os : List (Option ℕ)) (ss : List BoundStep) (k : ℕ) (s : BoundStep) → k < length os → k < length ss
+      → adders (take (k + 1) os) (take (k + 1) ss) ≡ adders (take k os) (take k ss) ++ adder (get_or os k None) (get_or ss k s) ∷ []
   adders_more [] ss k s h g = absurd (omega (arith, h))
   adders_more (p ∷ os) [] k s h g = absurd (omega (arith, g))
   adders_more (p ∷ os) (t ∷ ss) zero s h g = refl
@@ -97,7 +103,8 @@ module _ (rows : List Production) (works : List WorkNode) (logic : Typecode) whe
             ∙ sym (run_roots fs f nodes0) ∙ ap (λ (xs : List Adder). (run xs nodes0).roots) (sym list);
       }
 
-  pub all_formulas : (nodes0 nodes : List Term) (os : List (Option ℕ)) (ss : List BoundStep) (k : ℕ) (ids : List Id) → length os ≤ k → length ss ≤ k → AreListed (run (adders (take k os) (take k ss)) nodes0) nodes ids → AreListed (run (adders os ss) nodes0) nodes ids
+  pub all_formulas : (nodes0 nodes : List Term) (os : List (Option ℕ)) (ss : List BoundStep) (k : ℕ) (ids : List Id) → length os ≤ k → length ss ≤ k
+      → AreListed (run (adders (take k os) (take k ss)) nodes0) nodes ids → AreListed (run (adders os ss) nodes0) nodes ids
   all_formulas nodes0 nodes os ss k ids h g l =
       let list : adders (take k os) (take k ss) ≡ adders os ss = ap (λ (xs : List (Option ℕ)). adders xs (take k ss)) (take_all k os h) ∙ ap (adders os) (take_all k ss g) in
       subst (λ (fs : List Adder). AreListed (run fs nodes0) nodes ids) list l
@@ -130,7 +137,11 @@ work_push n m (x ∷ ws) w h g a = (omega (arith, a.0, h), work_push n m ws w h 
 work_within : (b : Begun) (c : Typecode) (n : ℕ) (o : Option ℕ) → IsWithin b (with_work b c n o)
 work_within b c n None =
     let long : length (b.nodes ++ Free c ∷ []) ≡ length b.nodes + 1 = length-append b.nodes (Free c ∷ []) in
-    record { longer = omega (arith, long); works = work_push (length b.nodes) (length (b.nodes ++ Free c ∷ [])) b.works (record { code = c; number = n; node = length b.nodes }) (omega (arith, long)) (omega (arith, long)) }
+    record {
+      longer = omega (arith, long);
+      works = work_push (length b.nodes) (length (b.nodes ++ Free c ∷ [])) b.works (record { code = c; number = n; node = length b.nodes }) (omega
+          (arith, long)) (omega (arith, long));
+    }
 work_within b c n (Some i) = record { longer = omega arith; works = λ w. w }
 
 leaf_within : (b : Begun) (x : Open) → IsWithin b (with_leaf b x)
@@ -185,7 +196,8 @@ module _ (logic : Typecode) where
     blanks_are os given e g = g ∙ e ∙ ap (λ (b : Begun). blank_nodes logic b ss) start
 
     pub blanks_are_in : (given : List (Option ℕ)) → given ≡ blank_nodes logic nothing_begun ss → AllByRecursion (IsBlankIn (length new.nodes)) given
-    blanks_are_in given e = subst (AllByRecursion (IsBlankIn (length new.nodes))) (sym e) (blanks_in nothing_begun ss (length new.nodes) (let same : length new.nodes ≡ length (unknowns_of logic ss).nodes = ap (λ (b : Begun). length b.nodes) unknowns_are in omega (arith, same)))
+    blanks_are_in given e = subst (AllByRecursion (IsBlankIn (length new.nodes))) (sym e) (blanks_in nothing_begun ss (length new.nodes) (let same : length new.nodes ≡ length
+        (unknowns_of logic ss).nodes = ap (λ (b : Begun). length b.nodes) unknowns_are in omega (arith, same)))
 
     pub blanks_are_many : (given : List (Option ℕ)) → given ≡ blank_nodes logic nothing_begun ss → length given ≡ length ss
     blanks_are_many given e = ap length e ∙ blanks_count logic nothing_begun ss
@@ -194,7 +206,8 @@ module _ (logic : Typecode) where
         → AreListed (run (formula_adders rows works' logic given ss) new.nodes) after ids → AreFormulas rows logic ss after listed ids
     formulas_are rows given after listed ids e w l =
         let same : run (formula_adders rows works' logic given ss) new.nodes ≡ formulas_of rows logic ss =
-        ap (λ (os : List (Option ℕ)). run (formula_adders rows works' logic os ss) new.nodes) e ∙ ap (λ (b : Begun). run (formula_adders rows b.works logic (blank_nodes logic nothing_begun ss) ss) b.nodes) unknowns_are in
+        ap (λ (os : List (Option ℕ)). run (formula_adders rows works' logic os ss) new.nodes) e
+        ∙ ap (λ (b : Begun). run (formula_adders rows b.works logic (blank_nodes logic nothing_begun ss) ss) b.nodes) unknowns_are in
         record {
           nodes_are = l.nodes_are ∙ ap (λ (x : Listed). x.nodes) same;
           works_are = w ∙ ap (λ (b : Begun). b.works) unknowns_are;
@@ -202,7 +215,8 @@ module _ (logic : Typecode) where
         }
 
 -- the nodes of a list of formulas
-pub listed_count : (rows : List Production) (works : List WorkNode) (logic : Typecode) (os : List (Option ℕ)) (ss : List BoundStep) (nodes0 nodes : List Term) (ids : List Id) → length os ≡ length ss → AreListed (run (formula_adders rows works logic os ss) nodes0) nodes ids → length ids ≡ length ss
+pub listed_count : (rows : List Production) (works : List WorkNode) (logic : Typecode) (os : List (Option ℕ)) (ss : List BoundStep) (nodes0 nodes : List Term) (ids : List Id)
+    → length os ≡ length ss → AreListed (run (formula_adders rows works logic os ss) nodes0) nodes ids → length ids ≡ length ss
 listed_count rows works logic os ss nodes0 nodes ids e h = ap length h.roots ∙ count os ss nodes0 e
   where
     count : (os : List (Option ℕ)) (ss : List BoundStep) (nodes : List Term) → length os ≡ length ss → length (run (formula_adders rows works logic os ss) nodes).roots ≡ length ss

@@ -332,3 +332,9 @@ module _ (d : Opened) (logic : Typecode) (bound : Bound) (works : List WorkNode)
     links_rise = λ j k h. omega arith;
     fronts = λ k. front_same [] (take k []) nodes (take (length nodes) nodes) [] (take 0 []) (sym (take_past [] k (omega arith))) (sym (take-length nodes)) refl front;
   }
+
+  -- the same, as a call of `begin` gives it
+  pub begun_held : (nodes : List Term) (links : List Link) (steps : List Pushed) → ArePlaced bound → length bound.steps < 2 ^ 32 → length formulas ≡ length bound.steps → steps ≡ [] → links ≡ [] → Front [] nodes links → IsHeld (held steps nodes links)
+  begun_held nodes links steps placed few count none unbound front =
+      subst (λ (ls : List Link). IsHeld (held steps nodes ls)) (sym unbound)
+      (subst (λ (xs : List Pushed). IsHeld (held xs nodes [])) (sym none) (first_held nodes placed few count (subst (λ (ls : List Link). Front [] nodes ls) unbound front)))

@@ -24,7 +24,8 @@ use Rattle.term_model.specs.Terms.{Term}
 use Rattle.term_model.specs.Links.{Link}
 use Rattle.term_model.specs.Store.{tree_at}
 use Rattle.chain_laws.specs.declared.leaves.WorkNode.{WorkNode}
-use Rattle.chain_laws.specs.Adding.{variable_at}
+use Rattle.term_model.specs.Sizes.{HaveConstants}
+use Rattle.chain_laws.specs.Adding.{variable_at, constants_in}
 use Rattle.chain_laws.specs.Layout.{Layout, IsChained, AreFormulaNodes, IsInstanceNode, IsSoundAsked, IsOver, valuation_of}
 use Rattle.chain_laws.proofs.Agreement.{instance_same}
 use Rattle.chain_laws.proofs.Grown.{fit_front}
@@ -35,7 +36,9 @@ use Rattle.step_chain.specs.declared.judged.Pushed.{Pushed}
 use Rattle.step_chain.specs.Standings.{usable_in}
 use Rattle.step_chain.specs.Ordered.{formula_at}
 use Rattle.step_chain.specs.Steps.{asked_by, accepted_by, judgement_of, judgements_from}
-use Rattle.step_chain.specs.Levels.{AreKeptNodes, AreEachJudged, AreBefore, IsLevel}
+use Rattle.step_chain.specs.Sizes.{size_of_front}
+use Rattle.step_chain.proofs.CountLaws.{front_rises}
+use Rattle.step_chain.specs.Levels.{AreKeptNodes, IsKeptStep, AreEachJudged, AreBefore, IsLevel}
 use Rattle.step_chain.proofs.Lists.{get_front, get_seam, get_past, all_has, all_join, all_weaker, all_at, zip_weaker}
 
 -- ---- the judgements of one step more
@@ -65,7 +68,7 @@ module _ (d : Opened) (bound : Bound) where
   pub judgement_fits : (i : ℕ) (j : Judged) (x : Accepted) (a : Assertion) → j ≡ Fits x → usable_in d x.label ≡ Some a → judgement_of d bound i j ≡ accepted (asked_by bound i x a)
   judgement_fits i j x a e u = ap (judgement_of d bound i) e ∙ ap (accepted_by bound i x) u
 
-among : (js : List Judgement) (k : ℕ) (x : Asked) → slice_get js k ≡ Some (accepted x) → Contains (accepted_in js) x
+pub among : (js : List Judgement) (k : ℕ) (x : Asked) → slice_get js k ≡ Some (accepted x) → Contains (accepted_in js) x
 among [] k x e = let impossible : ◌≡◌ {A = Option Judgement} None (Some (accepted x)) = e in absurd (cc)
 among (j ∷ js) zero x e = let same : accepted x ≡ j = cc in subst (λ (o : Judgement). Contains (accepted_in (o ∷ js)) x) same (0, omega arith, refl)
 among (accepted y ∷ js) (suc k) x e = let rest = among js k x e in (suc rest.0, omega (arith, rest.1), rest.2)
@@ -104,6 +107,7 @@ module _ (bound : Bound) (before : List Asked) (nodes more : List Term) (lay lay
   kept_stays i x a is sound h = record {
     hyps = zip_weaker (IsOver a.vars) (IsInstanceNode nodes lay i) (IsInstanceNode (nodes ++ more) lay' i) (λ t j over one. instance_stays (asked_by bound i x a) is t j over one) a.hyps (map (λ (id : Id). id.0) x.hyps) sound.hyps h.hyps;
     copies = λ v o. h.copies v o ∙ ap (λ (n : ℕ). Some n) (sym (same (copy i v.sym v.code) (in_frame (asked_by bound i x a) v is o)));
+    found = h.found;
     order = h.order;
   }
 
@@ -138,21 +142,21 @@ module _ (db : Database) (d : Opened) (bound : Bound) (works : List WorkNode) (f
         (chained : IsChained db bound accepted_now accepted_now nodes' links' layout) (formula_nodes : AreFormulaNodes bound nodes' layout (λ k. (formula_at formulas k).0)) (works_are : layout.works ≡ works)
         (before : AreBefore (length (steps ++ p ∷ [])) accepted_now)
         (last : (s : BoundStep) → slice_get bound.steps i ≡ Some s → IsJudgement db bound (accepted_in js) i s (standing db bound.place s) o)
-        (old : (k : ℕ) (q : Pushed) (x : Accepted) (a : Assertion) → slice_get steps k ≡ Some q → q.judged ≡ Fits x → usable_in d x.label ≡ Some a → AreKeptNodes nodes' layout k x a)
-        (new : (x : Accepted) (a : Assertion) → p.judged ≡ Fits x → usable_in d x.label ≡ Some a → AreKeptNodes nodes' layout i x a) where
+        (old : (k : ℕ) (q : Pushed) (x : Accepted) → slice_get steps k ≡ Some q → q.judged ≡ Fits x → IsKeptStep d nodes' layout k x)
+        (new : (x : Accepted) → p.judged ≡ Fits x → IsKeptStep d nodes' layout i x) (constants : HaveConstants (constants_in d.rows) nodes') (few : length nodes' ≤ size_of_front db bound (length (steps ++ p ∷ []))) where
       abbrev Now : List Asked → Type 0
       Now xs = IsChained db bound xs xs nodes' links' layout
 
       now_is : accepted_now ≡ accepted_in (judgements_from d bound 0 (steps ++ p ∷ []))
       now_is = sym (accepted_is ∙ is_now)
 
-      kept_by : (k : ℕ) (q : Pushed) (x : Accepted) (a : Assertion) → slice_get (steps ++ p ∷ []) k ≡ Some q → q.judged ≡ Fits x → usable_in d x.label ≡ Some a → AreKeptNodes nodes' layout k x a
-      kept_by k q x a at is u = elim (cases_lt k (length steps)) [
-        | inl below ↦ old k q x a (sym (get_front steps (p ∷ []) k below) ∙ at) is u
+      kept_by : (k : ℕ) (q : Pushed) (x : Accepted) → slice_get (steps ++ p ∷ []) k ≡ Some q → q.judged ≡ Fits x → IsKeptStep d nodes' layout k x
+      kept_by k q x at is = elim (cases_lt k (length steps)) [
+        | inl below ↦ old k q x (sym (get_front steps (p ∷ []) k below) ∙ at) is
         | inr past ↦ elim (cases_eq k (length steps)) [
           | inl same ↦
               let it : p ≡ q = let one = get_seam steps p in let two : slice_get (steps ++ p ∷ []) (length steps) ≡ Some q = subst (λ (n : ℕ). slice_get (steps ++ p ∷ []) n ≡ Some q) same at in cc in
-              subst (λ (n : ℕ). AreKeptNodes nodes' layout n x a) (sym same) (new x a (ap (λ (r : Pushed). r.judged) it ∙ is) u)
+              subst (λ (n : ℕ). IsKeptStep d nodes' layout n x) (sym same) (new x (ap (λ (r : Pushed). r.judged) it ∙ is))
           | inr apart ↦ absurd (get_past (steps ++ p ∷ []) k q (omega (arith, past, apart, length_push steps p)) at)
         ]
       ]
@@ -166,12 +170,21 @@ module _ (db : Database) (d : Opened) (bound : Bound) (works : List WorkNode) (f
         before = subst (AreBefore (length (steps ++ p ∷ []))) now_is before;
         each = each_pushed last;
         kept = kept_by;
+        constants = constants;
+        few = few;
       }
 
   -- ---- a step that stands
 
   before_more : (xs : List Asked) → AreBefore i xs → AreBefore (length (steps ++ p ∷ [])) xs
   before_more xs h = all_weaker (λ (x : Asked). x.step < i) (λ (x : Asked). x.step < length (steps ++ p ∷ [])) (λ x below. let long = length_push steps p in omega (arith, below, long)) xs h
+
+  few_more : length nodes ≤ size_of_front db bound (length (steps ++ p ∷ []))
+  few_more =
+      let long = length_push steps p in
+      let rises = front_rises db bound i in
+      let same = ap (size_of_front db bound) long in
+      omega (arith, rises, same, level.few)
 
   module _ (v : Verdict) (is : p.judged ≡ Stands v) where
     fits_no : (x : Accepted) → p.judged ≡ Fits x → ⊥
@@ -180,7 +193,7 @@ module _ (db : Database) (d : Opened) (bound : Bound) (works : List WorkNode) (f
     pub level_stands : ((s : BoundStep) → slice_get bound.steps i ≡ Some s → IsJudgement db bound (accepted_in js) i s (standing db bound.place s) (stands v)) → IsLevel db d bound works formulas (steps ++ p ∷ []) nodes links
     level_stands last =
         level_more (stands v) (ap (judgement_of d bound i) is) (accepted_in js) (append-nil (accepted_in js)) nodes links level.layout level.chained level.formula_nodes level.works_are
-        (before_more (accepted_in js) level.before) last level.kept (λ x a e u. absurd (fits_no x e))
+        (before_more (accepted_in js) level.before) last level.kept (λ x e. absurd (fits_no x e)) level.constants few_more
 
   -- ---- a step that is accepted
 
@@ -209,22 +222,30 @@ module _ (db : Database) (d : Opened) (bound : Bound) (works : List WorkNode) (f
   module _ (more : List Term) (links' : List Link) (lay' : Layout) (x : Accepted) (a : Assertion) (is : p.judged ≡ Fits x) (usable : usable_in d x.label ≡ Some a)
       (same : (u : Unknown) → IsUnknown bound (accepted_in js) u → lay'.node_of u ≡ level.layout.node_of u) (same_works : lay'.works ≡ level.layout.works)
       (chained : IsChained db bound (accepted_in js ++ asked_by bound i x a ∷ []) (accepted_in js ++ asked_by bound i x a ∷ []) (nodes ++ more) links' lay')
-      (formula_nodes : AreFormulaNodes bound (nodes ++ more) lay' (λ k. (formula_at formulas k).0)) (kept : AreKeptNodes (nodes ++ more) lay' i x a)
+      (formula_nodes : AreFormulaNodes bound (nodes ++ more) lay' (λ k. (formula_at formulas k).0)) (kept : AreKeptNodes (nodes ++ more) lay' i x a) (constants : HaveConstants (constants_in d.rows) (nodes ++ more))
+      (few : length (nodes ++ more) ≤ size_of_front db bound (length (steps ++ p ∷ [])))
       (last : (s : BoundStep) → slice_get bound.steps i ≡ Some s → IsJudgement db bound (accepted_in js) i s (standing db bound.place s) (accepted (asked_by bound i x a))) where
     before_now : AreBefore (length (steps ++ p ∷ [])) (accepted_in js ++ asked_by bound i x a ∷ [])
     before_now = all_join (λ (y : Asked). y.step < length (steps ++ p ∷ [])) (accepted_in js) (asked_by bound i x a ∷ []) (before_more (accepted_in js) level.before) (let long = length_push steps p in omega (arith, long), tt)
 
-    own_kept : (y : Accepted) (b : Assertion) → p.judged ≡ Fits y → usable_in d y.label ≡ Some b → AreKeptNodes (nodes ++ more) lay' i y b
-    own_kept y b e u =
+    own_kept : (y : Accepted) → p.judged ≡ Fits y → IsKeptStep d (nodes ++ more) lay' i y
+    own_kept y e =
         let it : x ≡ y = let both : Fits x ≡ Fits y = sym is ∙ e in cc in
-        let one : a ≡ b = let both : Some a ≡ Some b = sym usable ∙ ap (λ (z : Accepted). usable_in d z.label) it ∙ u in cc in
-        subst (λ (z : Accepted). AreKeptNodes (nodes ++ more) lay' i z b) it (subst (AreKeptNodes (nodes ++ more) lay' i x) one kept)
+        subst (IsKeptStep d (nodes ++ more) lay' i) it (record { assertion = a; usable = usable; nodes_are = kept })
+
+    old_kept : (k : ℕ) (q : Pushed) (y : Accepted) → slice_get steps k ≡ Some q → q.judged ≡ Fits y → IsKeptStep d (nodes ++ more) lay' k y
+    old_kept k q y at e =
+        let told = level.kept k q y at e in
+        let b = told.assertion in
+        let there = accepted_at k q y b at e told.usable in
+        record {
+          assertion = b;
+          usable = told.usable;
+          nodes_are = kept_stays bound (accepted_in js) nodes more level.layout lay' same k y b there (all_has (IsSoundAsked bound) (accepted_in js) (asked_by bound k y b) level.chained.sound there) told.nodes_are;
+        }
 
     pub level_fits : IsLevel db d bound works formulas (steps ++ p ∷ []) (nodes ++ more) links'
     level_fits =
         level_more (accepted (asked_by bound i x a)) (judgement_fits d bound i p.judged x a is usable) (accepted_in js ++ asked_by bound i x a ∷ []) refl (nodes ++ more) links' lay' chained formula_nodes
         (same_works ∙ level.works_are) before_now last
-        (λ k q y b at e u.
-        kept_stays bound (accepted_in js) nodes more level.layout lay' same k y b (accepted_at k q y b at e u)
-        (all_has (IsSoundAsked bound) (accepted_in js) (asked_by bound k y b) level.chained.sound (accepted_at k q y b at e u)) (level.kept k q y b at e u))
-        own_kept
+        old_kept own_kept constants few

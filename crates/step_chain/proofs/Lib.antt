@@ -18,3 +18,10 @@ pub mod NextLaws
 pub mod HeldLaws
 pub mod ChainLaws
 pub mod SymbolLaws
+pub mod ReadingLaws
+pub mod ValueLaws
+pub mod ConstantLaws
+pub mod CountLaws
+pub mod RowSizes
+pub mod AnswerLaws
+pub mod ReaderLaws

@@ -29,6 +29,7 @@ use Rattle.term_model.proofs.LinkLaws.{are_below}
 use Rattle.chain_laws.specs.declared.leaves.WorkNode.{WorkNode}
 use Rattle.chain_laws.specs.Laws.{CandidatesAreReady}
 use Rattle.chain_laws.specs.Layout.{IsReadyAsked}
+use Rattle.again_laws.specs.Whole.{IsWhole, AssertionsAreWhole}
 use Rattle.step_chain.specs.declared.standing.Standing.{Standing}
 use Rattle.step_chain.specs.declared.standing.Standing.TheVariants.{Settled, Candidate}
 use Rattle.step_chain.specs.declared.judged.Accepted.{Accepted}
@@ -90,7 +91,7 @@ module _ (d : Opened) (bound : Bound) (formulas : List Id) (i : ℕ) (old after 
 
 -- ---- a candidate
 
-module _ (ready : CandidatesAreReady) (facts : HasDatabaseFacts) (d : Opened) (bound : Bound) (placed : ArePlaced bound) (formulas : List Id) (i : ℕ) (below : i < length bound.steps) (l : Label)
+module _ (ready : CandidatesAreReady) (facts : HasDatabaseFacts) (whole : AssertionsAreWhole) (d : Opened) (bound : Bound) (placed : ArePlaced bound) (formulas : List Id) (i : ℕ) (below : i < length bound.steps) (l : Label)
     (is : standing_in d bound.place (step_at bound i) ≡ Candidate l) (old new : Store) where
   abbrev s : BoundStep
   s = step_at bound i
@@ -105,6 +106,9 @@ module _ (ready : CandidatesAreReady) (facts : HasDatabaseFacts) (d : Opened) (b
     ready_of : (x : Asked) → IsCandidate db bound x → IsReadyAsked db bound x
     ready_of x h = ready kinds db bound x (record { text = text; sound = opened.no_fault; is_database = opened.database }) h
 
+    whole_of : (a : Assertion) → db.usable a.label ≡ Some a → IsWhole a
+    whole_of a u = whole kinds db a.label a (record { text = text; sound = opened.no_fault; is_database = opened.database }) u
+
     candidate : IsCandidateOf db d bound.place s l
     candidate = subst (IsStandingOf db d bound.place s) is (standing_same db d bound.place s (book_of kinds text d opened))
 
@@ -116,10 +120,10 @@ module _ (ready : CandidatesAreReady) (facts : HasDatabaseFacts) (d : Opened) (b
       own_taken r a h = subst (λ (k : ℕ). IsTakenAs d formulas (formula_at formulas k) s.places l a old new r) (sym count) h
 
       none_here : p.judged ≡ Stands verdict.NoFit → IsTakenAs d formulas (formula_at formulas i) s.places l candidate.assertion old new None → IsLevel db d bound works formulas (steps ++ p ∷ []) old.nodes old.links
-      none_here e h = level_none db d (book_of kinds text d opened) db_facts bound placed ready_of works formulas steps p old new level s at l candidate (own_taken None candidate.assertion h) e
+      none_here e h = level_none db d (book_of kinds text d opened) db_facts whole_of bound placed ready_of works formulas steps p old new level s at l candidate (own_taken None candidate.assertion h) e
 
       some_here : (x : Accepted) → p.judged ≡ Fits x → IsTakenAs d formulas (formula_at formulas i) s.places l candidate.assertion old new (Some x) → IsExtended old new → IsLevel db d bound works formulas (steps ++ p ∷ []) new.nodes new.links
-      some_here x e h longer = level_accepted db d (book_of kinds text d opened) db_facts bound placed ready_of works formulas steps p old new level s at l candidate x (own_taken (Some x) candidate.assertion h) e longer.more longer.nodes
+      some_here x e h longer = level_accepted db d (book_of kinds text d opened) db_facts whole_of bound placed ready_of works formulas steps p old new level s at l candidate x (own_taken (Some x) candidate.assertion h) e longer.more longer.nodes
 
   -- the formula and the places as they were passed
   pub taken_same : (formula : Id) (places : List Given) → formula ≡ formula_at formulas i → places ≡ s.places → (r o : Option Accepted) → o ≡ r → ((a : Assertion) → usable_in d l ≡ Some a → IsTakenAs d formulas formula places l a old new o)

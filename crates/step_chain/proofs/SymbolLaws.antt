@@ -1,5 +1,5 @@
 -- A symbol that is not found is past the last.
-use Rattle.std.specs.Prelude.{◌≡◌, ℕ, not, Bool, true, false, List, length, position, nat_lt, Option, Some, None, option_map, refl}
+use Rattle.std.specs.Prelude.{◌≡◌, ℕ, not, Bool, true, false, List, length, position, nat_lt, Some, None, option_map, refl}
 use Rattle.std.specs.List.{position_or_len}
 use Rattle.std.proofs.Common.{arith, sym, ◌∙◌, cond, inl, inr}
 use Rattle.std.proofs.lemmas.Bool.{cases_lt, lt-ltb}

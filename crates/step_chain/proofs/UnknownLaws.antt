@@ -1,7 +1,7 @@
 -- The free nodes that a worksheet begins with are those of its unknowns, one each.
-use Rattle.std.specs.Prelude.{◌≡◌, ℕ, ◌<◌, ◌≤◌, ◌+◌, ◌⊎◌, ◌==◌, ◌&&◌, Bool, true, false, List, [], ◌∷◌, ◌++◌, length, map, find, fold, slice_get, option_map, Option, Some, None, Contains, refl}
+use Rattle.std.specs.Prelude.{◌≡◌, ℕ, ◌<◌, ◌+◌, ◌⊎◌, ◌==◌, ◌&&◌, Bool, true, false, List, [], ◌∷◌, ◌++◌, length, map, find, slice_get, option_map, Option, Some, None, Contains, refl}
 use Rattle.std.proofs.Common.{zero, suc, get_or, sym, ap, subst, ◌∙◌, arith, inl, inr, cond}
-use Rattle.std.proofs.lemmas.Bool.{cases_Bool, and_parts}
+use Rattle.std.proofs.lemmas.Bool.{and_parts}
 use Rattle.std.proofs.lemmas.Bool.Decides.{nat_tests}
 use Rattle.std.proofs.lemmas.List.{append_assoc, get_or_append_left, get_or_push, length_push, length-map, length-append, map_push}
 use Rattle.std.proofs.lemmas.List.Elements.{Contains-append_left, Contains-append_right, Contains-append_cases}
@@ -61,7 +61,8 @@ codes_same : (c d : Typecode) → c.0.0 ≡ d.0.0 → c ≡ d
 codes_same c d e = ap code_with e
 
 found_by : (k : ℕ) (us : List Unknown) (d : Typecode) (m : ℕ) (c : Typecode) (n : ℕ) (b : Bool) (w : Option WorkNode) → is_work c n (record { code = d; number = m; node = k }) ≡ b
-    → IsFoundAt (k + 1) us c n (option_map (λ (w : WorkNode). w.node) w) → IsFoundAt k (named d m ∷ us) c n (option_map (λ (w : WorkNode). w.node) (cond b (Some (record { code = d; number = m; node = k })) w))
+    → IsFoundAt (k + 1) us c n (option_map (λ (w : WorkNode). w.node) w)
+    → IsFoundAt k (named d m ∷ us) c n (option_map (λ (w : WorkNode). w.node) (cond b (Some (record { code = d; number = m; node = k })) w))
 found_by k us d m c n true w is h =
     let both = and_parts (c.0.0 == d.0.0) (n == m) is in
     let one : c.0.0 ≡ d.0.0 = grind (arith, nat_tests, both) in
@@ -69,7 +70,8 @@ found_by k us d m c n true w is h =
     let code : c ≡ d = codes_same c d one in
     let same : named d m ≡ named c n = cc in
     record { at = 0; is = omega arith; within = omega arith; there = same }
-found_by k us d m c n false w is h = found_later k us (named d m) c n (option_map (λ (w : WorkNode). w.node) w) (λ e. differs (c.0.0 == d.0.0) (n == m) (let one : d ≡ c = cc in ap (λ (x : Typecode). x.0.0) (sym one)) (let two : m ≡ n = cc in sym two) refl refl is) h
+found_by k us d m c n false w is h = found_later k us (named d m) c n (option_map (λ (w : WorkNode). w.node) w) (λ e. differs (c.0.0 == d.0.0) (n == m) (let one : d ≡ c = cc in ap (λ
+    (x : Typecode). x.0.0) (sym one)) (let two : m ≡ n = cc in sym two) refl refl is) h
   where
     differs : (x y : Bool) → c.0.0 ≡ d.0.0 → n ≡ m → (c.0.0 == d.0.0) ≡ x → (n == m) ≡ y → (x && y) ≡ false → ⊥
     differs true true e f g h' i = cc
@@ -164,7 +166,11 @@ module _ (logic : Typecode) where
             ∙ sym (works_push 0 us (named c n));
         distinct = distinct_push us (named c n) h.distinct off;
       })
-  work_listed us b c n (Some i) h at = no_more us b (named c n ∷ []) h (λ u g. elim (parted u (named c n) [] g) [ inl e ↦ subst (Contains us) e (stands us at.at at.within at.there) | inr off ↦ absurd (nothing u off) ])
+  work_listed us b c n (Some i) h at = no_more us b (named c n ∷ []) h (λ u g. elim (parted u (named c n) [] g) [
+    | inl e ↦ subst (Contains us) e
+        (stands us at.at at.within at.there)
+    | inr off ↦ absurd (nothing u off)
+  ])
     where
       stands : (ws : List Unknown) (j : ℕ) → j < length ws → get_or ws j (blank 0) ≡ named c n → Contains ws (named c n)
       stands [] j l e = absurd (omega (arith, l))
@@ -237,19 +243,27 @@ module _ (logic : Typecode) where
     pub listing : Listing us b (of_steps k ss)
     pub blanks : (i : ℕ) (s : BoundStep) → slice_get ss i ≡ Some s → s.tree ≡ None → IsBlankAt listing.list os i (k + i)
 
-  blanks_then : (k : ℕ) (t : BoundStep) (ss : List BoundStep) (b : Begun) (one more list : List Unknown) (os : List (Option ℕ)) → list ≡ one ++ more → (t.tree ≡ None → IsPlaceOf one (length b.nodes) (blank k))
-      → ((i : ℕ) (s : BoundStep) → slice_get ss i ≡ Some s → s.tree ≡ None → IsBlankAt list os i (k + 1 + i)) → (i : ℕ) (s : BoundStep) → slice_get (t ∷ ss) i ≡ Some s → s.tree ≡ None → IsBlankAt list (blank_node b t.tree ∷ os) i (k + i)
+  blanks_then : (k : ℕ) (t : BoundStep) (ss : List BoundStep) (b : Begun) (one more list : List Unknown) (os : List (Option ℕ)) → list ≡ one ++ more → (t.tree ≡ None
+      → IsPlaceOf one (length b.nodes) (blank k))
+      → ((i : ℕ) (s : BoundStep) → slice_get ss i ≡ Some s → s.tree ≡ None → IsBlankAt list os i (k + 1 + i)) → (i : ℕ) (s : BoundStep) → slice_get (t ∷ ss) i ≡ Some s → s.tree ≡ None
+      → IsBlankAt list (blank_node b t.tree ∷ os) i (k + i)
   blanks_then k t ss b one more list os e h g zero s is none =
       let same : t ≡ s = cc in
       let blank_tree : t.tree ≡ None = ap (λ (x : BoundStep). x.tree) same ∙ none in
       let number : k ≡ k + 0 = omega arith in
-      record { node = length b.nodes; is = ap (blank_node b) blank_tree; place = subst (λ (j : ℕ). IsPlaceOf list (length b.nodes) (blank j)) number (place_front one more list (length b.nodes) (blank k) e (h blank_tree)) }
+      record {
+        node = length b.nodes;
+        is = ap (blank_node b) blank_tree;
+        place = subst (λ (j : ℕ). IsPlaceOf list (length b.nodes) (blank j)) number (place_front one more list (length b.nodes)
+            (blank k) e (h blank_tree));
+      }
   blanks_then k t ss b one more list os e h g (suc i) s is none =
       let told = g i s is none in
       let number : k + 1 + i ≡ k + suc i = omega arith in
       record { node = told.node; is = told.is; place = subst (λ (j : ℕ). IsPlaceOf list told.node (blank j)) number told.place }
 
-  step_then : (k : ℕ) (t : BoundStep) (ss : List BoundStep) (us : List Unknown) (b : Begun) → (one : FormulaListing us b k t.tree) → StepsListing one.listing.list (with_steps logic (with_step logic b t) ss) (blank_nodes logic (with_step logic b t) ss) (k + 1) ss
+  step_then : (k : ℕ) (t : BoundStep) (ss : List BoundStep) (us : List Unknown) (b : Begun) → (one : FormulaListing us b k t.tree)
+      → StepsListing one.listing.list (with_steps logic (with_step logic b t) ss) (blank_nodes logic (with_step logic b t) ss) (k + 1) ss
       → StepsListing us (with_steps logic b (t ∷ ss)) (blank_nodes logic b (t ∷ ss)) k (t ∷ ss)
   unfolding then
   step_then k t ss us b one rest = record {
@@ -257,9 +271,14 @@ module _ (logic : Typecode) where
     blanks = blanks_then k t ss b one.listing.list rest.listing.more rest.listing.list (blank_nodes logic (with_step logic b t) ss) rest.listing.extends one.blank_node rest.blanks;
   }
 
-  pub steps_listed : (k : ℕ) (ss : List BoundStep) (us : List Unknown) (b : Begun) → IsListed us b → ((j : ℕ) → Contains us (blank j) → j < k) → StepsListing us (with_steps logic b ss) (blank_nodes logic b ss) k ss
+  pub steps_listed : (k : ℕ) (ss : List BoundStep) (us : List Unknown) (b : Begun) → IsListed us b → ((j : ℕ) → Contains us (blank j) → j < k)
+      → StepsListing us (with_steps logic b ss) (blank_nodes logic b ss) k ss
   steps_listed k [] us b h below = record { listing = no_more us b [] h (λ u g. absurd (nothing u g)); blanks = λ i s e. let impossible : ◌≡◌ {A = Option BoundStep} None (Some s) = e in absurd (cc) }
   steps_listed k (t ∷ ss) us b h below =
       let one = formula_listed k t.tree us b h (λ g. let l = below k g in omega (arith, l)) in
       step_then k t ss us b one
-      (steps_listed (k + 1) ss one.listing.list (with_step logic b t) one.listing.is (λ j g. elim (one.listing.only (blank j) g) [ inl old ↦ (let l = below j old in omega (arith, l)) | inr new ↦ (let e = blank_of k t.tree j new in omega (arith, e)) ]))
+      (steps_listed (k + 1) ss one.listing.list (with_step logic b t) one.listing.is (λ j g. elim (one.listing.only (blank j) g) [
+        | inl old ↦ (let l = below j old in omega (arith, l))
+        | inr new ↦
+            (let e = blank_of k t.tree j new in omega (arith, e))
+      ]))

@@ -1,5 +1,5 @@
 -- The nodes of a candidate, behind those of a store.
-use Rattle.std.specs.Prelude.{◌≡◌, ℕ, ◌<◌, List, [], ◌++◌, length, map}
+use Rattle.std.specs.Prelude.{List, [], ◌++◌, length, map}
 use Rattle.mm_base.specs.declared.tree.Tree.{Tree}
 use Rattle.mm_model.specs.declared.frames.Hyp.{Hyp}
 use Rattle.mm_model.specs.declared.rows.Production.{Production}

@@ -1,5 +1,5 @@
 -- The nodes of a worksheet's formulas: free nodes for its unknowns first, and behind them the formulas' trees.
-use Rattle.std.specs.Prelude.{◌≡◌, ℕ, ◌<◌, List, [], ◌∷◌, ◌++◌, fold, length, Option, Some, None}
+use Rattle.std.specs.Prelude.{◌≡◌, ℕ, ◌≤◌, List, [], ◌∷◌, ◌++◌, fold, length, Option, Some, None}
 use Rattle.mm_base.specs.declared.symbols.Typecode.{Typecode}
 use Rattle.mm_base.specs.declared.tree.Tree.{Tree}
 use Rattle.mm_model.specs.declared.rows.Production.{Production}
@@ -13,6 +13,7 @@ use Rattle.mm_model.specs.Book.{Database}
 use Rattle.solve_model.specs.declared.bound.Bound.{Bound}
 use Rattle.chain_laws.specs.Layout.{Layout, IsChained, AreFormulaNodes}
 use Rattle.step_chain.specs.Ordered.{formula_at}
+use Rattle.step_chain.specs.Sizes.{formulas_size}
 use Rattle.chain_laws.specs.Adding.{Adder, Listed, added, run, there_or, work_at}
 
 -- the free nodes so far, and those of them that are of work variables
@@ -93,3 +94,4 @@ pub record HasFormulas (db : Database) (bound : Bound) (nodes : List Term) (work
   pub works_are : lay.works ≡ works
   pub count : length formulas ≡ length bound.steps
   pub formulas_are : AreFormulaNodes bound nodes lay (formula_node formulas)
+  pub few : length nodes ≤ formulas_size bound.steps

@@ -1,5 +1,5 @@
 -- What the store has after some steps were pushed.
-use Rattle.std.specs.Prelude.{◌≡◌, ℕ, ◌<◌, List, length, map, take, Contains, slice_get, Option, Some}
+use Rattle.std.specs.Prelude.{◌≡◌, ℕ, ◌<◌, ◌≤◌, List, length, map, take, Contains, slice_get, Option, Some}
 use Rattle.std.specs.List.{AllByRecursion, AllZip}
 use Rattle.mm_base.specs.declared.kinds.Kinds.{Kinds}
 use Rattle.mm_base.specs.declared.symbols.Typecode.{Typecode}
@@ -19,7 +19,8 @@ use Rattle.term_model.specs.Links.{Link}
 use Rattle.term_model.specs.Store.{IsStore, IsSolved}
 use Rattle.chain_laws.specs.declared.leaves.WorkNode.{WorkNode}
 use Rattle.chain_laws.specs.declared.leaves.VariableNode.{VariableNode}
-use Rattle.chain_laws.specs.Adding.{variable_at}
+use Rattle.term_model.specs.Sizes.{HaveConstants}
+use Rattle.chain_laws.specs.Adding.{variable_at, constants_in}
 use Rattle.chain_laws.specs.Layout.{Layout, IsChained, AreFormulaNodes, IsInstanceNode}
 use Rattle.step_chain.specs.declared.judged.Accepted.{Accepted}
 use Rattle.step_chain.specs.declared.judged.Judged.{Judged}
@@ -28,13 +29,21 @@ use Rattle.step_chain.specs.declared.judged.Pushed.{Pushed}
 use Rattle.step_chain.specs.Standings.{usable_in}
 use Rattle.step_chain.specs.Ordered.{formula_at}
 use Rattle.step_chain.specs.Grown.{AreIdsIn, AreVariablesIn, AreWorksIn}
+use Rattle.step_chain.specs.Sizes.{size_of_front}
 use Rattle.step_chain.specs.Steps.{judgements_from}
 
 -- the nodes that are kept of an accepted step are those of its `$e` and of its copies of variables
 pub record AreKeptNodes (nodes : List Term) (lay : Layout) (i : ℕ) (x : Accepted) (a : Assertion) : Type 0 where
   pub hyps : AllZip (IsInstanceNode nodes lay i) a.hyps (map (λ (id : Id). id.0) x.hyps)
   pub copies : (v : TypedVariable) → Contains a.vars v → variable_at x.variables v.sym v.code ≡ Some (lay.node_of (copy i v.sym v.code))
+  pub found : (w : VariableNode) → Contains x.variables w → variable_at x.variables w.sym w.code ≡ Some w.node
   pub order : map (λ (w : VariableNode). record { sym = w.sym; code = w.code }) x.variables ≡ a.vars
+
+-- an accepted step has its assertion, and its nodes are kept
+pub record IsKeptStep (d : Opened) (nodes : List Term) (lay : Layout) (i : ℕ) (x : Accepted) : Type 0 where
+  pub assertion : Assertion
+  pub usable : usable_in d x.label ≡ Some assertion
+  pub nodes_are : AreKeptNodes nodes lay i x assertion
 
 -- each of the judgements is one by those accepted before it
 abbrev pub AreEachJudged : Database → Bound → List Judgement → Type 0
@@ -53,7 +62,9 @@ pub record IsLevel (db : Database) (d : Opened) (bound : Bound) (works : List Wo
   pub works_are : layout.works ≡ works
   pub before : AreBefore (length steps) (accepted_in (judgements_from d bound 0 steps))
   pub each : AreEachJudged db bound (judgements_from d bound 0 steps)
-  pub kept : (i : ℕ) (p : Pushed) (x : Accepted) (a : Assertion) → slice_get steps i ≡ Some p → p.judged ≡ Fits x → usable_in d x.label ≡ Some a → AreKeptNodes nodes layout i x a
+  pub kept : (i : ℕ) (p : Pushed) (x : Accepted) → slice_get steps i ≡ Some p → p.judged ≡ Fits x → IsKeptStep d nodes layout i x
+  pub constants : HaveConstants (constants_in d.rows) nodes
+  pub few : length nodes ≤ size_of_front db bound (length steps)
 
 -- the nodes that are kept are nodes of the store
 abbrev pub IsKeptIn : ℕ → Judged → Type 0

@@ -11,3 +11,8 @@ pub mod Accepted
 pub mod Held
 pub mod Works
 pub mod Formulas
+pub mod Readings
+pub mod Sizes
+pub mod Values
+pub mod Constants
+pub mod Answers

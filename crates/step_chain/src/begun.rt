@@ -2,6 +2,8 @@ ghost use Rattle.std.specs.Prelude.{◌≡◌, [], length, IfOk};
 ghost use Rattle.mm_model.specs.Names.{typecode};
 ghost use Rattle.mm_model.specs.Frames.{symbol_in};
 ghost use Rattle.term_model.specs.Store.{IsSolved};
+ghost use Rattle.term_model.specs.Sizes.{HaveConstants};
+ghost use Rattle.chain_laws.specs.Adding.{constants_in};
 ghost use Rattle.step_chain.specs.Grown.{IsGrown};
 ghost use Rattle.step_chain.specs.Levels.{IsFront};
 
@@ -39,6 +41,7 @@ pub fn begin(
     requires solved { IsSolved arena.old.nodes arena.old.links }
     ensures front { IfOk result (λ f. IsFront db.now logic bound.now f.works.items f.formulas.items [] arena.new.nodes arena.new.links) }
     ensures count { IfOk result (λ f. length f.formulas.items ≡ length bound.now.steps) }
+    ensures constants { IfOk result (λ f. HaveConstants (constants_in db.now.rows) arena.new.nodes) }
     ensures grows { IsGrown arena.old arena.new }
 {
     bound_is_ready();

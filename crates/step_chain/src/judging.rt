@@ -12,6 +12,7 @@ use crate::candidate::accept;
 use crate::judged::Judged;
 use crate::orders::formula_at;
 use crate::standing::{Standing, standing_of};
+use again_laws::assertions_are_whole;
 use chain_laws::candidates_are_ready;
 use mm_base::{Label, Memory};
 use mm_database::Database;
@@ -49,6 +50,7 @@ fn judge_candidate(
 {
     candidates_are_ready();
     has_database_facts();
+    assertions_are_whole();
     let mark = arena.mark();
     let formula = formula_at(formulas, i);
     let places = step_at(bound, i).places.as_slice();

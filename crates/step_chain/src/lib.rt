@@ -10,7 +10,9 @@ mod formulas;
 mod joining;
 mod judged;
 mod judging;
+mod laws;
 mod orders;
+mod reader;
 mod reading;
 mod standing;
 #[cfg(test)]
@@ -18,8 +20,9 @@ mod tests;
 mod trying;
 mod works;
 
-pub use chain::Chain;
+pub use chain::{Chain, ChainTrees};
 pub use chain_laws::{VariableNode, WorkNode};
 pub use judged::{Accepted, Judged};
-pub use reading::{TreeFault, Trees};
+pub use laws::constants_are_counted;
+pub use reading::TreeFault;
 pub use solve_model::Verdict;

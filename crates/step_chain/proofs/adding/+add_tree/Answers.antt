@@ -1,5 +1,5 @@
 use Rattle.std.proofs.Common.{◌<◌, length, ap, sym, subst, ◌∙◌}
-use Rattle.chain_laws.specs.Adding.{added, there_or, variable_at, work_at, is_variable, is_work}
+use Rattle.chain_laws.specs.Adding.{added, there_or, is_variable, is_work}
 use Rattle.std.specs.Option.{ForSome}
 use Rattle.term_model.specs.Terms.{Var, Free}
 use Rattle.step_chain.specs.Grown.{AreIdsIn}

@@ -1,5 +1,4 @@
 use Rattle.std.proofs.Common.{map, take, length}
-use Rattle.term_model.specs.Store.{Store}
 use Rattle.chain_laws.specs.Adding.{added, run}
 use Rattle.step_chain.specs.Grown.{IsGrown, AreListed, AreWorksIn, AreVariablesIn, AreIdsIn}
 use Rattle.step_chain.proofs.adding.+add_tree.Given as goal

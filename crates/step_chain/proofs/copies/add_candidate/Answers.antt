@@ -1,4 +1,4 @@
-use Rattle.std.proofs.Common.{length, ◌∙◌, sym, refl}
+use Rattle.std.proofs.Common.{refl}
 use Rattle.step_chain.proofs.AddingLaws.{variables_in_more, grown_longer, grown_more}
 use Rattle.step_chain.proofs.CopyLaws.{table_is, copied_is, table_in, root_is, roots_are, without_works, all_without_works}
 use Rattle.step_chain.proofs.copies.add_candidate.Goals as goal

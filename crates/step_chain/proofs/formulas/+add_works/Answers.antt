@@ -1,5 +1,5 @@
-use Rattle.std.proofs.Common.{sym, ap, ◌∙◌, Ok, Err}
-use Rattle.solve_model.specs.Trees.{work, open_leaves}
+use Rattle.std.proofs.Common.{sym, ap, ◌∙◌}
+use Rattle.solve_model.specs.Trees.{open_leaves}
 use Rattle.solve_model.proofs.TreeLaws.{open_leaves-Var, open_leaves-Work, open_leaves-Fresh, open_leaves-Node}
 use Rattle.step_chain.specs.Formulas.{begun, with_leaves}
 use Rattle.step_chain.proofs.AddingLaws.{grown_more}

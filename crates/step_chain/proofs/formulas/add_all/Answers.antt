@@ -1,4 +1,4 @@
-use Rattle.std.proofs.Common.{◌∙◌, sym, subst, length}
+use Rattle.std.proofs.Common.{sym, subst, length}
 use Rattle.step_chain.specs.Grown.{AreWorksIn}
 use Rattle.step_chain.proofs.AddingLaws.{grown_more, grown_longer, works_in_more}
 use Rattle.step_chain.proofs.FormulaLaws.{works_are_in, blanks_are, blanks_are_in, blanks_are_many, formulas_are, listed_count}
