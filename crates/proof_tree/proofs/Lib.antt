@@ -2,3 +2,5 @@ pub mod GraphLaws
 pub mod AddLaws
 pub mod KeyLaws
 pub mod FloatLaws
+pub mod BuildLaws
+pub mod StandLaws
