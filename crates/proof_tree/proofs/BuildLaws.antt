@@ -140,7 +140,7 @@ woven_essential hyps xs ys i a b h ns now inside e f is w = record {
 pub woven_begun : (hyps : List Hyp) (xs ys ns : List ℕ) → ns ≡ [] → IsWoven hyps xs ys 0 0 0 ns
 woven_begun hyps xs ys ns e = record { rest = ap (λ l. l ++ weave hyps xs ys) e; a_few = omega arith; b_few = omega arith }
 
-drop_whole : {X : Type 0} (xs : List X) (i : ℕ) → length xs ≤ i → drop i xs ≡ []
+pub drop_whole : {X : Type 0} (xs : List X) (i : ℕ) → length xs ≤ i → drop i xs ≡ []
 drop_whole [] zero h = refl
 drop_whole [] (suc i) h = refl
 drop_whole (x ∷ xs) zero h = absurd (omega arith)

@@ -4,3 +4,8 @@ pub mod KeyLaws
 pub mod FloatLaws
 pub mod BuildLaws
 pub mod StandLaws
+pub mod SameLaws
+pub mod PartLaws
+pub mod SeenLaws
+pub mod OrderLaws
+pub mod UseLaws

@@ -3,3 +3,4 @@ pub mod Keys
 pub mod Adding
 pub mod Given
 pub mod Standing
+pub mod Walks
