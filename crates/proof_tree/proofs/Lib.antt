@@ -9,3 +9,6 @@ pub mod PartLaws
 pub mod SeenLaws
 pub mod OrderLaws
 pub mod UseLaws
+pub mod NameLaws
+pub mod CodeLaws
+pub mod StepLaws

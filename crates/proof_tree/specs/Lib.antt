@@ -4,3 +4,4 @@ pub mod Adding
 pub mod Given
 pub mod Standing
 pub mod Walks
+pub mod Coding
