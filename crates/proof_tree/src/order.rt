@@ -21,11 +21,7 @@ pub(crate) enum Part {
 }
 
 /// Puts the parts of a node's proof before all others, the last of them first.
-pub(crate) fn push_parts(
-    pending: &mut Vec<Part>,
-    number: u32,
-    below: &[u32],
-) -> Result<(), Memory>
+pub(crate) fn push_parts(pending: &mut Vec<Part>, number: u32, below: &[u32]) -> Result<(), Memory>
     ensures { OnOk result (pending.new.items ≡ pending.old.items ++ parts_of number below.now) }
 {
     pending.push(Part::Label(number))?;

@@ -24,7 +24,7 @@ returns-after-loop-child t c =
     let floats = get nat_eq c.args.floats.now in
     let labels = c.args.frames.now.labels in
     let all = adds_whole (tree_proof labels floats) c.in-Node.children c.as_slice-child-items.result.now c.loop-child.child-index c.args.graph.now c.loop-child.graph c.loop-child.below.items c.as_slice-child-items.ensures
-        c.loop-child-test.false c.loop-child.invariant in
+    c.loop-child-test.false c.loop-child.invariant in
     IfOk-weaker c.add_label.result (Adds c.loop-child.graph c.add_label.new.graph (proof_over c.loop-child.graph (name_in labels c.in-Node.label) c.loop-child.below.items)) (Adds c.args.graph.now c.add_label.new.graph (tree_proof labels floats c.args.tree.now))
     (λ n a. adds_same c.args.graph.now c.add_label.new.graph _ _ n (sym (ap (tree_proof labels floats) c.in-Node.is ∙ tree_proof-Node labels floats c.in-Node.label c.in-Node.field-1 c.in-Node.children))
     (adds_over c.args.graph.now c.loop-child.graph c.add_label.new.graph (name_in labels c.in-Node.label) (map (tree_proof labels floats) c.in-Node.children) c.loop-child.below.items n all a))
