@@ -20,7 +20,7 @@ use Rattle.proof_tree.specs.Adding.{Grows, Adds, AddsAll, AddsStep, IsInside, Is
 use Rattle.proof_tree.specs.declared.building.ProofStep.{ProofStep}
 use Rattle.proof_tree.specs.declared.building.ProofStep.TheVariants as given
 use Rattle.proof_tree.specs.Given.{tree_proof, variable_proof, name_in, weave, item_at, given_proof, given_proofs, is_used, used_at}
-use Rattle.proof_tree.proofs.GraphLaws.{map_push, map_append, all_append, all_weaker, take_more, take_whole, append_twice, append_none}
+use Rattle.proof_tree.proofs.GraphLaws.{map_push, map_append, all_append, take_more, take_whole, append_twice, append_none}
 use Rattle.proof_tree.proofs.AddLaws.{grows_none, grows_on, grown_length, grown_inside, grown_proof, grown_proofs}
 
 -- ---- several nodes

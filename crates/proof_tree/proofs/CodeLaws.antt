@@ -1,29 +1,27 @@
 -- The steps of a proof's code, by its nodes.
-use Rattle.std.proofs.Common.{◌≡◌, ℕ, zero, suc, ◌+◌, ◌-◌, ◌^◌, ◌<◌, ◌≤◌, min, Bool, true, false, not, ◌&&◌, ◌==◌, cond, nat_eq, nat_le, List, [], ◌∷◌, ◌++◌, length, map, fold, get_or, slice_get, Option, Some, None, option_map, is_some, true≢false, refl, sym, ap, ◌∙◌, subst, arith, lit≤}
+use Rattle.std.proofs.Common.{◌≡◌, ℕ, zero, suc, ◌+◌, ◌-◌, ◌^◌, ◌<◌, ◌≤◌, min, Bool, true, false, not, ◌&&◌, ◌==◌, cond, nat_eq, nat_le, List, [], ◌∷◌, ◌++◌, length, map, fold, get_or, Option, Some, None, is_some, true≢false, refl, sym, ap, ◌∙◌, subst, arith, lit≤}
 use Rattle.std.specs.Prelude.{count_by, flat_map, replicate, slice_set}
 use Rattle.std.specs.List.{AllByRecursion}
-use Rattle.std.specs.Str.{bytes_eq}
 use Rattle.std.proofs.lemmas.Bool.{eqb-true, eq-eqb, leb-true, le-leb}
 use Rattle.std.proofs.lemmas.List.{length-map, length-append, length-replicate}
 use Rattle.std.proofs.Math.ListN.{length-set}
 use Rattle.mm_model.specs.Names.{Name, first_number}
-use Rattle.proof_model.specs.Proofs.{Proof, Proofs, by, proofs, listed, children, same_proof, subproofs}
+use Rattle.proof_model.specs.Proofs.{Proof, Proofs, by, proofs, listed, children, same_proof}
 use Rattle.proof_model.specs.declared.code.What.{What}
 use Rattle.proof_model.specs.declared.code.What.TheVariants as what
-use Rattle.proof_model.specs.declared.code.Step.{Step}
-use Rattle.proof_model.specs.Codes.{step, Coding, coded, coded_all, with_label, with_again, again_or, is_marked, what_of, argument_places, distinct_proofs, listed_labels, code_of_proof}
+use Rattle.proof_model.specs.Codes.{step, Coding, coded, coded_all, with_label, with_again, again_or, is_marked, what_of, argument_places}
 use Rattle.proof_tree.specs.declared.graph.ProofNode.{ProofNode}
 use Rattle.proof_tree.specs.declared.order.Part.{Part}
 use Rattle.proof_tree.specs.declared.order.Part.TheVariants as part
 use Rattle.proof_tree.specs.declared.coding.Coder.{Coder}
-use Rattle.proof_tree.specs.Graphs.{IsGraph, no_node, node_in, node_proofs, proof_at, root_proof}
+use Rattle.proof_tree.specs.Graphs.{IsGraph, no_node, node_proofs, proof_at, root_proof}
 use Rattle.proof_tree.specs.Given.{sooner, item_at}
-use Rattle.proof_tree.specs.Walks.{below_of, parts_of, parts_unless, capped, IsOrder, AreUses}
+use Rattle.proof_tree.specs.Walks.{below_of, parts_of, parts_unless, IsOrder, AreUses}
 use Rattle.proof_tree.specs.Coding.{label_of, is_shared, put_mark, again_steps, Ends, Begins}
-use Rattle.proof_tree.proofs.GraphLaws.{node_at, append_none, all_append, map_push, map_append, below_inside}
-use Rattle.proof_tree.proofs.SameLaws.{iff_same, same_nodes, first_nodes}
+use Rattle.proof_tree.proofs.GraphLaws.{node_at, append_none, all_append, map_append, below_inside}
+use Rattle.proof_tree.proofs.SameLaws.{iff_same, same_nodes}
 use Rattle.proof_tree.proofs.PartLaws.{IsPart, run, run_last, run_parts, parts_inside, last_part, rest_parts}
-use Rattle.proof_tree.proofs.NameLaws.{first_push, last_label, listed_is}
+use Rattle.proof_tree.proofs.NameLaws.{first_push, last_label}
 
 -- ---- what is named twice
 

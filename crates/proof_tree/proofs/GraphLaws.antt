@@ -4,7 +4,7 @@ use Rattle.std.proofs.lemmas.List.{length-append, length-map, get_or-map, revers
 use Rattle.std.specs.List.{AllByRecursion}
 use Rattle.proof_model.specs.Proofs.{Proof, by, proofs, postorder, postorders}
 use Rattle.proof_tree.specs.declared.graph.ProofNode.{ProofNode}
-use Rattle.proof_tree.specs.Graphs.{NameEarlier, no_node, no_proof, proof_at, node_proof, with_node, node_proofs, label_count, added_count}
+use Rattle.proof_tree.specs.Graphs.{NameEarlier, no_proof, proof_at, node_proof, with_node, node_proofs, label_count, added_count}
 
 -- ---- lists
 

@@ -1,8 +1,8 @@
 -- The order of the nodes in a graph's proof, and how often each is named.
-use Rattle.std.proofs.Common.{◌≡◌, ℕ, zero, suc, ◌+◌, ◌-◌, ◌^◌, ◌<◌, ◌≤◌, min, Bool, true, false, cond, nat_eq, List, [], ◌∷◌, ◌++◌, length, map, fold, take, count_by, get_or, refl, sym, ap, ◌∙◌, subst, arith}
+use Rattle.std.proofs.Common.{◌≡◌, ℕ, ◌-◌, ◌<◌, Bool, true, false, cond, nat_eq, List, [], ◌∷◌, ◌++◌, length, map, fold, refl, sym, ap, ◌∙◌, subst, arith}
 use Rattle.std.specs.List.{AllByRecursion, list_any}
 use Rattle.indexmap.specs.IndexSet.{insert_key}
-use Rattle.proof_model.specs.Proofs.{Proof, Proofs, by, proofs, same_proof}
+use Rattle.proof_model.specs.Proofs.{Proof, by, proofs, same_proof}
 use Rattle.proof_tree.specs.declared.graph.ProofNode.{ProofNode}
 use Rattle.proof_tree.specs.declared.order.Part.{Part}
 use Rattle.proof_tree.specs.declared.order.Part.TheVariants as part

@@ -1,15 +1,15 @@
 -- Parts of proofs that are pending.
-use Rattle.std.proofs.Common.{◌≡◌, ℕ, zero, suc, ◌+◌, ◌*◌, ◌<◌, ◌≤◌, Bool, true, false, cond, List, [], ◌∷◌, ◌++◌, length, map, fold, drop, reverse, get_or, refl, sym, ap, ◌∙◌, subst, arith}
+use Rattle.std.proofs.Common.{◌≡◌, ℕ, suc, ◌+◌, ◌*◌, ◌<◌, Bool, true, false, List, [], ◌∷◌, ◌++◌, length, map, fold, drop, reverse, get_or, refl, sym, ap, ◌∙◌, subst, arith}
 use Rattle.std.proofs.lemmas.List.{reverse-append, reverse-reverse, length-append}
 use Rattle.std.proofs.Math.Seq.{drop-cons}
 use Rattle.std.specs.List.{AllByRecursion}
-use Rattle.proof_model.specs.Proofs.{Proof, by, proofs, postorder}
+use Rattle.proof_model.specs.Proofs.{postorder}
 use Rattle.proof_tree.specs.declared.graph.ProofNode.{ProofNode}
 use Rattle.proof_tree.specs.declared.order.Part.{Part}
 use Rattle.proof_tree.specs.declared.order.Part.TheVariants as part
 use Rattle.proof_tree.specs.Graphs.{NameEarlier, no_node, node_in, node_proofs, proof_at}
 use Rattle.proof_tree.specs.Walks.{below_of, parts_of, parts_unless}
-use Rattle.proof_tree.proofs.GraphLaws.{labels_of, labels_below, node_labels, pending_labels, append_twice, append_none, all_append, all_front, all_back, below_inside, one_longer}
+use Rattle.proof_tree.proofs.GraphLaws.{node_labels, pending_labels, append_twice, all_append, all_front, all_back, below_inside, one_longer}
 
 -- ---- what is done with them
 

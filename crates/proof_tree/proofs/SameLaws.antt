@@ -1,5 +1,5 @@
 -- Equal proofs, and the nodes that have them.
-use Rattle.std.proofs.Common.{◌≡◌, ℕ, zero, suc, ◌+◌, ◌<◌, ◌≤◌, Bool, true, false, true≢false, ◌&&◌, ◌||◌, cond, nat_eq, List, [], ◌∷◌, ◌++◌, length, map, count_by, get_or, Option, Some, None, option_map, refl, sym, ap, ◌∙◌, subst, arith}
+use Rattle.std.proofs.Common.{◌≡◌, ℕ, zero, suc, ◌+◌, ◌<◌, Bool, true, false, ◌&&◌, ◌||◌, cond, nat_eq, List, [], ◌∷◌, length, map, Some, option_map, refl, sym, ap, ◌∙◌, arith}
 use Rattle.std.proofs.lemmas.Bool.{eqb-true, eq-eqb}
 use Rattle.std.proofs.lemmas.Slice.Eq.{bytes_eq-Decides}
 use Rattle.std.specs.List.{AllByRecursion, list_any}
@@ -7,7 +7,7 @@ use Rattle.std.specs.Str.{bytes_eq}
 use Rattle.mm_model.specs.Names.{first_number}
 use Rattle.proof_model.specs.Proofs.{Proof, Proofs, by, none, next, proofs, same_proof, same_proofs}
 use Rattle.proof_tree.specs.declared.graph.ProofNode.{ProofNode}
-use Rattle.proof_tree.specs.Graphs.{NameEarlier, NodesDiffer, IsGraph, no_node, node_in, node_proof, node_proofs, proof_at}
+use Rattle.proof_tree.specs.Graphs.{IsGraph, no_node, node_in, node_proofs, proof_at}
 use Rattle.proof_tree.proofs.GraphLaws.{node_at, below_at, all_weaker}
 
 both : (a b : Bool) → (a && b) ≡ true → (a ≡ true) × (b ≡ true)

@@ -1,10 +1,9 @@
 -- Each subproof once, where it stands first.
-use Rattle.std.proofs.Common.{◌≡◌, ℕ, ◌⊎◌, inl, inr, Bool, true, false, true≢false, ◌||◌, cond, List, [], ◌∷◌, ◌++◌, fold, refl, sym, ap, ◌∙◌, subst}
+use Rattle.std.proofs.Common.{◌≡◌, ℕ, ◌⊎◌, inl, inr, Bool, true, false, ◌||◌, cond, List, [], ◌∷◌, ◌++◌, fold, refl, sym, ap, ◌∙◌, subst}
 use Rattle.std.specs.List.{list_any}
 use Rattle.proof_model.specs.Proofs.{Proof, Proofs, by, none, next, same_proof, subproofs, subproofs_in}
 use Rattle.proof_model.specs.Codes.{distinct_proofs}
 use Rattle.proof_tree.specs.Walks.{see}
-use Rattle.proof_tree.proofs.GraphLaws.{fold_append}
 use Rattle.proof_tree.proofs.SameLaws.{same_sound, same_self}
 
 -- ---- members

@@ -1,5 +1,5 @@
 -- The proofs of steps by what they are given are those of the written steps that they stand for.
-use Rattle.std.proofs.Common.{◌≡◌, ℕ, zero, suc, ◌+◌, ◌<◌, ◌≤◌, Bool, true, false, not, cond, nat_eq, ◌==◌, List, [], ◌∷◌, ◌++◌, length, map, drop, fold, filter, filter_map, find, get_or, slice_get, Option, Some, None, option_map, is_some, refl, sym, ap, ◌∙◌, subst, arith}
+use Rattle.std.proofs.Common.{◌≡◌, ℕ, zero, suc, ◌+◌, ◌<◌, Bool, true, false, not, cond, ◌==◌, List, [], ◌∷◌, ◌++◌, length, map, drop, fold, filter_map, find, get_or, slice_get, Option, Some, None, option_map, is_some, refl, sym, ap, ◌∙◌, subst, arith}
 use Rattle.std.specs.Prelude.{zip, unwrap_or, flat_map}
 use Rattle.std.proofs.Math.Path.{fun_ext}
 use Rattle.std.proofs.lemmas.Bool.{eqb-true, eq-eqb}
@@ -18,22 +18,22 @@ use Rattle.mm_model.specs.Names.{Name, sym as symbol, label}
 use Rattle.mm_model.specs.Statements.{Statement, statements, labels}
 use Rattle.mm_model.specs.Frames.{frame_of, positions}
 use Rattle.mm_model.specs.Productions.{TypedVariable, typed_variables, typed_by, floats, essentials}
-use Rattle.mm_model.specs.Book.{Database, Assertion, IsUsable, label_name}
-use Rattle.mm_model.specs.BookFacts.{VariablesDiffer, float_formula, IsFrame, IsDatabase}
-use Rattle.mm_frames.specs.Contents.{Contents, contents_of, frame_at}
+use Rattle.mm_model.specs.Book.{Database, label_name}
+use Rattle.mm_model.specs.BookFacts.{VariablesDiffer, float_formula, IsDatabase}
+use Rattle.mm_frames.specs.Contents.{Contents, frame_at}
 use Rattle.mm_database.specs.Opened.{Opened, IsOpened}
 use Rattle.model_laws.specs.DatabaseLaws.{HasDatabaseFacts}
 use Rattle.sheet_text.specs.declared.sheet.Given.TheVariants as place
 use Rattle.proof_model.specs.Proofs.{Proof, by, none, proofs}
 use Rattle.proof_model.specs.Machine.{is_float_of}
 use Rattle.solve_model.specs.Trees.{layer_leaves}
-use Rattle.written_model.specs.ProofTrees.{float_variable, hyp_proofs, syntax_proof, float_label, no_proof, place_proof, step_proof, step_proofs, use_proof}
-use Rattle.written_model.specs.WrittenSteps.{Use, WrittenStep, value_of, no_tree}
+use Rattle.written_model.specs.ProofTrees.{float_variable, hyp_proofs, syntax_proof, no_proof, place_proof, step_proof, step_proofs, use_proof}
+use Rattle.written_model.specs.WrittenSteps.{WrittenStep, value_of, no_tree}
 use Rattle.proof_tree.specs.declared.building.ProofStep.{ProofStep}
 use Rattle.proof_tree.specs.declared.building.ProofStep.TheVariants as given
 use Rattle.proof_tree.specs.declared.graph.ProofNode.{ProofNode}
 use Rattle.proof_tree.specs.Graphs.{root_proof}
-use Rattle.proof_tree.specs.Given.{tree_proof, variable_proof, name_in, weave, float_name, AreFloats, item_at, hyps_of, reference_proof, given_proof, given_proofs, is_used, used_at}
+use Rattle.proof_tree.specs.Given.{tree_proof, weave, AreFloats, item_at, hyps_of, reference_proof, given_proof, given_proofs, is_used, used_at}
 use Rattle.proof_tree.proofs.GraphLaws.{append_twice, append_none}
 use Rattle.proof_tree.specs.Standing.{IsUseOf, IsProofStep, FollowFromUsed, StandFor, book, places_of, Proves}
 

@@ -8,7 +8,6 @@ use Rattle.std.specs.Str.{bytes_eq}
 use Rattle.mm_model.specs.Names.{Name}
 use Rattle.mm_model.specs.Frames.{without_repeats}
 use Rattle.std.proofs.Common.{map}
-use Rattle.proof_model.specs.Proofs.{subproofs}
 use Rattle.proof_model.specs.declared.code.Code.{Code}
 use Rattle.proof_model.specs.declared.code.Step.{Step}
 use Rattle.proof_model.specs.Codes.{argument_places, listed_labels, code_of_proof, coded}

@@ -1,5 +1,5 @@
 -- What proves the steps of a worksheet, and the proof of one of them.
-use Rattle.std.specs.Prelude.{◌≡◌, ℕ, true, List, [], ◌∷◌, ◌++◌, length, map, unwrap_or, Option, Some, None}
+use Rattle.std.specs.Prelude.{◌≡◌, ℕ, true, List, [], ◌∷◌, ◌++◌, length, map, unwrap_or, Some, None}
 use Rattle.std.specs.List.{AllByRecursion, AllZip}
 use Rattle.mm_base.specs.declared.symbols.Label.{Label}
 use Rattle.mm_base.specs.declared.kinds.Kinds.{Kinds}

@@ -1,7 +1,7 @@
 -- Ways through a proof: by parts that are pending, and each subproof once.
-use Rattle.std.specs.Prelude.{◌≡◌, ℕ, ◌+◌, ◌-◌, ◌^◌, ◌<◌, Bool, List, [], ◌∷◌, ◌++◌, length, map, flat_map, fold, min, reverse, count_by, nat_eq, slice_index_or, if◌then◌else◌}
+use Rattle.std.specs.Prelude.{◌≡◌, ℕ, ◌+◌, ◌-◌, ◌^◌, ◌<◌, Bool, List, [], ◌∷◌, ◌++◌, length, map, flat_map, min, reverse, count_by, nat_eq, slice_index_or, if◌then◌else◌}
 use Rattle.std.specs.List.{AllByRecursion, list_any}
-use Rattle.proof_model.specs.Proofs.{Proof, Proofs, by, none, next, same_proof, subproofs}
+use Rattle.proof_model.specs.Proofs.{Proof, same_proof, subproofs}
 use Rattle.proof_model.specs.Codes.{distinct_proofs}
 use Rattle.proof_tree.specs.declared.graph.ProofNode.{ProofNode}
 use Rattle.proof_tree.specs.declared.order.Part.{Part}

@@ -1,4 +1,4 @@
-use Rattle.std.proofs.Common.{nat_eq, map, ap, sym, ◌∙◌}
+use Rattle.std.proofs.Common.{nat_eq, map, ap, ◌∙◌}
 use Rattle.std.specs.HashMap.{get}
 use Rattle.std.proofs.lemmas.Result.{IfOk-weaker}
 use Rattle.mm_frames.specs.Contents.{frame_at}

@@ -1,7 +1,7 @@
-use Rattle.std.proofs.Common.{nat_eq, ap, sym, ◌∙◌, subst}
+use Rattle.std.proofs.Common.{nat_eq, subst}
 use Rattle.std.specs.HashMap.{get}
 use Rattle.proof_tree.specs.Adding.{AddsStep, table_proofs}
-use Rattle.proof_tree.specs.Given.{given_proof, given_proofs}
+use Rattle.proof_tree.specs.Given.{given_proof}
 use Rattle.proof_tree.proofs.BuildLaws.{table_more}
 use Rattle.proof_tree.proofs.building.add_steps.Goals as goal
 

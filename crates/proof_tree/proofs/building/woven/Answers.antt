@@ -1,4 +1,4 @@
-use Rattle.std.proofs.Common.{◌≡◌, ap, sym, ◌∙◌, subst}
+use Rattle.std.proofs.Common.{◌≡◌, ap, sym, subst}
 use Rattle.std.proofs.Common.{ℕ, List}
 use Rattle.proof_tree.proofs.BuildLaws.{IsWoven, woven_float, woven_essential, woven_done, woven_begun}
 use Rattle.proof_tree.proofs.building.woven.Goals as goal

@@ -1,6 +1,4 @@
-use Rattle.std.proofs.Common.{◌≡◌, sym, ◌∙◌, subst}
-use Rattle.proof_model.specs.Codes.{code_of_proof, listed_labels}
-use Rattle.proof_tree.specs.Graphs.{root_proof}
+use Rattle.std.proofs.Common.{sym, subst}
 use Rattle.proof_tree.specs.Walks.{AreUses}
 use Rattle.proof_tree.proofs.StepLaws.{code_is, other_labels_are}
 use Rattle.proof_tree.proofs.coding.code_in_order.Goals as goal

@@ -1,6 +1,4 @@
-use Rattle.std.proofs.Common.{get_or, take, map, ◌∙◌}
 use Rattle.proof_tree.proofs.NameLaws.{other_at}
-use Rattle.proof_tree.proofs.GraphLaws.{all_at}
 use Rattle.proof_tree.proofs.coding.other_labels.Goals as goal
 
 pub loop-number-preserved : goal.loop-number-preserved

@@ -1,4 +1,4 @@
-use Rattle.proof_tree.proofs.NameLaws.{places_none, places_next, places_whole}
+use Rattle.proof_tree.proofs.NameLaws.{places_none}
 use Rattle.proof_tree.proofs.coding.places_of.Goals as goal
 
 pub loop-place-init : goal.loop-place-init

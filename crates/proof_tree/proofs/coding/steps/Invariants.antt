@@ -1,8 +1,3 @@
-use Rattle.std.proofs.Common.{◌≡◌, List, ℕ}
-use Rattle.proof_model.specs.Codes.{listed_labels, argument_places}
-use Rattle.proof_tree.specs.Graphs.{IsGraph, root_proof}
-use Rattle.proof_tree.specs.Coding.{ArePlaces}
-use Rattle.proof_tree.specs.Walks.{IsOrder, AreUses}
 use Rattle.proof_tree.proofs.StepLaws.{CodesSoFar}
 use Rattle.proof_tree.proofs.PartLaws.{weights}
 use Rattle.proof_tree.proofs.coding.steps.Given as goal

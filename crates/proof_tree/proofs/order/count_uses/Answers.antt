@@ -1,4 +1,4 @@
-use Rattle.std.proofs.Common.{◌<◌, ◌^◌, ℕ, get_or, length, slice_set, sym, ap, refl, ◌∙◌, arith}
+use Rattle.std.proofs.Common.{◌<◌, get_or, length, slice_set, ap, refl, arith}
 use Rattle.std.proofs.Common.{length-set}
 use Rattle.proof_tree.proofs.GraphLaws.{all_at}
 use Rattle.proof_tree.proofs.UseLaws.{uses_begun, uses_more}

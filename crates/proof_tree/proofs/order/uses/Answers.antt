@@ -1,6 +1,4 @@
-use Rattle.std.proofs.Common.{◌≡◌, ◌+◌, ◌<◌, length, take, get_or, sym, subst, ap, ◌∙◌, refl}
-use Rattle.std.specs.List.{AllByRecursion}
-use Rattle.proof_tree.specs.declared.graph.ProofNode.{ProofNode}
+use Rattle.std.proofs.Common.{◌+◌, length, take, get_or, sym, subst, ap, ◌∙◌, refl}
 use Rattle.proof_tree.specs.Walks.{AreUses, AddUses}
 use Rattle.proof_tree.proofs.UseLaws.{named_inside, all_uses_more, written_back}
 use Rattle.proof_tree.proofs.order.uses.Goals as goal

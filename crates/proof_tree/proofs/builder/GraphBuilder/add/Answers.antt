@@ -1,9 +1,8 @@
-use Rattle.std.proofs.Common.{◌≡◌, ◌<◌, length, sym, subst, ap, ◌∙◌, arith}
-use Rattle.std.proofs.lemmas.List.{length-map}
+use Rattle.std.proofs.Common.{◌<◌, length, sym, subst, arith}
 use Rattle.std.specs.List.{AllByRecursion}
-use Rattle.proof_tree.specs.Keys.{node_of_key, nodes_of_keys}
+use Rattle.proof_tree.specs.Keys.{nodes_of_keys}
 use Rattle.proof_tree.specs.Adding.{Adds, proof_over}
-use Rattle.proof_tree.proofs.KeyLaws.{same_key, put_adds, put_earlier, put_few}
+use Rattle.proof_tree.proofs.KeyLaws.{put_adds, put_earlier, put_few}
 use Rattle.proof_tree.proofs.builder.GraphBuilder.add.Goals as goal
 
 pub invariant_of-self-2 : goal.invariant_of-self-2
