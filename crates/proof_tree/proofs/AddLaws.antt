@@ -1,11 +1,11 @@
 -- Graphs that grow.
-use Rattle.std.proofs.Common.{◌≡◌, ℕ, suc, ◌+◌, ◌<◌, ◌≤◌, List, [], ◌∷◌, ◌++◌, length, map, take, fold, get_or, refl, sym, ap, subst, ◌∙◌, arith}
+use Rattle.std.proofs.Common.{◌≡◌, ℕ, suc, ◌+◌, ◌<◌, ◌≤◌, List, [], ◌∷◌, ◌++◌, length, map, fold, get_or, refl, sym, ap, subst, ◌∙◌, arith}
 use Rattle.std.proofs.lemmas.List.{length-append, append-nil}
 use Rattle.std.specs.List.{AllByRecursion}
-use Rattle.proof_model.specs.Proofs.{Proof, by, proofs}
+use Rattle.proof_model.specs.Proofs.{by, proofs}
 use Rattle.proof_tree.specs.declared.graph.ProofNode.{ProofNode}
-use Rattle.proof_tree.specs.Graphs.{NameEarlier, no_node, no_proof, proof_at, node_proof, with_node, node_proofs}
-use Rattle.proof_tree.specs.Adding.{Grows, Adds, AddsAll, proof_over}
+use Rattle.proof_tree.specs.Graphs.{NameEarlier, no_node, proof_at, node_proof, with_node, node_proofs}
+use Rattle.proof_tree.specs.Adding.{Grows, Adds, proof_over}
 use Rattle.proof_tree.proofs.GraphLaws.{stable, count_proofs, node_at, map_where, all_weaker, append_twice}
 
 -- ---- the nodes stay

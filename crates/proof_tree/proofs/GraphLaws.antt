@@ -4,7 +4,7 @@ use Rattle.std.proofs.lemmas.List.{length-append, length-map, get_or-map, revers
 use Rattle.std.specs.List.{AllByRecursion}
 use Rattle.proof_model.specs.Proofs.{Proof, by, proofs, postorder, postorders}
 use Rattle.proof_tree.specs.declared.graph.ProofNode.{ProofNode}
-use Rattle.proof_tree.specs.Graphs.{NameEarlier, no_node, no_proof, proof_at, node_proof, with_node, node_proofs, label_count, added_count}
+use Rattle.proof_tree.specs.Graphs.{NameEarlier, no_proof, proof_at, node_proof, with_node, node_proofs, label_count, added_count}
 
 -- ---- lists
 
@@ -71,7 +71,7 @@ abbrev pub labels_of : List Proof → List (List ℕ)
 labels_of [] = []
 labels_of (p ∷ ps) = postorder p ++ labels_of ps
 
-labels_below : (ps : List Proof) → postorders (proofs ps) ≡ labels_of ps
+pub labels_below : (ps : List Proof) → postorders (proofs ps) ≡ labels_of ps
 labels_below [] = refl
 labels_below (p ∷ ps) = ap (λ ls. postorder p ++ ls) (labels_below ps)
 
@@ -241,14 +241,14 @@ pub record IsBackwards (nodes : List ProofNode) (pending : List ℕ) (labels : L
   pub inside : AllByRecursion (λ k. k < length nodes) pending
   pub whole : pending_labels nodes pending ++ reverse labels ≡ postorder (proof_at (node_proofs nodes) (length nodes - 1))
 
-below_inside : (nodes : List ProofNode) (i : ℕ) (d : ProofNode) → i < length nodes → NameEarlier 0 nodes → AllByRecursion (λ k. k < length nodes) (get_or nodes i d).below
+pub below_inside : (nodes : List ProofNode) (i : ℕ) (d : ProofNode) → i < length nodes → NameEarlier 0 nodes → AllByRecursion (λ k. k < length nodes) (get_or nodes i d).below
 below_inside nodes i d h e = all_weaker (λ k. k < 0 + i) (λ k. k < length nodes) (λ k l. omega (arith, l, h)) (get_or nodes i d).below (below_at nodes 0 i d h e)
 
 pub last_inside : (nodes : List ProofNode) (pending rest : List ℕ) (n : ℕ) → pending ≡ rest ++ n ∷ [] → AllByRecursion (λ k. k < length nodes) pending → n < length nodes
 last_inside nodes pending rest n e h = (all_back (λ k. k < length nodes) rest (n ∷ []) (subst (AllByRecursion (λ k. k < length nodes)) e h)).0
 
 -- the labels of a node's proof, by those of its hypotheses
-node_labels : (nodes : List ProofNode) (i : ℕ) (d : ProofNode) → i < length nodes → NameEarlier 0 nodes
+pub node_labels : (nodes : List ProofNode) (i : ℕ) (d : ProofNode) → i < length nodes → NameEarlier 0 nodes
     → postorder (proof_at (node_proofs nodes) i) ≡ pending_labels nodes (get_or nodes i d).below ++ (get_or nodes i d).label ∷ []
 node_labels nodes i d h e =
     ap postorder (node_at nodes i d h e) ∙ ap (λ ls. ls ++ (get_or nodes i d).label ∷ []) (labels_below (map (proof_at (node_proofs nodes)) (get_or nodes i d).below))

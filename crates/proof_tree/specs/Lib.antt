@@ -3,3 +3,5 @@ pub mod Keys
 pub mod Adding
 pub mod Given
 pub mod Standing
+pub mod Walks
+pub mod Coding

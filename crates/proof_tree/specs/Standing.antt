@@ -1,5 +1,5 @@
 -- What proves the steps of a worksheet, and the proof of one of them.
-use Rattle.std.specs.Prelude.{◌≡◌, ℕ, true, List, [], ◌∷◌, ◌++◌, length, map, unwrap_or, Option, Some, None}
+use Rattle.std.specs.Prelude.{◌≡◌, ℕ, true, List, [], ◌∷◌, ◌++◌, length, map, unwrap_or, Some, None}
 use Rattle.std.specs.List.{AllByRecursion, AllZip}
 use Rattle.mm_base.specs.declared.symbols.Label.{Label}
 use Rattle.mm_base.specs.declared.kinds.Kinds.{Kinds}
@@ -19,14 +19,14 @@ use Rattle.proof_tree.specs.Given.{used_at}
 
 -- the step follows by the usable assertion of the label with these values, from these steps
 pub record IsUseOf (db : Database) (e : WrittenStep) (l : Label) (values : List Tree) (places : List ℕ) : Type 0 where
-  pub use : Use
-  pub is_by : e.by ≡ Some use
-  pub is_usable : db.usable l ≡ Some use.assertion
+  pub used : Use
+  pub is_by : e.by ≡ Some used
+  pub is_usable : db.usable l ≡ Some used.assertion
   pub reference : unwrap_or e.reference [] ≡ label_name db l
-  pub values_are : use.values ≡ values
-  pub value_count : length values ≡ length use.assertion.vars
+  pub values_are : used.values ≡ values
+  pub value_count : length values ≡ length used.assertion.vars
   pub places_are : e.places ≡ map place.Step places
-  pub place_count : length places ≡ length use.assertion.hyps
+  pub place_count : length places ≡ length used.assertion.hyps
 
 -- what proves a written step
 abbrev pub IsProofStep : Database → WrittenStep → ProofStep → Type 0

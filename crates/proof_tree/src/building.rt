@@ -6,7 +6,7 @@ ghost use Rattle.std.specs.List.{AllByRecursion};
 ghost use Rattle.std.specs.HashMap.{get};
 ghost use Rattle.mm_frames.specs.Contents.{frame_at};
 ghost use Rattle.proof_tree.specs.Graphs.{root_proof};
-ghost use Rattle.proof_tree.specs.Adding.{Adds, AddsAll, AddsStep, AddsSteps, IsProofAt, IsTable, proof_over};
+ghost use Rattle.proof_tree.specs.Adding.{Adds, AddsAll, AddsStep, IsInside, IsProofAt, IsTable, proof_over, table_proofs};
 ghost use Rattle.proof_tree.specs.Given.{given_proof, given_proofs, reference_proof, hyps_of, item_at, name_in, tree_proof, used_at, variable_proof, weave};
 ghost use Rattle.proof_tree.specs.Standing.{Proves};
 
@@ -105,15 +105,24 @@ fn add_trees(
     Ok(numbers)
 }
 
+/// Appends the number of the proof of a step, where it has one.
+fn put_placed(numbers: &mut Vec<u32>, proofs: &[Option<u32>], place: u32) -> Result<(), Memory>
+    ensures { OnOk result (numbers.new.items ≡ numbers.old.items ++ option_to_list (item_at proofs.now place)) }
+{
+    match proofs.get(place as usize) {
+        Some(Some(number)) => numbers.push(*number)?,
+        Some(None) | None => {}
+    }
+    Ok(())
+}
+
 /// The numbers of the proofs of these steps.
 fn placed(alloc: Global, proofs: &[Option<u32>], places: &[u32]) -> Result<Vec<u32>, Memory>
     ensures { IfOk result (λ ns. ns.items ≡ filter_map (item_at proofs.now) places.now) }
 {
     let mut numbers = Vec::new(alloc);
     for place in places {
-        if let Some(number) = proofs.get(*place as usize).copied().flatten() {
-            numbers.push(number)?;
-        }
+        put_placed(&mut numbers, proofs, *place)?;
     }
     Ok(numbers)
 }

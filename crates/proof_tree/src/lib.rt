@@ -13,6 +13,3 @@ pub use building::{ProofStep, build};
 pub use coding::code;
 pub use graph::{ProofGraph, ProofNode};
 pub use labels::{NormalFault, normal};
-
-#[cfg(test)]
-mod tests;

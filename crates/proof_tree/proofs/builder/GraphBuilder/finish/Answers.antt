@@ -1,4 +1,4 @@
-use Rattle.std.proofs.Common.{◌≡◌, ◌+◌, ◌<◌, length, take, sym, subst, ap, ◌∙◌}
+use Rattle.std.proofs.Common.{◌+◌, ◌<◌, length, take, sym, subst, ap, ◌∙◌}
 use Rattle.proof_tree.specs.Graphs.{IsGraph}
 use Rattle.proof_tree.proofs.KeyLaws.{front_is_graph, front_is}
 use Rattle.proof_tree.proofs.builder.GraphBuilder.finish.Goals as goal
