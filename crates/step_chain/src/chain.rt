@@ -94,6 +94,7 @@ impl<'a> Chain<'a> {
     ghost use Rattle.solve_model.specs.Verdicts as verdicts;
     ghost use Rattle.solve_model.specs.Verdicts.{AreJudged};
     ghost use Rattle.solve_model.specs.MostGeneral.{IsTheValuation};
+    ghost use Rattle.solve_model.specs.Bound.{work_size};
     ghost use Rattle.step_chain.specs.Steps.{ArePlaced, step_at};
     ghost use Rattle.solve_model.specs.Solutions.{Asked};
     ghost use Rattle.step_chain.specs.Ordered.{formula_at, reordered};
@@ -139,8 +140,9 @@ impl<'a> Chain<'a> {
         count(self.steps.as_slice()) as u32
     }
 
-    /// The store of terms.
+    /// The store of terms. It has at most as many nodes as the worksheet's work size.
     pub fn arena(&self) -> &Arena
+        ensures few { OfEachBook self.now (λ db. length self.now.nodes ≤ work_size db self.now.bound) }
         ensures nodes { result.now.nodes ≡ self.now.nodes }
         ensures links { result.now.links ≡ self.now.links }
     {
