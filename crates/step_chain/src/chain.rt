@@ -142,8 +142,9 @@ impl<'a> Chain<'a> {
         count(self.steps.as_slice()) as u32
     }
 
-    /// The store of terms.
+    /// The store of terms. It has at most as many nodes as the worksheet's work size.
     pub fn arena(&self) -> &Arena
+        ensures few { OfEachBook self.now (λ db. length self.now.nodes ≤ work_size db self.now.bound) }
         ensures nodes { result.now.nodes ≡ self.now.nodes }
         ensures links { result.now.links ≡ self.now.links }
     {

@@ -68,10 +68,16 @@ fn implies(alloc: Global, a: Tree, b: Tree) -> Result<Tree, AllocError> {
     Ok(Tree::Node(WI, WFF, List::from_vec(children)))
 }
 
+fn kinds(alloc: Global) -> Result<Kinds, AllocError> {
+    Ok(Kinds {
+        provable: name(alloc, b"|-")?,
+        logic: name(alloc, b"wff")?,
+    })
+}
+
 fn database(alloc: Global) -> Option<Database> {
-    let provable = name(alloc, b"|-").ok()?;
-    let logic = name(alloc, b"wff").ok()?;
-    open_database(alloc, DATABASE, &Kinds { provable, logic }).ok()
+    let kinds = kinds(alloc).ok()?;
+    open_database(alloc, DATABASE, &kinds).ok()
 }
 
 // Forty doublings.
@@ -85,13 +91,14 @@ fn doublings(rt: HostRuntime) -> Result<(), Fail> {
         steps.push(step(alloc, Some(b"dup"), &[Given::Step(k)], None)?)?;
     }
     let bound = bound(alloc, steps);
-    let mut chain = Chain::new(alloc, &db, &bound)?;
+    let kinds = kinds(alloc)?;
+    let mut chain = Chain::new(alloc, &db, &kinds, &bound)?;
     for i in 0..41 {
         let verdict = chain.push_step(i)?;
         assert!(rt; verdict == if i == 0 { Verdict::Hyp } else { Verdict::Fits });
     }
     assert!(rt; chain.arena().count() == 41 + 40 * 2);
-    match chain.formula(40) {
+    match chain.trees()?.formula(40) {
         Err(TreeFault::TooLong(n)) => {
             assert!(rt; n == 4_398_046_511_102);
         }
@@ -99,7 +106,7 @@ fn doublings(rt: HostRuntime) -> Result<(), Fail> {
             assert!(rt; false);
         }
     }
-    match chain.formula(2) {
+    match chain.trees()?.formula(2) {
         Ok(Tree::Node(_, _, _)) => {}
         _ => {
             assert!(rt; false);
@@ -125,13 +132,14 @@ fn other_order(rt: HostRuntime) -> Result<(), Fail> {
     steps.push(step(alloc, Some(b"dup"), &[], Some(wrong))?)?;
     steps.push(step(alloc, Some(b"none"), &[], None)?)?;
     let bound = bound(alloc, steps);
-    let mut chain = Chain::new(alloc, &db, &bound)?;
+    let kinds = kinds(alloc)?;
+    let mut chain = Chain::new(alloc, &db, &kinds, &bound)?;
     assert!(rt; chain.push_step(0)? == Verdict::Hyp);
     assert!(rt; chain.push_step(1)? == Verdict::Hyp);
     assert!(rt; chain.push_step(2)? == Verdict::Fits);
     assert!(rt; chain.push_step(3)? == Verdict::NoFit);
     assert!(rt; chain.push_step(4)? == Verdict::UnknownRef);
-    match chain.formula(0) {
+    match chain.trees()?.formula(0) {
         Ok(Tree::Node(_, _, children)) => match children.as_slice() {
             [Tree::Work(_, number), Tree::Var(_, _)] => {
                 assert!(rt; *number == 2);
