@@ -2,16 +2,16 @@
 //! that memory is wanting.
 #![tactic(auto)]
 
-mod fault_lines;
 mod faults;
 mod lines;
 mod outcome;
+mod refusal_line;
 mod unify;
 
-pub use fault_lines::fault_line;
 pub use faults::UnifyFault;
 pub use lines::report_lines;
 pub use outcome::Outcome;
+pub use refusal_line::fault_line;
 pub use sheet_bind::BindCode;
 pub use sheet_read::SheetCode;
 pub use unify::{unify_read, unify_sheet};

@@ -1,0 +1,5 @@
+mod Blocks
+mod OptionWords
+mod Stands
+mod Theorems
+mod Verdicts
