@@ -1,4 +1,4 @@
-use Rattle.mmp_run.proofs.Texts.{listed_text}
+use Rattle.mmp_run.proofs.Refusals.{listed_text}
 use Rattle.mmp_run.proofs.opening.open_text.Goals as goal
 
 pub returns-in-Ok : goal.returns-in-Ok
