@@ -1,4 +1,6 @@
 mod Blocks
+mod Delivered
+mod MayEnd
 mod OptionWords
 mod Refusals
 mod Stands

@@ -56,12 +56,12 @@ long_file end (Some text) says long = refused_by text end (fault (2 ^ 28) 30) (t
 -- a file of too many bytes
 pub refused_long : (told : Option Files) (name : List ℕ) (end : Ending) → end ≡ refusal Database (database_line (fault (2 ^ 28) 30))
     → IfSome told (λ files. IsSomeAnd (files name) (λ text. 2 ^ 28 < length text)) → IsRefused told name end
-refused_long None name end says long = record { status = ap (λ (x : Ending). x.status) says; due = tt }
-refused_long (Some files) name end says long = record { status = ap (λ (x : Ending). x.status) says; due = long_file end (files name) says long }
+refused_long None name end says long = record { status = ap (λ (x : Ending). x.status) says; out = ap (λ (x : Ending). x.out) says; due = tt }
+refused_long (Some files) name end says long = record { status = ap (λ (x : Ending). x.status) says; out = ap (λ (x : Ending). x.out) says; due = long_file end (files name) says long }
 
 pub text_refused : (told : Option Files) (name text : List ℕ) (end : Ending) → Has told name text → IsDatabaseRefusal text end → IsRefused told name end
-text_refused None name text end has is = record { status = is.refuses.status; due = tt }
-text_refused (Some files) name text end has is = record { status = is.refuses.status; due = rw has is }
+text_refused None name text end has is = record { status = is.refuses.status; out = is.refuses.out; due = tt }
+text_refused (Some files) name text end has is = record { status = is.refuses.status; out = is.refuses.out; due = rw has is }
 
 -- the statements of the text of a file, as it was read
 pub listed_text : (told : Option Files) (name text read : List ℕ) (contents : Contents) → read ≡ text → Has told name text → contents ≡ contents_of read → database_fault read ≡ None → IsListedText told name text contents
@@ -86,12 +86,12 @@ long_sheet end (Some text) says long = sheet_refused_by text end (fault 1 50) (l
 -- a file of too many bytes
 pub sheet_refused_long : (told : Option Files) (name : List ℕ) (end : Ending) → end ≡ refusal Sheet (refusal_line (at_line (fault 1 50)))
     → IfSome told (λ files. IsSomeAnd (files name) (λ text. 2 ^ 24 < length text)) → IsSheetRefused told name end
-sheet_refused_long None name end says long = record { status = ap (λ (x : Ending). x.status) says; due = tt }
-sheet_refused_long (Some files) name end says long = record { status = ap (λ (x : Ending). x.status) says; due = long_sheet end (files name) says long }
+sheet_refused_long None name end says long = record { status = ap (λ (x : Ending). x.status) says; out = ap (λ (x : Ending). x.out) says; due = tt }
+sheet_refused_long (Some files) name end says long = record { status = ap (λ (x : Ending). x.status) says; out = ap (λ (x : Ending). x.out) says; due = long_sheet end (files name) says long }
 
 sheet_refused_text : (told : Option Files) (name text : List ℕ) (end : Ending) → Has told name text → IsSheetRefusal text end → IsSheetRefused told name end
-sheet_refused_text None name text end has is = record { status = is.refuses.status; due = tt }
-sheet_refused_text (Some files) name text end has is = record { status = is.refuses.status; due = rw has is }
+sheet_refused_text None name text end has is = record { status = is.refuses.status; out = is.refuses.out; due = tt }
+sheet_refused_text (Some files) name text end has is = record { status = is.refuses.status; out = is.refuses.out; due = rw has is }
 
 -- a text with a fault
 pub sheet_refused : (told : Option Files) (name text : List ℕ) (end : Ending) (f : Fault) → length text ≤ 2 ^ 24 → Has told name text → line_fault text ≡ Some f → end ≡ refusal Sheet (refusal_line (at_line f)) → IsSheetRefused told name end

@@ -1,5 +1,5 @@
 -- What came of opening the file of a database.
-use Rattle.std.specs.Prelude.{◌≡◌, ◌⊎◌, ℕ, List, Option, Some, IfSome, IsSomeAnd}
+use Rattle.std.specs.Prelude.{◌≡◌, ◌⊎◌, ℕ, List, [], Option, Some, IfSome, IsSomeAnd}
 use Rattle.call_answers.specs.declared.ending.Ending.{Ending}
 use Rattle.call_answers.specs.Given.{read_fault}
 use Rattle.mm_base.specs.Outside.{Files, Rose}
@@ -16,6 +16,7 @@ Has told name text = IfSome told (λ files. files name ≡ Some text)
 -- the ending refuses the text under a name
 pub record IsRefused (told : Option Files) (name : List ℕ) (end : Ending) : Type 0 where
   pub status : end.status ≡ Database
+  pub out : end.out ≡ []
   pub due : IfSome told (λ files. IsSomeAnd (files name) (λ text. IsDatabaseRefusal text end))
 
 -- the ending names a file that failed to be read

@@ -1,5 +1,5 @@
 -- What came of opening the file of a worksheet.
-use Rattle.std.specs.Prelude.{◌≡◌, ◌⊎◌, ℕ, List, Option, Some, IfSome, IsSomeAnd}
+use Rattle.std.specs.Prelude.{◌≡◌, ◌⊎◌, ℕ, List, [], Option, Some, IfSome, IsSomeAnd}
 use Rattle.call_answers.specs.declared.ending.Ending.{Ending}
 use Rattle.mm_base.specs.Outside.{Files}
 use Rattle.mm_base.specs.declared.status.Status.TheVariants as statuses
@@ -13,6 +13,7 @@ use Rattle.mmp_run.specs.Refused.{IsReadable, IsSheetRefusal}
 -- the ending refuses the text under a name
 pub record IsSheetRefused (told : Option Files) (name : List ℕ) (end : Ending) : Type 0 where
   pub status : end.status ≡ statuses.Sheet
+  pub out : end.out ≡ []
   pub due : IfSome told (λ files. IsSomeAnd (files name) (λ text. IsSheetRefusal text end))
 
 -- the text under a name has no fault, and says the worksheet

@@ -1,7 +1,8 @@
 -- What the texts of a database and of a worksheet give.
-use Rattle.std.specs.Prelude.{◌≡◌, ℕ, List, Some, None}
+use Rattle.std.specs.Prelude.{◌≡◌, ℕ, List, [], Some, None, false}
 use Rattle.call_answers.specs.declared.ending.Ending.{Ending}
 use Rattle.call_answers.specs.Endings.{Refuses, Unifies}
+use Rattle.call_answers.specs.Given.{is_written}
 use Rattle.fault_lines.specs.FaultLines.{database_line, refusal_line}
 use Rattle.fault_lines.specs.Refusals.{at_line}
 use Rattle.mm_base.specs.declared.status.Status.{Status}
@@ -45,3 +46,8 @@ IsTextStatus status.Read = ⊥
 IsTextStatus status.Write = ⊥
 IsTextStatus status.Memory = ⊥
 IsTextStatus s = Unit {0}
+
+-- it has such a status, and a text for the output only where there is something to write
+pub record IsTextEnding (end : Ending) : Type 0 where
+  pub status : IsTextStatus end.status
+  pub silent : is_written end.status ≡ false → end.out ≡ []

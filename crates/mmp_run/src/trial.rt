@@ -2,7 +2,7 @@
 
 ghost use Rattle.std.specs.Prelude.{◌≤◌, IfOk};
 ghost use Rattle.call_answers.specs.Trial.{IsTried};
-ghost use Rattle.mmp_run.specs.Refused.{IsTextStatus};
+ghost use Rattle.mmp_run.specs.Refused.{IsTextEnding};
 
 use call_answers::Ending;
 use mm_base::Memory;
@@ -11,7 +11,7 @@ use std::alloc::Global;
 /// The ending for a trial with so many blocks.
 pub fn end_trial(alloc: Global, blocks: u32) -> Result<Ending, Memory>
     ensures answer { IfOk result (IsTried blocks) }
-    ensures status { IfOk result (λ end. IsTextStatus end.status) }
+    ensures ending { IfOk result IsTextEnding }
 {
     let _ = alloc;
     let _ = blocks;

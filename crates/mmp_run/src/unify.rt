@@ -8,7 +8,7 @@ ghost use Rattle.mm_database.specs.Opened.{IsOpened};
 ghost use Rattle.mm_frames.specs.Contents.{contents_of};
 ghost use Rattle.mm_model.specs.Statements.{database_fault};
 ghost use Rattle.mmp_run.specs.Refusals.{refusal};
-ghost use Rattle.mmp_run.specs.Refused.{IsTextStatus, IsUnified};
+ghost use Rattle.mmp_run.specs.Refused.{IsTextEnding, IsUnified};
 ghost use Rattle.fault_lines.specs.FaultLines.{refusal_line};
 ghost use Rattle.sheet_text.specs.Layout.{ended};
 ghost use Rattle.sheet_unify.specs.Answered.{IsWritten, SaysSheet, refusal_of};
@@ -54,7 +54,7 @@ fn end_outcome(alloc: Global, db: &Database, outcome: Outcome) -> Result<Ending,
     ensures written { (options : Options) (text : List ℕ) (w : Writing) → IsOpened options.kinds text db.now
         → IsWritten (database_of options.kinds text db.now.rows db.now.parsed) options w outcome
         → IfOk result (Shows (database_of options.kinds text db.now.rows db.now.parsed) options w) }
-    ensures status { IfOk result (λ end. IsTextStatus end.status) }
+    ensures ending { IfOk result IsTextEnding }
 {
     let lines = report_lines(alloc, db, &outcome.report, outcome.finished)?;
     let log = report_text(alloc, lines.as_slice())?;
@@ -85,7 +85,7 @@ fn end_opened(
 ) -> Result<Ending, Memory>
     ensures answer { (text sheet_text : List ℕ) → IsOpened options.now.kinds text database.now → SaysSheet sheet_text sheet.now
         → IfOk result (IsUnified options.now text sheet_text) }
-    ensures status { IfOk result (λ end. IsTextStatus end.status) }
+    ensures ending { IfOk result IsTextEnding }
 {
     answer_is_unified();
     match unify_read(alloc, database, sheet, options) {
@@ -105,7 +105,7 @@ pub fn end_sheet(
     requires contents { frames ≡ contents_of text.now }
     requires no_fault { database_fault text.now ≡ None }
     ensures answer { (sheet_text : List ℕ) → SaysSheet sheet_text sheet.now → IfOk result (IsUnified options.now text.now sheet_text) }
-    ensures status { IfOk result (λ end. IsTextStatus end.status) }
+    ensures ending { IfOk result IsTextEnding }
 {
     match open_frames(alloc, text, frames, &options.kinds) {
         Ok(database) => end_opened(alloc, &database, sheet, options),
