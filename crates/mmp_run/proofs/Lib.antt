@@ -1,0 +1,9 @@
+mod Blocks
+mod Delivered
+mod MayEnd
+mod OptionWords
+mod Refusals
+mod Stands
+mod Theorems
+mod Unified
+mod Verdicts
