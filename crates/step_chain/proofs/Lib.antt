@@ -25,3 +25,4 @@ pub mod CountLaws
 pub mod RowSizes
 pub mod AnswerLaws
 pub mod ReaderLaws
+pub mod FewLaws

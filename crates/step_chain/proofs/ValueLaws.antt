@@ -38,9 +38,7 @@ use Rattle.step_chain.specs.Steps.{asked_by, accepted_by, judgement_of, judgemen
 use Rattle.step_chain.specs.Levels.{IsLevel}
 use Rattle.step_chain.specs.Held.{Held, judgements_of, OfEachBook, IsHeld}
 use Rattle.mm_database.specs.Books.{database_of}
-use Rattle.solve_model.specs.Bound.{work_size}
 use Rattle.step_chain.proofs.ChainLaws.{sound_of}
-use Rattle.step_chain.proofs.CountLaws.{front_few}
 use Rattle.step_chain.specs.Values as values
 use Rattle.step_chain.specs.Values.{accepted_at, node_in, value_of}
 
@@ -223,12 +221,3 @@ pub chain_valuation : (h now : Held) → h ≡ now → IsHeld h → OfEachBook n
 chain_valuation h now e inv =
     subst (λ (x : Held). OfEachBook x (λ db. IsTheValuation db x.bound (accepted_in (judgements_of x)) (value_of x))) e
     (λ kinds text sheet opened binds code. the_valuation h (database_of kinds text h.book.rows h.book.parsed) ((sound_of h inv).level kinds text sheet opened binds code))
-
-pub chain_few : (h now : Held) → h ≡ now → IsHeld h → OfEachBook now (λ db. length now.nodes ≤ work_size db now.bound)
-chain_few h now e inv =
-    subst (λ (x : Held). OfEachBook x (λ db. length x.nodes ≤ work_size db x.bound)) e
-    (λ kinds text sheet opened binds code.
-    let db = database_of kinds text h.book.rows h.book.parsed in
-    let few = ((sound_of h inv).level kinds text sheet opened binds code).few in
-    let all = front_few db h.bound (length h.steps) in
-    omega (arith, few, all))

@@ -130,20 +130,19 @@ impl<'a> Chain<'a> {
     }
 
     /// How many steps were pushed. Each is judged by those that were accepted before it, and the chain stands for the most
-    /// general valuation of those that are accepted. Its store has no more nodes than the work size counts. It takes constant
-    /// time.
+    /// general valuation of those that are accepted. It takes constant time.
     pub fn pushed(&self) -> u32
         ensures count { result ≡ length (judgements_of self.now) }
         ensures judged { OfEachBook self.now (λ db. length (judgements_of self.now) ≡ length self.now.bound.steps
             → AreJudged db self.now.bound (judgements_of self.now)) }
         ensures valuation { OfEachBook self.now (λ db. IsTheValuation db self.now.bound (verdicts.accepted_in (judgements_of self.now)) (value_of self.now)) }
-        ensures few { OfEachBook self.now (λ db. length self.now.nodes ≤ work_size db self.now.bound) }
     {
         count(self.steps.as_slice()) as u32
     }
 
-    /// The store of terms.
+    /// The store of terms. It has at most as many nodes as the worksheet's work size.
     pub fn arena(&self) -> &Arena
+        ensures few { OfEachBook self.now (λ db. length self.now.nodes ≤ work_size db self.now.bound) }
         ensures nodes { result.now.nodes ≡ self.now.nodes }
         ensures links { result.now.links ≡ self.now.links }
     {
