@@ -1,7 +1,9 @@
 -- What is answered of the steps of a chain.
 use Rattle.std.specs.Prelude.{◌≡◌, ℕ, ◌<◌, ◌≤◌, ◌+◌, ◌⊎◌, List, [], ◌∷◌, length, map, slice_get, slice_index_or, unwrap_or, is_some, option_and_then, Bool, true, false, IsTrue, Contains, Option, Some, None, Result, Ok, Err, refl}
 use Rattle.std.specs.List.{AllByRecursion, AllZip}
-use Rattle.std.proofs.Common.{zero, suc, sym, ap, subst, ◌∙◌, arith, inl, inr}
+use Rattle.std.specs.Option.{option_map_or}
+use Rattle.std.proofs.Common.{zero, suc, get_or, sym, ap, subst, ◌∙◌, arith, inl, inr}
+use Rattle.std.proofs.lemmas.Option.{slice_get-get_or}
 use Rattle.mm_base.specs.declared.symbols.Label.{Label}
 use Rattle.mm_base.specs.declared.tree.Tree.{Tree}
 use Rattle.mm_model.specs.Productions.{TypedVariable}
@@ -15,6 +17,7 @@ use Rattle.solve_model.specs.Verdicts.{Judgement, accepted, stands, accepted_in}
 use Rattle.term_model.specs.declared.shape.Id.{Id}
 use Rattle.term_model.specs.Terms.{Term}
 use Rattle.term_model.specs.Links.{Link}
+use Rattle.term_model.specs.Sizes.{HaveConstants}
 use Rattle.chain_laws.specs.declared.leaves.WorkNode.{WorkNode}
 use Rattle.chain_laws.specs.declared.leaves.VariableNode.{VariableNode}
 use Rattle.chain_laws.specs.Adding.{variable_at}
@@ -30,13 +33,14 @@ use Rattle.step_chain.specs.declared.reading.TreeFault.{TreeFault}
 use Rattle.step_chain.specs.Standings.{usable_in}
 use Rattle.step_chain.specs.Ordered.{formula_at, reordered}
 use Rattle.step_chain.specs.Steps.{step_at, asked_by, accepted_by, judgement_of, judgements_from}
-use Rattle.step_chain.specs.Levels.{IsLevel}
-use Rattle.step_chain.specs.Readings.{IsRead, IsReadOff}
+use Rattle.step_chain.specs.Grown.{AreIdsIn, AreVariablesIn}
+use Rattle.step_chain.specs.Levels.{IsLevel, IsKeptIn}
+use Rattle.step_chain.specs.Readings.{Readable, IsRead, IsReadOff}
 use Rattle.step_chain.specs.Held.{Held, judgements_of, OfEachBook, IsHeld}
 use Rattle.step_chain.specs.Values as values
 use Rattle.step_chain.specs.Values.{accepted_at, kept_at, value_of}
-use Rattle.step_chain.specs.Answers.{IsAcceptedAs, OfAccepted, OfKept, constants_of}
-use Rattle.step_chain.proofs.Lists.{all_has}
+use Rattle.step_chain.specs.Answers.{IsAcceptedAs, OfAccepted, OfKept, IsOfChain, AreRead, values_at, values_of, constants_of}
+use Rattle.step_chain.proofs.Lists.{all_has, all_at}
 use Rattle.step_chain.proofs.LevelLaws.{judgement_at, judgement_fits, among}
 use Rattle.step_chain.proofs.ChainLaws.{sound_of}
 use Rattle.step_chain.proofs.ValueLaws.{store_value, value_same, formula_is}
@@ -183,6 +187,21 @@ module _ (h : Held) (db : Database) (level : IsLevel db h.book h.bound h.works h
           let k = level.kept i step.pushed step.kept step.at step.fits in
           ap (λ (z : Accepted). map (λ (w : VariableNode). record { sym = w.sym; code = w.code }) z.variables) (sym own) ∙ k.nodes_are.order ∙ ap (λ (a : Assertion). a.vars) (same_assertion ∙ own_assertion)
 
+      values_from : (ws : List VariableNode) → ((w : VariableNode) → Contains ws w → variable_at x.variables w.sym w.code ≡ Some w.node)
+          → values_at (record { nodes = h.nodes; links = h.links; works = h.works }) ws ≡ map (λ (v : TypedVariable). value_of h (copy i v.sym v.code)) (map (λ (w : VariableNode). record { sym = w.sym; code = w.code }) ws)
+      values_from [] f = refl
+      values_from (w ∷ ws) f =
+          let here : value_at h.nodes h.links h.works w.node ≡ value_of h (copy i w.sym w.code) =
+          ap (value_at h.nodes h.links h.works) (sym (ap (λ (o : Option Accepted). option_map_or (λ (z : Accepted). unwrap_or (variable_at z.variables w.sym w.code) 0) o 0) e ∙ ap (λ (o : Option ℕ). unwrap_or o 0) (f w (0, omega arith, refl)))) in
+          let rest = values_from ws (λ v c. f v (suc c.0, omega (arith, c.1), c.2)) in
+          cc
+
+      pub values_are : values_at (record { nodes = h.nodes; links = h.links; works = h.works }) x.variables ≡ values_of h i y
+      values_are =
+          let k = level.kept i step.pushed step.kept step.at step.fits in
+          values_from x.variables (λ w c. subst (λ (z : Accepted). variable_at z.variables w.sym w.code ≡ Some w.node) own (k.nodes_are.found w (subst (λ (z : Accepted). Contains z.variables w) (sym own) c)))
+          ∙ ap (map (λ (v : TypedVariable). value_of h (copy i v.sym v.code))) variables_are
+
   -- and back
   pub accepted_back : (x : Accepted) → accepted_at h i ≡ Some x → (y : Asked) × IsAcceptedAs h i y
   accepted_back x e =
@@ -230,3 +249,68 @@ module _ (h : Held) (inv : IsHeld h) (i : ℕ) (x : Accepted) (at : accepted_at 
   hyps_told n is kinds text sheet opened binds code y a =
       let level = (sound_of h inv).level kinds text sheet opened binds code in
       is ∙ own_count h (database_of kinds text h.book.rows h.book.parsed) level i y a x at
+
+-- ---- trees that are read
+
+id_inside : (n : ℕ) (ids : List Id) (k : ℕ) (d : Id) → AreIdsIn n ids → k < length ids → (get_or ids k d).0 < n
+id_inside n [] k d h below = absurd (omega (arith, below))
+id_inside n (x ∷ ids) zero d h below = h.0
+id_inside n (x ∷ ids) (suc k) d h below = id_inside n ids k d h.1 (omega (arith, below))
+
+module _ (h now : Held) (e : h ≡ now) (t : Readable) (of : IsOfChain h t) where
+  here : IsHeld now
+  here = subst IsHeld e of.held
+
+  trees_are : t ≡ record { nodes = now.nodes; links = now.links; works = now.works }
+  trees_are = subst (λ (n : Held). t ≡ record { nodes = n.nodes; links = n.links; works = n.works }) e of.trees
+
+  pub inside : (j : ℕ) → j < length now.nodes → j < length t.nodes
+  inside j below = subst (λ (r : Readable). j < length r.nodes) (sym trees_are) below
+
+  off_chain : (j : ℕ) (r : Result Tree TreeFault) → IsReadOff t.nodes t.links t.works j r → IsReadOff now.nodes now.links now.works j r
+  off_chain j r off = subst (λ (u : Readable). IsReadOff u.nodes u.links u.works j r) trees_are off
+
+  -- a formula
+  pub formula_told : (i : ℕ) → i < length now.bound.steps → (id : Id) → id ≡ formula_at now.formulas i → (r : Result Tree TreeFault) → IsReadOff t.nodes t.links t.works id.0 r
+      → OfEachBook now (λ db. IsRead (constants_of now) (formula now.bound (value_of now) i) r)
+  formula_told i below id is r off kinds text sheet opened binds code =
+      let db = database_of kinds text now.book.rows now.book.parsed in
+      let level = (sound_of now here).level kinds text sheet opened binds code in
+      read_is now db level i id.0 (formula now.bound (value_of now) i) r
+      (ap (λ (x : Id). value_at now.nodes now.links now.works x.0) is ∙ formula_is now db level i below) (off_chain id.0 r off)
+
+  module _ (i : ℕ) (x : Accepted) (at : accepted_at now i ≡ Some x) where
+    kept_inside : IsKeptIn (length now.nodes) (Fits x)
+    kept_inside =
+        let told = is_kept_at now.steps i x at in
+        subst (IsKeptIn (length now.nodes)) told.fits (all_at (λ (p : Pushed). IsKeptIn (length now.nodes) p.judged) now.steps i told.pushed (sound_of now here).kept_in told.at)
+
+    -- a `$e`
+    pub hyp_inside : (ids : List Id) (k : ℕ) (d : Id) → ids ≡ x.hyps → k < length x.hyps → (get_or ids k d).0 < length t.nodes
+    hyp_inside ids k d is below =
+        inside (get_or ids k d).0 (subst (λ (xs : List Id). (get_or xs k d).0 < length now.nodes) (sym is) (id_inside (length now.nodes) x.hyps k d kept_inside.0 below))
+
+    pub hyp_told : (ids : List Id) (k : ℕ) (d : Id) → ids ≡ x.hyps → k < length x.hyps → (r : Result Tree TreeFault) → IsReadOff t.nodes t.links t.works (get_or ids k d).0 r
+        → OfAccepted now i (λ y. (u : Tree) → slice_get y.assertion.hyps k ≡ Some u → IsRead (constants_of now) (instance (value_of now) i u) r)
+    hyp_told ids k d is below r off kinds text sheet opened binds code y a u one =
+        let db = database_of kinds text now.book.rows now.book.parsed in
+        let level = (sound_of now here).level kinds text sheet opened binds code in
+        let id = get_or ids k d in
+        let two : slice_get x.hyps k ≡ Some id = slice_get-get_or x.hyps k d below ∙ ap (λ (xs : List Id). Some (get_or xs k d)) (sym is) in
+        read_is now db level i id.0 (instance (value_of now) i u) r (hyp_value now db level i y a x at k u id one two) (off_chain id.0 r off)
+
+    -- the variables
+    pub variables_inside : (vs : List VariableNode) → vs ≡ x.variables → AreVariablesIn (length t.nodes) vs
+    variables_inside vs is =
+        subst (AreVariablesIn (length t.nodes)) (sym is) (subst (λ (r : Readable). AreVariablesIn (length r.nodes) x.variables) (sym trees_are) kept_inside.1)
+
+    pub values_told : (vs : List VariableNode) → vs ≡ x.variables → (r : Result (List Tree) TreeFault)
+        → ((constants : Label → ℕ) → HaveConstants constants t.nodes → AreWorkNodes t.nodes t.works → AreRead constants (values_at t vs) r) → OfAccepted now i (λ y. AreRead (constants_of now) (values_of now i y) r)
+    values_told vs is r off kinds text sheet opened binds code y a =
+        let db = database_of kinds text now.book.rows now.book.parsed in
+        let level = (sound_of now here).level kinds text sheet opened binds code in
+        let c = constants_of now in
+        let chain : AreRead c (values_at (record { nodes = now.nodes; links = now.links; works = now.works }) vs) r =
+        subst (λ (u : Readable). HaveConstants c u.nodes → AreWorkNodes u.nodes u.works → AreRead c (values_at u vs) r) trees_are (off c) level.constants (works_free now db level i) in
+        subst (λ (ts : List Tree). AreRead c ts r)
+        (ap (values_at (record { nodes = now.nodes; links = now.links; works = now.works })) is ∙ values_are now db level i y a x at) chain

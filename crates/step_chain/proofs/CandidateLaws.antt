@@ -1,5 +1,5 @@
 -- A candidate of the next step, taken into the store.
-use Rattle.std.specs.Prelude.{◌≡◌, ℕ, ◌<◌, ◌≤◌, ◌+◌, Bool, true, false, List, [], ◌∷◌, ◌++◌, length, map, slice_get, Contains, Option, Some, None, option_map, sum, refl}
+use Rattle.std.specs.Prelude.{◌≡◌, ℕ, ◌<◌, ◌≤◌, ◌+◌, Bool, true, false, List, [], ◌∷◌, ◌++◌, length, map, find, slice_get, Contains, Option, Some, None, option_map, sum, refl}
 use Rattle.std.specs.List.{AllByRecursion, AllZip, flat_map, range_with_len}
 use Rattle.std.proofs.Common.{zero, suc, get_or, sym, ap, subst, ◌∙◌, arith, cond}
 use Rattle.std.proofs.lemmas.List.{length-map, length_push}
@@ -30,9 +30,9 @@ use Rattle.term_model.specs.Store.{Store, IsStore, IsSolved}
 use Rattle.chain_laws.specs.declared.leaves.WorkNode.{WorkNode}
 use Rattle.chain_laws.specs.declared.leaves.VariableNode.{VariableNode}
 use Rattle.term_model.specs.Sizes.{HaveConstants}
-use Rattle.chain_laws.specs.Adding.{Listed, constants_in, numbered, AreApart, variable_at}
+use Rattle.chain_laws.specs.Adding.{Listed, constants_in, numbered, AreApart, is_variable, variable_at}
 use Rattle.chain_laws.specs.Layout.{Layout, IsReadyAsked, IsSoundAsked, HasRoom, IsChained, AreFormulaNodes, AreCandidateNodes, IsInstanceNode}
-use Rattle.chain_laws.proofs.Copies.{with_copies, kept_node, copied_is, found, variable_with}
+use Rattle.chain_laws.proofs.Copies.{with_copies, kept_node, copied_is, found, variable_with, same_variable, self_variable}
 use Rattle.again_laws.specs.Whole.{IsWhole}
 use Rattle.step_chain.specs.declared.judged.Accepted.{Accepted}
 use Rattle.step_chain.specs.declared.judged.Judged.{Judged}
@@ -117,6 +117,33 @@ apart_from (v ∷ vs) h =
 variables_of : (n : ℕ) (vs : List TypedVariable) → map (λ (w : VariableNode). record { sym = w.sym; code = w.code }) (numbered n vs) ≡ vs
 variables_of n [] = refl
 variables_of n (v ∷ vs) = ap (λ (ws : List TypedVariable). v ∷ ws) (variables_of (n + 1) vs)
+
+-- of variables that are apart each is found at its own node
+numbered_has : (n : ℕ) (vs : List TypedVariable) (w : VariableNode) → Contains (numbered n vs) w → Contains vs (record { sym = w.sym; code = w.code }) × (n ≤ w.node)
+numbered_has n [] w (k, l, e) = absurd (omega (arith, l))
+numbered_has n (v ∷ vs) w (zero, l, e) = ((0, omega arith, ap (λ (x : VariableNode). record { sym = x.sym; code = x.code }) e), let node : n ≡ w.node = ap (λ (x : VariableNode). x.node) e in omega (arith, node))
+numbered_has n (v ∷ vs) w (suc k, l, e) =
+    let told = numbered_has (n + 1) vs w (k, omega (arith, l), e) in
+    let more = told.1 in
+    ((suc told.0.0, omega (arith, told.0.1), told.0.2), omega (arith, more))
+
+own_by : (n : ℕ) (v : TypedVariable) (vs : List TypedVariable) (w : VariableNode) (b : Bool) → is_variable w.sym w.code (record { sym = v.sym; code = v.code; node = n }) ≡ b → (v ∷ vs ≡ v ∷ vs)
+    → (b ≡ false → option_map (λ (x : VariableNode). x.node) (find (is_variable w.sym w.code) (numbered (n + 1) vs)) ≡ Some w.node) → (b ≡ true → n ≡ w.node)
+    → option_map (λ (x : VariableNode). x.node) (cond b (Some (record { sym = v.sym; code = v.code; node = n })) (find (is_variable w.sym w.code) (numbered (n + 1) vs))) ≡ Some w.node
+own_by n v vs w true e s rest here = ap (λ (k : ℕ). Some k) (here refl)
+own_by n v vs w false e s rest here = rest refl
+
+own_found : (n : ℕ) (vs : List TypedVariable) → AreApart vs → (w : VariableNode) → Contains (numbered n vs) w → variable_at (numbered n vs) w.sym w.code ≡ Some w.node
+own_found n [] apart w (k, l, e) = absurd (omega (arith, l))
+own_found n (v ∷ vs) apart w (zero, l, e) =
+    let self : is_variable w.sym w.code (record { sym = v.sym; code = v.code; node = n }) ≡ true = subst (λ (x : VariableNode). is_variable x.sym x.code (record { sym = v.sym; code = v.code; node = n }) ≡ true) e (self_variable v.sym v.code n) in
+    own_by n v vs w (is_variable w.sym w.code (record { sym = v.sym; code = v.code; node = n })) refl refl
+    (λ no. let impossible : false ≡ true = sym no ∙ self in absurd (cc)) (λ yes. ap (λ (x : VariableNode). x.node) e)
+own_found n (v ∷ vs) apart w (suc k, l, e) =
+    let later : Contains (numbered (n + 1) vs) w = (k, omega (arith, l), e) in
+    own_by n v vs w (is_variable w.sym w.code (record { sym = v.sym; code = v.code; node = n })) refl refl
+    (λ no. own_found (n + 1) vs apart.1 w later)
+    (λ yes. absurd (apart.0 (subst (Contains vs) (sym (same_variable w.sym w.code (record { sym = v.sym; code = v.code; node = n }) yes)) (numbered_has (n + 1) vs w later).0)))
 
 -- ---- the next step
 
@@ -262,6 +289,9 @@ module _ (db : Database) (d : Opened) (book : IsBookOf db d) (facts : IsDatabase
       copies = λ v o.
           ap (λ (vs : List VariableNode). variable_at vs v.sym v.code) variables_are ∙ (found (length old.nodes) a.vars v.sym v.code o).node
           ∙ ap (λ (k : ℕ). Some k) (sym (copied_is db bound before i a s.places old.nodes lay level.chained.laid_out apart own_fresh v.sym v.code o));
+      found = λ w c.
+          subst (λ (vs : List VariableNode). variable_at vs w.sym w.code ≡ Some w.node) (sym variables_are)
+          (own_found (length old.nodes) a.vars apart w (subst (λ (vs : List VariableNode). Contains vs w) variables_are c));
       order = ap (map (λ (w : VariableNode). record { sym = w.sym; code = w.code })) variables_are ∙ variables_of (length old.nodes) a.vars;
     }
 

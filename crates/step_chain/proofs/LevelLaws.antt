@@ -107,6 +107,7 @@ module _ (bound : Bound) (before : List Asked) (nodes more : List Term) (lay lay
   kept_stays i x a is sound h = record {
     hyps = zip_weaker (IsOver a.vars) (IsInstanceNode nodes lay i) (IsInstanceNode (nodes ++ more) lay' i) (λ t j over one. instance_stays (asked_by bound i x a) is t j over one) a.hyps (map (λ (id : Id). id.0) x.hyps) sound.hyps h.hyps;
     copies = λ v o. h.copies v o ∙ ap (λ (n : ℕ). Some n) (sym (same (copy i v.sym v.code) (in_frame (asked_by bound i x a) v is o)));
+    found = h.found;
     order = h.order;
   }
 

@@ -1,7 +1,6 @@
 -- Trees that are read one after the other.
-use Rattle.std.specs.Prelude.{◌≡◌, ℕ, ◌<◌, ◌≤◌, ◌+◌, ◌⊎◌, List, [], ◌∷◌, ◌++◌, length, map, take, slice_get, Option, Some, None, Result, Ok, Err, MatchResult, Vec, refl}
+use Rattle.std.specs.Prelude.{◌≡◌, ℕ, ◌<◌, ◌≤◌, ◌+◌, ◌⊎◌, List, [], ◌∷◌, ◌++◌, length, map, take, slice_get, Option, Some, None, Result, Ok, Err, refl}
 use Rattle.std.specs.List.{AllByRecursion}
-use Rattle.std.specs.Global.{Global}
 use Rattle.std.proofs.Common.{zero, suc, get_or, sym, ap, subst, ◌∙◌, arith, inl, inr}
 use Rattle.std.proofs.lemmas.List.{take_more, map_push}
 use Rattle.mm_base.specs.declared.symbols.Label.{Label}
@@ -58,11 +57,11 @@ module _ (t : Readable) (variables : List VariableNode) (k : ℕ) (w : VariableN
       subst (λ (ts : List Tree). IsFirstLong constants ts n) (sym (ap (values_at t) parts.1 ∙ values_split (take k variables) parts.0))
       (first_long constants (values_at t (take k variables)) here (values_at t parts.0) n (h.each constants have works) (r constants have works))
 
-pub all_told : (t : Readable) (variables : List VariableNode) (k : ℕ) (items : List Tree) → length variables ≤ k → items ≡ values_at t (take k variables) → AreShort t variables k
-    → (constants : Label → ℕ) → HaveConstants constants t.nodes → AreWorkNodes t.nodes t.works → AreTold constants (values_at t variables) items
-all_told t variables k items past is h constants have works =
+pub all_told : (t : Readable) (variables : List VariableNode) (k : ℕ) (items given : List Tree) → given ≡ items → length variables ≤ k → items ≡ values_at t (take k variables) → AreShort t variables k
+    → (constants : Label → ℕ) → HaveConstants constants t.nodes → AreWorkNodes t.nodes t.works → AreTold constants (values_at t variables) given
+all_told t variables k items given same past is h constants have works =
     let whole = take_all variables k past in
-    (is ∙ ap (values_at t) whole, subst (λ (vs : List VariableNode). AllByRecursion (IsShort constants) (values_at t vs)) whole (h.each constants have works))
+    (same ∙ is ∙ ap (values_at t) whole, subst (λ (vs : List VariableNode). AllByRecursion (IsShort constants) (values_at t vs)) whole (h.each constants have works))
   where
     take_all : (xs : List VariableNode) (k : ℕ) → length xs ≤ k → take k xs ≡ xs
     take_all [] zero h = refl

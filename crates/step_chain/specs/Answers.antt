@@ -1,7 +1,6 @@
 -- What is answered of a chain's steps.
-use Rattle.std.specs.Prelude.{◌≡◌, ℕ, ◌+◌, ◌<◌, ◌≤◌, ◌⊎◌, List, [], ◌∷◌, map, length, slice_get, Option, Some, None, Result, Ok, Err, MatchResult, Vec}
+use Rattle.std.specs.Prelude.{◌≡◌, ℕ, ◌+◌, ◌<◌, ◌≤◌, ◌⊎◌, List, [], ◌∷◌, map, length, slice_get, Option, Some, None, Result, Ok, Err, MatchResult}
 use Rattle.std.specs.List.{AllByRecursion}
-use Rattle.std.specs.Global.{Global}
 use Rattle.mm_base.specs.declared.symbols.Label.{Label}
 use Rattle.mm_base.specs.declared.tree.Tree.{Tree}
 use Rattle.mm_model.specs.Productions.{TypedVariable}
@@ -15,7 +14,7 @@ use Rattle.step_chain.specs.declared.judged.Accepted.{Accepted}
 use Rattle.step_chain.specs.declared.reading.TreeFault.{TreeFault}
 use Rattle.step_chain.specs.declared.reading.TreeFault.TheVariants.{TooLong, Memory}
 use Rattle.step_chain.specs.Readings.{most_tokens, Readable, IsRead}
-use Rattle.step_chain.specs.Held.{Held, judgements_of, OfEachBook}
+use Rattle.step_chain.specs.Held.{Held, judgements_of, OfEachBook, IsHeld}
 use Rattle.step_chain.specs.Values.{accepted_at, value_of}
 
 -- the step of a number is accepted so
@@ -54,9 +53,8 @@ AreRead constants ts r = MatchResult r (AreTold constants ts) (IsFaultOf constan
 abbrev pub values_at : Readable → List VariableNode → List Tree
 values_at t variables = map (λ (w : VariableNode). value_at t.nodes t.links t.works w.node) variables
 
-abbrev pub AreReadOff : Readable → List VariableNode → Result (Vec Tree Global) TreeFault → Type 0
-AreReadOff t variables r = (constants : Label → ℕ) → HaveConstants constants t.nodes → AreWorkNodes t.nodes t.works
-    → MatchResult r (λ v. AreTold constants (values_at t variables) v.items) (IsFaultOf constants (values_at t variables))
+abbrev pub AreReadOff : Readable → List VariableNode → Result (List Tree) TreeFault → Type 0
+AreReadOff t variables r = (constants : Label → ℕ) → HaveConstants constants t.nodes → AreWorkNodes t.nodes t.works → AreRead constants (values_at t variables) r
 
 -- the constants of a production's text
 abbrev pub constants_of : Held → Label → ℕ
@@ -65,3 +63,8 @@ constants_of h = constants_in h.book.rows
 -- the values of the variables of an accepted step's assertion, in the order of its frame
 abbrev pub values_of : Held → ℕ → Asked → List Tree
 values_of h i y = map (λ (v : TypedVariable). value_of h (copy i v.sym v.code)) y.assertion.vars
+
+-- what is read from is the chain's store
+pub record IsOfChain (h : Held) (t : Readable) : Type 0 where
+  pub held : IsHeld h
+  pub trees : t ≡ record { nodes = h.nodes; links = h.links; works = h.works }

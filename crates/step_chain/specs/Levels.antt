@@ -36,6 +36,7 @@ use Rattle.step_chain.specs.Steps.{judgements_from}
 pub record AreKeptNodes (nodes : List Term) (lay : Layout) (i : ℕ) (x : Accepted) (a : Assertion) : Type 0 where
   pub hyps : AllZip (IsInstanceNode nodes lay i) a.hyps (map (λ (id : Id). id.0) x.hyps)
   pub copies : (v : TypedVariable) → Contains a.vars v → variable_at x.variables v.sym v.code ≡ Some (lay.node_of (copy i v.sym v.code))
+  pub found : (w : VariableNode) → Contains x.variables w → variable_at x.variables w.sym w.code ≡ Some w.node
   pub order : map (λ (w : VariableNode). record { sym = w.sym; code = w.code }) x.variables ≡ a.vars
 
 -- an accepted step has its assertion, and its nodes are kept

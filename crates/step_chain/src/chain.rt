@@ -251,8 +251,8 @@ pub struct ChainTrees<'c, 'a> {
 }
 
 impl<'c, 'a> Model for ChainTrees<'c, 'a> {
-    ghost use Rattle.std.specs.Prelude.{◌≡◌};
-    ghost use Rattle.step_chain.specs.Held.{Held, IsHeld};
+    ghost use Rattle.step_chain.specs.Held.{Held};
+    ghost use Rattle.step_chain.specs.Answers.{IsOfChain};
 
     ghost Value = { Held };
 
@@ -263,7 +263,7 @@ impl<'c, 'a> Model for ChainTrees<'c, 'a> {
 
     ghost view = { λ t. t.chain.now };
 
-    ghost invariant = { λ t. IsHeld t.chain.now × (t.trees ≡ record { nodes = t.chain.now.nodes; links = t.chain.now.links; works = t.chain.now.works }) };
+    ghost invariant = { λ t. IsOfChain t.chain.now t.trees };
 }
 
 impl<'c, 'a> ChainTrees<'c, 'a> {
@@ -300,7 +300,6 @@ impl<'c, 'a> ChainTrees<'c, 'a> {
         requires { IsSome (accepted_at self.now i) }
         ensures { OfAccepted self.now i (λ y. AreRead (constants_of self.now) (values_of self.now i y) result) }
     {
-        let values = values(alloc, &self.trees, self.chain.accepted(i).variables.as_slice())?;
-        Ok(List::from_vec(values))
+        values(alloc, &self.trees, self.chain.accepted(i).variables.as_slice())
     }
 }

@@ -15,8 +15,6 @@ mod orders;
 mod reader;
 mod reading;
 mod standing;
-#[cfg(test)]
-mod tests;
 mod trying;
 mod works;
 

@@ -4,7 +4,7 @@ ghost use Rattle.step_chain.specs.Answers.{AreReadOff};
 
 use crate::reading::{TreeFault, Trees};
 use chain_laws::VariableNode;
-use mm_base::Tree;
+use mm_base::{List, Tree};
 use std::alloc::Global;
 use term_arena::Id;
 
@@ -13,7 +13,7 @@ pub fn values(
     alloc: Global,
     trees: &Trees<'_, '_>,
     variables: &[VariableNode],
-) -> Result<Vec<Tree>, TreeFault>
+) -> Result<List<Tree>, TreeFault>
     requires { AreVariablesIn (length trees.now.nodes) variables.now }
     ensures { AreReadOff trees.now variables.now result }
 {
@@ -28,5 +28,5 @@ pub fn values(
             }
         }
     }
-    Ok(values)
+    Ok(List::from_vec(values))
 }
