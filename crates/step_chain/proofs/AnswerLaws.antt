@@ -1,8 +1,8 @@
 -- What is answered of the steps of a chain.
-use Rattle.std.specs.Prelude.{◌≡◌, ℕ, ◌<◌, ◌≤◌, ◌+◌, ◌⊎◌, List, [], ◌∷◌, length, map, slice_get, slice_index_or, unwrap_or, is_some, option_and_then, Bool, true, false, IsTrue, Contains, Option, Some, None, Result, Ok, Err, refl}
+use Rattle.std.specs.Prelude.{◌≡◌, ℕ, ◌<◌, ◌+◌, List, [], ◌∷◌, length, map, slice_get, unwrap_or, is_some, option_and_then, Bool, true, false, IsTrue, Contains, Option, Some, None, Result, refl}
 use Rattle.std.specs.List.{AllByRecursion, AllZip}
 use Rattle.std.specs.Option.{option_map_or}
-use Rattle.std.proofs.Common.{zero, suc, get_or, sym, ap, subst, ◌∙◌, arith, inl, inr}
+use Rattle.std.proofs.Common.{zero, suc, get_or, sym, ap, subst, ◌∙◌, arith}
 use Rattle.std.proofs.lemmas.Option.{slice_get-get_or}
 use Rattle.mm_base.specs.declared.symbols.Label.{Label}
 use Rattle.mm_base.specs.declared.tree.Tree.{Tree}
@@ -10,18 +10,15 @@ use Rattle.mm_model.specs.Productions.{TypedVariable}
 use Rattle.mm_model.specs.Book.{Database, Assertion}
 use Rattle.mm_database.specs.Books.{database_of}
 use Rattle.mm_database.specs.Opened.{Opened}
-use Rattle.sheet_text.specs.declared.sheet.Given.{Given}
 use Rattle.solve_model.specs.declared.bound.Bound.{Bound}
-use Rattle.solve_model.specs.Solutions.{Unknown, copy, IsUnknown, in_frame, Asked, formula, instance}
-use Rattle.solve_model.specs.Verdicts.{Judgement, accepted, stands, accepted_in}
+use Rattle.solve_model.specs.Solutions.{copy, Asked, formula, instance}
+use Rattle.solve_model.specs.Verdicts.{Judgement, accepted, accepted_in}
 use Rattle.term_model.specs.declared.shape.Id.{Id}
-use Rattle.term_model.specs.Terms.{Term}
-use Rattle.term_model.specs.Links.{Link}
 use Rattle.term_model.specs.Sizes.{HaveConstants}
 use Rattle.chain_laws.specs.declared.leaves.WorkNode.{WorkNode}
 use Rattle.chain_laws.specs.declared.leaves.VariableNode.{VariableNode}
 use Rattle.chain_laws.specs.Adding.{variable_at}
-use Rattle.chain_laws.specs.Layout.{Layout, IsInstanceNode, IsSoundAsked}
+use Rattle.chain_laws.specs.Layout.{IsInstanceNode, IsSoundAsked}
 use Rattle.chain_laws.specs.Reading.{value_at, AreWorkNodes}
 use Rattle.chain_laws.proofs.Agreement.{instance_same}
 use Rattle.chain_laws.proofs.ReadValues.{chained_works, instance_read}
@@ -207,9 +204,10 @@ module _ (h : Held) (db : Database) (level : IsLevel db h.book h.bound h.works h
   accepted_back x e =
       let told = is_kept_at h.steps i x e in
       let k = level.kept i told.pushed x told.at told.fits in
-      let number : 0 + i ≡ i = omega arith in
-      (asked_by h.bound i x k.assertion,
-      judgement_at h.book h.bound 0 h.steps i told.pushed told.at ∙ ap (λ (j : ℕ). Some (judgement_of h.book h.bound j told.pushed.judged)) number ∙ ap (λ (o : Judgement). Some o) (judgement_fits h.book h.bound i told.pushed.judged x k.assertion told.fits k.usable))
+      let number : 0 + i ≡ i = omega arith in (
+        asked_by h.bound i x k.assertion,
+        judgement_at h.book h.bound 0 h.steps i told.pushed told.at ∙ ap (λ (j : ℕ). Some (judgement_of h.book h.bound j told.pushed.judged)) number ∙ ap (λ (o : Judgement). Some o) (judgement_fits h.book h.bound i told.pushed.judged x k.assertion told.fits k.usable),
+      )
 
   works_free : AreWorkNodes h.nodes h.works
   works_free = subst (AreWorkNodes h.nodes) level.works_are (chained_works db h.bound (accepted_in (judgements_of h)) (accepted_in (judgements_of h)) h.nodes h.links level.layout level.chained)

@@ -1,13 +1,9 @@
 -- The calls of a chain, over what it holds.
-use Rattle.std.specs.Prelude.{◌≡◌, ℕ, ◌<◌, ◌≤◌, ◌+◌, ◌^◌, List, [], ◌∷◌, ◌++◌, length, take, slice_get, Option, Some, None, refl}
+use Rattle.std.specs.Prelude.{◌≡◌, ℕ, ◌<◌, ◌≤◌, ◌+◌, List, [], ◌∷◌, ◌++◌, length, take, slice_get, Option, Some, None, refl}
 use Rattle.std.specs.Option.{option_map_or}
-use Rattle.std.specs.List.{AllByRecursion}
-use Rattle.std.proofs.Common.{zero, suc, get_or, sym, ap, subst, ◌∙◌, arith, inl, inr}
-use Rattle.std.proofs.lemmas.List.{length-append, length_push}
+use Rattle.std.proofs.Common.{zero, suc, get_or, sym, ap, subst, ◌∙◌, arith}
 use Rattle.std.proofs.lemmas.Option.{slice_get-get_or}
 use Rattle.std.proofs.Math.Seq.{take-append_seam, take-length}
-use Rattle.mm_base.specs.declared.symbols.Typecode.{Typecode}
-use Rattle.mm_model.specs.Book.{Database, logic_code}
 use Rattle.mm_database.specs.Books.{database_of}
 use Rattle.mm_database.specs.Opened.{Opened}
 use Rattle.solve_model.specs.declared.bound.BoundStep.{BoundStep}
@@ -19,10 +15,8 @@ use Rattle.term_arena.specs.declared.arena.Mark.{Mark}
 use Rattle.term_model.specs.declared.shape.Id.{Id}
 use Rattle.term_model.specs.Terms.{Term}
 use Rattle.term_model.specs.Links.{Link, AreBelow}
-use Rattle.term_model.specs.Store.{Store, IsStore, IsSolved, cut_to}
+use Rattle.term_model.specs.Store.{Store, cut_to}
 use Rattle.term_model.proofs.LinkLaws.{are_below}
-use Rattle.chain_laws.specs.declared.leaves.WorkNode.{WorkNode}
-use Rattle.step_chain.specs.declared.judged.Accepted.{Accepted}
 use Rattle.step_chain.specs.declared.judged.Judged.{Judged}
 use Rattle.step_chain.specs.declared.judged.Judged.TheVariants.{Stands, Fits}
 use Rattle.step_chain.specs.declared.judged.Pushed.{Pushed}
@@ -30,9 +24,8 @@ use Rattle.step_chain.specs.Grown.{AreIdsIn}
 use Rattle.step_chain.specs.Ordered.{formula_at}
 use Rattle.step_chain.specs.Standings.{usable_in}
 use Rattle.step_chain.specs.Steps.{accepted_by, judgement_of, judgements_from, verdict_in}
-use Rattle.step_chain.specs.Levels.{IsLevel, IsFront}
 use Rattle.step_chain.specs.Accepted.{IsNext}
-use Rattle.step_chain.specs.Held.{Held, judgements_of, OfEachBook, nodes_before, links_before, front_of, IsSound, IsHeld, IsSameSheet, IsPushed}
+use Rattle.step_chain.specs.Held.{Held, judgements_of, OfEachBook, nodes_before, links_before, front_of, IsSound, IsHeld, IsPushed}
 use Rattle.step_chain.proofs.Lists.{get_seam}
 use Rattle.step_chain.proofs.LevelLaws.{judgements_push, length-judgements}
 use Rattle.step_chain.proofs.HeldLaws.{whole, front_held, push_held, get_none, take_past, take_length, behind}
