@@ -5,7 +5,13 @@ use Rattle.std.proofs.Common.{zero, suc, get_or, sym, ap, subst, ◌∙◌, arit
 use Rattle.std.proofs.lemmas.Option.{slice_get-get_or}
 use Rattle.std.proofs.Math.Seq.{take-append_seam, take-length}
 use Rattle.mm_database.specs.Books.{database_of}
-use Rattle.mm_database.specs.Opened.{Opened}
+use Rattle.mm_base.specs.declared.kinds.Kinds.{Kinds}
+use Rattle.mm_base.specs.declared.symbols.Typecode.{Typecode}
+use Rattle.mm_model.specs.Book.{logic_code}
+use Rattle.mm_model.specs.Names.{typecode}
+use Rattle.mm_model.specs.Frames.{symbol_in}
+use Rattle.mm_frames.specs.Contents.{Contents}
+use Rattle.mm_database.specs.Opened.{Opened, IsOpened}
 use Rattle.solve_model.specs.declared.bound.BoundStep.{BoundStep}
 use Rattle.solve_model.specs.declared.bound.Bound.{Bound}
 use Rattle.solve_model.specs.declared.verdict.Verdict.{Verdict}
@@ -196,3 +202,7 @@ module _ (h now : Held) (e : h ≡ now) (inv : IsHeld h) (ids : List Id) (ids_ar
         verdict = verdict_is h.book h.bound (length h.steps) j ∙ sym is;
         judged = judged_here;
       })
+
+-- for whoever knows the kinds: the logic typecode of a chain is that of the database
+pub logic_told : (kinds : Kinds) (text : List ℕ) (d : Opened) → IsOpened kinds text d → (logic : Typecode) → logic ≡ typecode (symbol_in d.contents.symbols kinds.logic) → logic_code (database_of kinds text d.rows d.parsed) ≡ logic
+logic_told kinds text d opened logic is = ap (λ (c : Contents). typecode (symbol_in c.symbols kinds.logic)) (sym opened.contents) ∙ sym is

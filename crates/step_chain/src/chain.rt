@@ -9,7 +9,7 @@ use crate::judging::judge;
 use crate::reader::values;
 use crate::reading::{TreeFault, Trees};
 use chain_laws::WorkNode;
-use mm_base::{Kinds, List, Memory, Tree, Typecode};
+use mm_base::{Kinds, Label, List, Memory, Tree, Typecode};
 use mm_database::Database;
 use solve_model::{Bound, Verdict};
 use std::alloc::Global;
@@ -211,7 +211,7 @@ impl<'a> Chain<'a> {
     }
 
     /// What is kept of a step that was accepted.
-    pub fn accepted(&self, i: u32) -> &Accepted
+    fn accepted(&self, i: u32) -> &Accepted
         requires { IsSome (accepted_at self.now i) }
         ensures { accepted_at self.now i ≡ Some result.now }
     {
@@ -233,6 +233,15 @@ impl<'a> Chain<'a> {
         ensures judged { IsTrue result → OfEachBook self.now (λ db. (y : Asked) × IsAcceptedAs self.now i y) }
     {
         fits_at(self.steps.as_slice(), i)
+    }
+
+    /// The label of an accepted step's assertion.
+    pub fn label(&self, i: u32) -> Label
+        requires { IsSome (accepted_at self.now i) }
+        ensures { OfAccepted self.now i (λ y. y.assertion.label ≡ result) }
+    {
+        let _steps = &self.steps;
+        self.accepted(i).label
     }
 
     /// The order in which an accepted step fits, as positions in its places.
