@@ -1,13 +1,11 @@
 -- A chain stands for the most general valuation of the accepted steps.
-use Rattle.std.specs.Prelude.{◌≡◌, ℕ, ◌<◌, ◌≤◌, ◌+◌, Bool, true, false, ◌==◌, ◌&&◌, List, [], ◌∷◌, length, map, find, slice_get, slice_index_or, unwrap_or, option_map, option_and_then, Contains, Option, Some, None, refl}
+use Rattle.std.specs.Prelude.{◌≡◌, ℕ, ◌<◌, ◌+◌, Bool, true, false, ◌==◌, ◌&&◌, List, [], ◌∷◌, length, find, slice_get, slice_index_or, unwrap_or, option_map, option_and_then, Contains, Option, Some, None, refl}
 use Rattle.std.specs.Option.{option_map_or}
 use Rattle.std.specs.List.{AllByRecursion}
-use Rattle.std.proofs.Common.{zero, suc, sym, ap, subst, ◌∙◌, arith, inl, inr, cond}
+use Rattle.std.proofs.Common.{zero, suc, sym, ap, subst, ◌∙◌, arith, cond}
 use Rattle.std.proofs.lemmas.Bool.Decides.{nat_tests}
 use Rattle.std.proofs.lemmas.Option.{slice_get_within, get_or_from_slice_get}
-use Rattle.mm_base.specs.declared.symbols.Sym.{Sym}
 use Rattle.mm_base.specs.declared.symbols.Typecode.{Typecode}
-use Rattle.mm_base.specs.declared.tree.Tree.{Tree}
 use Rattle.mm_base.specs.Trees.{code_of}
 use Rattle.mm_model.specs.Typed.{IsTyped}
 use Rattle.mm_model.specs.Productions.{TypedVariable}
@@ -16,18 +14,15 @@ use Rattle.mm_database.specs.Opened.{Opened}
 use Rattle.solve_model.specs.declared.bound.BoundStep.{BoundStep}
 use Rattle.solve_model.specs.declared.bound.Bound.{Bound}
 use Rattle.solve_model.specs.Trees.{Open, work, fresh, Occurs}
-use Rattle.solve_model.specs.Solutions.{Unknown, named, blank, copy, Valuation, IsValuation, IsUnknown, in_formula, is_blank, in_frame, Asked, Solves, unknown_code, formula, formula_value, instance, no_step}
-use Rattle.solve_model.specs.MostGeneral.{IsInstance, IsMostGeneral, IsLeastNamed, IsNamedLeaf, IsCanonical, IsTheValuation, refine}
-use Rattle.solve_model.specs.Verdicts.{Judgement, accepted, stands, accepted_in}
-use Rattle.term_model.specs.declared.shape.Id.{Id}
-use Rattle.term_model.specs.Terms.{Term}
-use Rattle.term_model.specs.Links.{Link}
+use Rattle.solve_model.specs.Solutions.{Unknown, named, blank, copy, Valuation, IsUnknown, in_formula, is_blank, in_frame, Asked, formula, formula_value, no_step}
+use Rattle.solve_model.specs.MostGeneral.{IsLeastNamed, IsNamedLeaf, IsTheValuation, refine}
+use Rattle.solve_model.specs.Verdicts.{Judgement, accepted_in}
 use Rattle.chain_laws.specs.declared.leaves.WorkNode.{WorkNode}
 use Rattle.chain_laws.specs.Adding.{is_work, work_at, variable_at}
-use Rattle.chain_laws.specs.Layout.{Layout, IsChained, IsSoundAsked, work_node}
+use Rattle.chain_laws.specs.Layout.{Layout, IsSoundAsked, work_node}
 use Rattle.chain_laws.specs.Reading.{value_at, value_of_store}
 use Rattle.chain_laws.proofs.Agreement.{solve_same, formula_same}
-use Rattle.chain_laws.proofs.ReadValues.{formula_read, instance_read, unknown_read, read_valuation}
+use Rattle.chain_laws.proofs.ReadValues.{formula_read, unknown_read, read_valuation}
 use Rattle.step_chain.specs.declared.judged.Accepted.{Accepted}
 use Rattle.step_chain.specs.declared.judged.Judged.{Judged}
 use Rattle.step_chain.specs.declared.judged.Judged.TheVariants.{Stands, Fits}
