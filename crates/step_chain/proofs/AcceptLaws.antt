@@ -19,7 +19,7 @@ use Rattle.step_chain.specs.declared.judged.Accepted.{Accepted}
 use Rattle.step_chain.specs.Candidate.{table_of, roots_of}
 use Rattle.step_chain.specs.Standings.{usable_in}
 use Rattle.step_chain.specs.Tried.{IsTaken}
-use Rattle.step_chain.specs.Accepted.{IsKeptOf, IsTakenAs}
+use Rattle.step_chain.specs.Accepted.{IsTakenAs}
 
 -- the assertion has this frame and these trees
 record IsMadeOf (a : Assertion) (hyps : List Hyp) (t : Tree) (ts : List Tree) : Type 0 where

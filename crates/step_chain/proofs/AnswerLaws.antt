@@ -1,27 +1,27 @@
 -- What is answered of the steps of a chain.
-use Rattle.std.specs.Prelude.{◌≡◌, ℕ, ◌<◌, ◌≤◌, ◌+◌, ◌⊎◌, List, [], ◌∷◌, length, map, slice_get, slice_index_or, unwrap_or, is_some, option_and_then, Bool, true, false, IsTrue, Contains, Option, Some, None, Result, Ok, Err, refl}
+use Rattle.std.specs.Prelude.{◌≡◌, ℕ, ◌<◌, ◌+◌, List, [], ◌∷◌, length, map, slice_get, unwrap_or, is_some, option_map, option_and_then, Bool, true, false, IsTrue, Contains, Option, Some, None, Result, refl}
 use Rattle.std.specs.List.{AllByRecursion, AllZip}
 use Rattle.std.specs.Option.{option_map_or}
-use Rattle.std.proofs.Common.{zero, suc, get_or, sym, ap, subst, ◌∙◌, arith, inl, inr}
+use Rattle.std.proofs.Common.{zero, suc, get_or, sym, ap, subst, ◌∙◌, arith}
 use Rattle.std.proofs.lemmas.Option.{slice_get-get_or}
 use Rattle.mm_base.specs.declared.symbols.Label.{Label}
 use Rattle.mm_base.specs.declared.tree.Tree.{Tree}
 use Rattle.mm_model.specs.Productions.{TypedVariable}
 use Rattle.mm_model.specs.Book.{Database, Assertion}
-use Rattle.mm_database.specs.Books.{database_of}
+use Rattle.mm_model.specs.declared.frames.Frame.{Frame}
+use Rattle.mm_frames.specs.Contents.{frame_at}
+use Rattle.mm_database.specs.declared.assertions.Parsed.{Parsed}
+use Rattle.mm_database.specs.Books.{parsed_at, assertion_of, usable_with, database_of}
 use Rattle.mm_database.specs.Opened.{Opened}
-use Rattle.sheet_text.specs.declared.sheet.Given.{Given}
 use Rattle.solve_model.specs.declared.bound.Bound.{Bound}
-use Rattle.solve_model.specs.Solutions.{Unknown, copy, IsUnknown, in_frame, Asked, formula, instance}
-use Rattle.solve_model.specs.Verdicts.{Judgement, accepted, stands, accepted_in}
+use Rattle.solve_model.specs.Solutions.{copy, Asked, formula, instance}
+use Rattle.solve_model.specs.Verdicts.{Judgement, accepted, accepted_in}
 use Rattle.term_model.specs.declared.shape.Id.{Id}
-use Rattle.term_model.specs.Terms.{Term}
-use Rattle.term_model.specs.Links.{Link}
 use Rattle.term_model.specs.Sizes.{HaveConstants}
 use Rattle.chain_laws.specs.declared.leaves.WorkNode.{WorkNode}
 use Rattle.chain_laws.specs.declared.leaves.VariableNode.{VariableNode}
 use Rattle.chain_laws.specs.Adding.{variable_at}
-use Rattle.chain_laws.specs.Layout.{Layout, IsInstanceNode, IsSoundAsked}
+use Rattle.chain_laws.specs.Layout.{IsInstanceNode, IsSoundAsked}
 use Rattle.chain_laws.specs.Reading.{value_at, AreWorkNodes}
 use Rattle.chain_laws.proofs.Agreement.{instance_same}
 use Rattle.chain_laws.proofs.ReadValues.{chained_works, instance_read}
@@ -125,6 +125,15 @@ zip_has R [] ids P k e a b = let impossible : ◌≡◌ {A = Option Tree} None (
 zip_has R (x ∷ es) ids P zero e a b = let one : x ≡ e = cc in subst P one a.0
 zip_has R (x ∷ es) ids P (suc k) e a b = zip_has R es ids P k e a.1 b
 
+-- the assertion of a label has it
+labelled : (parsed : List (Option Parsed)) (l : Label) (f : Option Frame) (a : Assertion) → usable_with parsed l f ≡ Some a → a.label ≡ l
+labelled parsed l None a e = let impossible : ◌≡◌ {A = Option Assertion} None (Some a) = e in absurd (cc)
+labelled parsed l (Some f) a e = kept_label (parsed_at parsed l) e
+  where
+    kept_label : (o : Option Parsed) → option_map (assertion_of l f) o ≡ Some a → a.label ≡ l
+    kept_label None h = let impossible : ◌≡◌ {A = Option Assertion} None (Some a) = h in absurd (cc)
+    kept_label (Some p) h = let same : assertion_of l f p ≡ a = cc in ap (λ (b : Assertion). b.label) (sym same)
+
 -- ---- under one book
 
 module _ (h : Held) (db : Database) (level : IsLevel db h.book h.bound h.works h.formulas h.steps h.nodes h.links) (i : ℕ) where
@@ -147,6 +156,11 @@ module _ (h : Held) (db : Database) (level : IsLevel db h.book h.bound h.works h
 
       pub own_places : y.places ≡ reordered (step_at h.bound i).places x.order
       own_places = ap (λ (z : Asked). z.places) (sym asked_is)
+
+      pub own_label : y.assertion.label ≡ x.label
+      own_label =
+          ap (λ (z : Asked). z.assertion.label) (sym asked_is) ∙ labelled h.book.parsed step.kept.label (frame_at h.book.contents step.kept.label) step.assertion step.usable
+          ∙ ap (λ (z : Accepted). z.label) own
 
       same_assertion : (level.kept i step.pushed step.kept step.at step.fits).assertion ≡ step.assertion
       same_assertion = let k = level.kept i step.pushed step.kept step.at step.fits in let both : Some k.assertion ≡ Some step.assertion = sym k.usable ∙ step.usable in cc
@@ -207,9 +221,10 @@ module _ (h : Held) (db : Database) (level : IsLevel db h.book h.bound h.works h
   accepted_back x e =
       let told = is_kept_at h.steps i x e in
       let k = level.kept i told.pushed x told.at told.fits in
-      let number : 0 + i ≡ i = omega arith in
-      (asked_by h.bound i x k.assertion,
-      judgement_at h.book h.bound 0 h.steps i told.pushed told.at ∙ ap (λ (j : ℕ). Some (judgement_of h.book h.bound j told.pushed.judged)) number ∙ ap (λ (o : Judgement). Some o) (judgement_fits h.book h.bound i told.pushed.judged x k.assertion told.fits k.usable))
+      let number : 0 + i ≡ i = omega arith in (
+        asked_by h.bound i x k.assertion,
+        judgement_at h.book h.bound 0 h.steps i told.pushed told.at ∙ ap (λ (j : ℕ). Some (judgement_of h.book h.bound j told.pushed.judged)) number ∙ ap (λ (o : Judgement). Some o) (judgement_fits h.book h.bound i told.pushed.judged x k.assertion told.fits k.usable),
+      )
 
   works_free : AreWorkNodes h.nodes h.works
   works_free = subst (AreWorkNodes h.nodes) level.works_are (chained_works db h.bound (accepted_in (judgements_of h)) (accepted_in (judgements_of h)) h.nodes h.links level.layout level.chained)
@@ -241,6 +256,11 @@ module _ (h : Held) (inv : IsHeld h) (i : ℕ) (x : Accepted) (at : accepted_at 
   order_told order is kinds text sheet opened binds code y a =
       let level = (sound_of h inv).level kinds text sheet opened binds code in
       own_places h (database_of kinds text h.book.rows h.book.parsed) level i y a x at ∙ ap (reordered (step_at h.bound i).places) (sym is)
+
+  pub label_told : (l : Label) → l ≡ x.label → OfAccepted h i (λ y. y.assertion.label ≡ l)
+  label_told l is kinds text sheet opened binds code y a =
+      let level = (sound_of h inv).level kinds text sheet opened binds code in
+      own_label h (database_of kinds text h.book.rows h.book.parsed) level i y a x at ∙ sym is
 
   pub hyps_kept : (n : ℕ) → n ≡ length x.hyps → OfKept h i (λ y. n ≡ length y.hyps)
   hyps_kept n is y e = let same : x ≡ y = let both : Some x ≡ Some y = sym at ∙ e in cc in is ∙ ap (λ (z : Accepted). length z.hyps) same

@@ -1,7 +1,7 @@
 -- A candidate of the next step, taken into the store.
 use Rattle.std.specs.Prelude.{◌≡◌, ℕ, ◌<◌, ◌≤◌, ◌+◌, Bool, true, false, List, [], ◌∷◌, ◌++◌, length, map, find, slice_get, Contains, Option, Some, None, option_map, sum, refl}
 use Rattle.std.specs.List.{AllByRecursion, AllZip, flat_map, range_with_len}
-use Rattle.std.proofs.Common.{zero, suc, get_or, sym, ap, subst, ◌∙◌, arith, cond}
+use Rattle.std.proofs.Common.{zero, suc, sym, ap, subst, ◌∙◌, arith, cond}
 use Rattle.std.proofs.lemmas.List.{length-map, length_push}
 use Rattle.std.proofs.lemmas.Option.{slice_get_within, get_or_from_slice_get, slice_get-get_or}
 use Rattle.mm_base.specs.declared.symbols.Sym.{Sym}
@@ -18,39 +18,37 @@ use Rattle.sheet_text.specs.declared.sheet.Given.{Given}
 use Rattle.solve_model.specs.declared.bound.BoundStep.{BoundStep}
 use Rattle.solve_model.specs.declared.bound.Bound.{Bound}
 use Rattle.solve_model.specs.declared.verdict.Verdict.TheVariants as verdict
-use Rattle.solve_model.specs.Bound.{standing, candidate, standing_size}
+use Rattle.solve_model.specs.Bound.{standing, standing_size}
 use Rattle.solve_model.specs.Firsts.{orders, picks}
 use Rattle.solve_model.specs.Solutions.{Unknown, IsUnknown, copy, Asked, orders_of, no_step}
-use Rattle.solve_model.specs.Verdicts.{accepted, stands, asked, accepted_in, IsJudgement}
+use Rattle.solve_model.specs.Verdicts.{accepted, asked, accepted_in, IsJudgement}
 use Rattle.written_model.specs.Existence.{IsPlaceIn, IsCandidate}
 use Rattle.term_model.specs.declared.shape.Id.{Id}
 use Rattle.term_model.specs.Terms.{Term}
-use Rattle.term_model.specs.Links.{Link}
 use Rattle.term_model.specs.Store.{Store, IsStore, IsSolved}
 use Rattle.chain_laws.specs.declared.leaves.WorkNode.{WorkNode}
 use Rattle.chain_laws.specs.declared.leaves.VariableNode.{VariableNode}
 use Rattle.term_model.specs.Sizes.{HaveConstants}
 use Rattle.chain_laws.specs.Adding.{Listed, constants_in, numbered, AreApart, is_variable, variable_at}
-use Rattle.chain_laws.specs.Layout.{Layout, IsReadyAsked, IsSoundAsked, HasRoom, IsChained, AreFormulaNodes, AreCandidateNodes, IsInstanceNode}
-use Rattle.chain_laws.proofs.Copies.{with_copies, kept_node, copied_is, found, variable_with, same_variable, self_variable}
+use Rattle.chain_laws.specs.Layout.{Layout, IsReadyAsked, IsSoundAsked, HasRoom, IsChained, AreFormulaNodes, IsInstanceNode}
+use Rattle.chain_laws.proofs.Copies.{with_copies, kept_node, copied_is, found, same_variable, self_variable}
 use Rattle.again_laws.specs.Whole.{IsWhole}
 use Rattle.step_chain.specs.declared.judged.Accepted.{Accepted}
-use Rattle.step_chain.specs.declared.judged.Judged.{Judged}
 use Rattle.step_chain.specs.declared.judged.Judged.TheVariants.{Stands, Fits}
 use Rattle.step_chain.specs.declared.judged.Pushed.{Pushed}
 use Rattle.step_chain.specs.Sizes.{size_of_front}
 use Rattle.step_chain.proofs.CountLaws.{candidate_few, front_more}
-use Rattle.step_chain.specs.Candidate.{table_of, root_of, roots_of}
+use Rattle.step_chain.specs.Candidate.{roots_of}
 use Rattle.step_chain.specs.Standings.{usable_in, IsBookOf, IsCandidateOf}
 use Rattle.step_chain.specs.Ordered.{formula_at, reordered, may_reorder, tried}
 use Rattle.step_chain.specs.Tried.{IsTaken}
 use Rattle.step_chain.specs.Steps.{IsPlaced, ArePlaced, step_at, asked_by, judgements_from}
 use Rattle.step_chain.specs.Levels.{IsLevel, AreKeptNodes}
-use Rattle.step_chain.specs.Accepted.{IsKeptOf, IsTakenAs, order_of}
+use Rattle.step_chain.specs.Accepted.{IsTakenAs}
 use Rattle.step_chain.proofs.Lists.{all_at}
 use Rattle.step_chain.proofs.ConstantLaws.{candidate_have}
 use Rattle.step_chain.proofs.OrderLaws.{reordered_inside}
-use Rattle.step_chain.proofs.JudgedLaws.{tried_orders, slice_mapped, Mapped}
+use Rattle.step_chain.proofs.JudgedLaws.{tried_orders, slice_mapped}
 use Rattle.step_chain.proofs.TakenLaws.{judged, roots, roots_same, ready_formulas, ready_nodes, taken_judged, taken_chain, own_tried}
 use Rattle.step_chain.proofs.LevelLaws.{fresh, level_stands, level_fits}
 
@@ -107,12 +105,13 @@ order_is n s a placed j gs e =
 
 apart_from : (vars : List TypedVariable) → VariablesDiffer vars → AreApart vars
 apart_from [] h = tt
-apart_from (v ∷ vs) h =
-    (λ c. let place = c.0 in
-    let at : slice_get (v ∷ vs) (suc c.0) ≡ Some v = slice_get-get_or vs c.0 v c.1 ∙ ap (λ (w : TypedVariable). Some w) c.2 in
-    let same : 0 ≡ suc c.0 = h 0 (suc c.0) v v refl at refl in
-    absurd (omega (arith, same)),
-    apart_from vs (λ j k v w a b e. let same = h (suc j) (suc k) v w a b e in omega (arith, same)))
+apart_from (v ∷ vs) h = (
+  λ c. let place = c.0 in
+      let at : slice_get (v ∷ vs) (suc c.0) ≡ Some v = slice_get-get_or vs c.0 v c.1 ∙ ap (λ (w : TypedVariable). Some w) c.2 in
+      let same : 0 ≡ suc c.0 = h 0 (suc c.0) v v refl at refl in
+      absurd (omega (arith, same)),
+  apart_from vs (λ j k v w a b e. let same = h (suc j) (suc k) v w a b e in omega (arith, same)),
+)
 
 variables_of : (n : ℕ) (vs : List TypedVariable) → map (λ (w : VariableNode). record { sym = w.sym; code = w.code }) (numbered n vs) ≡ vs
 variables_of n [] = refl

@@ -1,15 +1,17 @@
 -- The calls of a chain, over what it holds.
-use Rattle.std.specs.Prelude.{◌≡◌, ℕ, ◌<◌, ◌≤◌, ◌+◌, ◌^◌, List, [], ◌∷◌, ◌++◌, length, take, slice_get, Option, Some, None, refl}
+use Rattle.std.specs.Prelude.{◌≡◌, ℕ, ◌<◌, ◌≤◌, ◌+◌, List, [], ◌∷◌, ◌++◌, length, take, slice_get, Option, Some, None, refl}
 use Rattle.std.specs.Option.{option_map_or}
-use Rattle.std.specs.List.{AllByRecursion}
-use Rattle.std.proofs.Common.{zero, suc, get_or, sym, ap, subst, ◌∙◌, arith, inl, inr}
-use Rattle.std.proofs.lemmas.List.{length-append, length_push}
+use Rattle.std.proofs.Common.{zero, suc, get_or, sym, ap, subst, ◌∙◌, arith}
 use Rattle.std.proofs.lemmas.Option.{slice_get-get_or}
 use Rattle.std.proofs.Math.Seq.{take-append_seam, take-length}
-use Rattle.mm_base.specs.declared.symbols.Typecode.{Typecode}
-use Rattle.mm_model.specs.Book.{Database, logic_code}
 use Rattle.mm_database.specs.Books.{database_of}
-use Rattle.mm_database.specs.Opened.{Opened}
+use Rattle.mm_base.specs.declared.kinds.Kinds.{Kinds}
+use Rattle.mm_base.specs.declared.symbols.Typecode.{Typecode}
+use Rattle.mm_model.specs.Book.{logic_code}
+use Rattle.mm_model.specs.Names.{typecode}
+use Rattle.mm_model.specs.Frames.{symbol_in}
+use Rattle.mm_frames.specs.Contents.{Contents}
+use Rattle.mm_database.specs.Opened.{Opened, IsOpened}
 use Rattle.solve_model.specs.declared.bound.BoundStep.{BoundStep}
 use Rattle.solve_model.specs.declared.bound.Bound.{Bound}
 use Rattle.solve_model.specs.declared.verdict.Verdict.{Verdict}
@@ -19,10 +21,8 @@ use Rattle.term_arena.specs.declared.arena.Mark.{Mark}
 use Rattle.term_model.specs.declared.shape.Id.{Id}
 use Rattle.term_model.specs.Terms.{Term}
 use Rattle.term_model.specs.Links.{Link, AreBelow}
-use Rattle.term_model.specs.Store.{Store, IsStore, IsSolved, cut_to}
+use Rattle.term_model.specs.Store.{Store, cut_to}
 use Rattle.term_model.proofs.LinkLaws.{are_below}
-use Rattle.chain_laws.specs.declared.leaves.WorkNode.{WorkNode}
-use Rattle.step_chain.specs.declared.judged.Accepted.{Accepted}
 use Rattle.step_chain.specs.declared.judged.Judged.{Judged}
 use Rattle.step_chain.specs.declared.judged.Judged.TheVariants.{Stands, Fits}
 use Rattle.step_chain.specs.declared.judged.Pushed.{Pushed}
@@ -30,9 +30,8 @@ use Rattle.step_chain.specs.Grown.{AreIdsIn}
 use Rattle.step_chain.specs.Ordered.{formula_at}
 use Rattle.step_chain.specs.Standings.{usable_in}
 use Rattle.step_chain.specs.Steps.{accepted_by, judgement_of, judgements_from, verdict_in}
-use Rattle.step_chain.specs.Levels.{IsLevel, IsFront}
 use Rattle.step_chain.specs.Accepted.{IsNext}
-use Rattle.step_chain.specs.Held.{Held, judgements_of, OfEachBook, nodes_before, links_before, front_of, IsSound, IsHeld, IsSameSheet, IsPushed}
+use Rattle.step_chain.specs.Held.{Held, judgements_of, OfEachBook, nodes_before, links_before, front_of, IsSound, IsHeld, IsPushed}
 use Rattle.step_chain.proofs.Lists.{get_seam}
 use Rattle.step_chain.proofs.LevelLaws.{judgements_push, length-judgements}
 use Rattle.step_chain.proofs.HeldLaws.{whole, front_held, push_held, get_none, take_past, take_length, behind}
@@ -203,3 +202,7 @@ module _ (h now : Held) (e : h ≡ now) (inv : IsHeld h) (ids : List Id) (ids_ar
         verdict = verdict_is h.book h.bound (length h.steps) j ∙ sym is;
         judged = judged_here;
       })
+
+-- for whoever knows the kinds: the logic typecode of a chain is that of the database
+pub logic_told : (kinds : Kinds) (text : List ℕ) (d : Opened) → IsOpened kinds text d → (logic : Typecode) → logic ≡ typecode (symbol_in d.contents.symbols kinds.logic) → logic_code (database_of kinds text d.rows d.parsed) ≡ logic
+logic_told kinds text d opened logic is = ap (λ (c : Contents). typecode (symbol_in c.symbols kinds.logic)) (sym opened.contents) ∙ sym is

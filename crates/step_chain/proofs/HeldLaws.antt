@@ -1,31 +1,27 @@
 -- A step more, and the first steps alone.
-use Rattle.std.specs.Prelude.{◌≡◌, ℕ, ◌<◌, ◌≤◌, ◌+◌, ◌^◌, List, [], ◌∷◌, ◌++◌, length, min, take, slice_get, Option, Some, None, refl}
+use Rattle.std.specs.Prelude.{◌≡◌, ℕ, ◌<◌, ◌≤◌, ◌+◌, ◌^◌, List, [], ◌∷◌, ◌++◌, length, take, slice_get, Option, Some, None, refl}
 use Rattle.std.specs.Option.{option_map_or}
-use Rattle.std.specs.List.{AllByRecursion}
 use Rattle.std.proofs.Common.{zero, suc, sym, ap, subst, ◌∙◌, arith, inl, inr}
-use Rattle.std.proofs.lemmas.Bool.{cases_lt, cases_eq}
+use Rattle.std.proofs.lemmas.Bool.{cases_lt}
 use Rattle.std.proofs.lemmas.List.{length-append, length_push, length-take, take-append-le}
-use Rattle.std.proofs.Math.Seq.{take-append_seam, take-length}
+use Rattle.std.proofs.Math.Seq.{take-length}
 use Rattle.mm_base.specs.declared.symbols.Typecode.{Typecode}
-use Rattle.mm_model.specs.Book.{Database, logic_code}
-use Rattle.mm_database.specs.Books.{database_of}
 use Rattle.mm_database.specs.Opened.{Opened}
 use Rattle.solve_model.specs.declared.bound.Bound.{Bound}
 use Rattle.term_model.specs.declared.shape.Id.{Id}
 use Rattle.term_model.specs.Terms.{Term}
 use Rattle.term_model.specs.Links.{Link}
-use Rattle.term_model.specs.Store.{Store, IsStore, IsSolved}
+use Rattle.term_model.specs.Store.{Store}
 use Rattle.chain_laws.specs.declared.leaves.WorkNode.{WorkNode}
 use Rattle.step_chain.specs.declared.judged.Judged.{Judged}
 use Rattle.step_chain.specs.declared.judged.Judged.TheVariants.{Stands, Fits}
 use Rattle.step_chain.specs.declared.judged.Pushed.{Pushed}
-use Rattle.step_chain.specs.Grown.{AreIdsIn, AreVariablesIn, AreWorksIn}
 use Rattle.step_chain.specs.Steps.{ArePlaced}
-use Rattle.step_chain.specs.Levels.{ForEachBook, IsLevel, IsKeptIn, IsFront}
+use Rattle.step_chain.specs.Levels.{IsKeptIn, IsFront}
 use Rattle.step_chain.specs.Accepted.{IsNext}
-use Rattle.step_chain.specs.Held.{Held, nodes_before, links_before, front_of, IsSound, IsHeld}
+use Rattle.step_chain.specs.Held.{Held, nodes_before, links_before, front_of, IsHeld}
 use Rattle.step_chain.proofs.AddingLaws.{works_in_more, ids_in_more, variables_in_more}
-use Rattle.step_chain.proofs.Lists.{get_front, get_seam, get_past, all_join, all_weaker}
+use Rattle.step_chain.proofs.Lists.{get_front, get_seam, all_join, all_weaker}
 
 -- ---- lists
 
@@ -255,7 +251,7 @@ module _ (d : Opened) (logic : Typecode) (bound : Bound) (works : List WorkNode)
           let e = links_end in
           let one = rise_front (λ (p : Pushed). p.mark.trail) steps (length links) k h.links_rise i j below in
           subst (λ (n : ℕ). option_map_or (λ (p : Pushed). p.mark.trail) (slice_get (take k steps) i) n ≤ option_map_or (λ (p : Pushed). p.mark.trail) (slice_get (take k steps) j) n) (sym e) one;
-      fronts = λ j. elim (cases_lt k j) [ | inl past ↦ front_past j past | inr first ↦ front_first j first ];
+      fronts = λ j. elim (cases_lt k j) [ inl past ↦ front_past j past | inr first ↦ front_first j first ];
     }
 
   -- a step more
@@ -318,7 +314,7 @@ module _ (d : Opened) (logic : Typecode) (bound : Bound) (works : List WorkNode)
       pushed = let long = length_push steps p in omega (arith, long, room);
       nodes_rise = rise_pushed (λ (q : Pushed). q.mark.nodes) steps p (length old.nodes) (length new.nodes) nodes_mark more_nodes h.nodes_rise;
       links_rise = rise_pushed (λ (q : Pushed). q.mark.trail) steps p (length old.links) (length new.links) links_mark more_links h.links_rise;
-      fronts = λ j. elim (cases_lt (length steps) j) [ | inl past ↦ front_new j past | inr first ↦ front_old j first ];
+      fronts = λ j. elim (cases_lt (length steps) j) [ inl past ↦ front_new j past | inr first ↦ front_old j first ];
     }
 
   -- nothing is pushed

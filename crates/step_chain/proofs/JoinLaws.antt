@@ -1,16 +1,15 @@
 -- Pairs of nodes that are joined one after the other.
-use Rattle.std.specs.Prelude.{◌≡◌, ◌↔◌, ℕ, ◌<◌, ◌+◌, List, [], ◌∷◌, ◌++◌, length, map, take, refl}
-use Rattle.std.specs.List.{AllByRecursion}
+use Rattle.std.specs.Prelude.{◌≡◌, ◌↔◌, ℕ, ◌<◌, ◌+◌, List, [], ◌∷◌, ◌++◌, length, take, refl}
 use Rattle.std.proofs.Common.{zero, suc, get_or, sym, ap, subst, ◌∙◌, arith}
 use Rattle.std.proofs.lemmas.List.{append_assoc, take_more, map_push}
 use Rattle.mm_base.specs.declared.tree.Tree.{Tree}
 use Rattle.term_model.specs.declared.shape.Id.{Id}
 use Rattle.term_model.specs.Terms.{Term}
-use Rattle.term_model.specs.Links.{Link, InOrder, AreBelow}
+use Rattle.term_model.specs.Links.{Link, AreBelow}
 use Rattle.term_model.specs.Store.{Store, tree_at, Solution, IsStore}
 use Rattle.term_model.proofs.LinkLaws.{are_below}
 use Rattle.term_unify.specs.Steps.{HaveSameTree}
-use Rattle.chain_laws.specs.Layout.{NodePair, AreJoined, Joins, CannotJoin}
+use Rattle.chain_laws.specs.Layout.{AreJoined, Joins, CannotJoin}
 use Rattle.chain_laws.proofs.Candidates.{joins_more}
 use Rattle.step_chain.specs.Joined.{pair_of, pairs_of, ArePairsIn, KeepsNodes}
 

@@ -1,7 +1,7 @@
 -- The first order in which the nodes can be joined is the first in which the candidate fits.
-use Rattle.std.specs.Prelude.{◌≡◌, ℕ, ◌<◌, ◌≤◌, ◌+◌, ◌⊎◌, Bool, true, false, List, [], ◌∷◌, ◌++◌, length, map, slice_get, Option, Some, None, Contains, refl}
+use Rattle.std.specs.Prelude.{◌≡◌, ℕ, ◌<◌, ◌+◌, Bool, true, false, List, [], ◌∷◌, ◌++◌, length, map, slice_get, Option, Some, None, refl}
 use Rattle.std.specs.List.{AllByRecursion, flat_map, range_with_len}
-use Rattle.std.proofs.Common.{zero, suc, get_or, sym, ap, subst, ◌∙◌, arith, inl, inr, cond}
+use Rattle.std.proofs.Common.{zero, suc, sym, ap, subst, ◌∙◌, arith, inl, inr, cond}
 use Rattle.std.proofs.lemmas.List.{append_assoc, length_push}
 use Rattle.std.proofs.lemmas.List.Elements.{Contains-append_left}
 use Rattle.mm_model.specs.Book.{Database, Assertion}
@@ -11,17 +11,17 @@ use Rattle.solve_model.specs.declared.bound.BoundStep.{BoundStep}
 use Rattle.solve_model.specs.declared.bound.Bound.{Bound}
 use Rattle.solve_model.specs.declared.verdict.Verdict.TheVariants as verdict
 use Rattle.solve_model.specs.Bound.{candidate}
-use Rattle.solve_model.specs.Firsts.{orders, picks, IsFirstOrNone, IsFirstIn}
-use Rattle.solve_model.specs.Solutions.{Asked, is_free, orders_of}
-use Rattle.solve_model.specs.Verdicts.{asked, FitsIn, Judgement, accepted, stands, IsJudgement, fits, no_fit}
+use Rattle.solve_model.specs.Firsts.{orders, picks, IsFirstOrNone}
+use Rattle.solve_model.specs.Solutions.{Asked, orders_of}
+use Rattle.solve_model.specs.Verdicts.{asked, FitsIn, accepted, stands, IsJudgement, fits, no_fit}
 use Rattle.term_model.specs.declared.shape.Id.{Id}
 use Rattle.term_model.specs.Terms.{Term}
 use Rattle.term_model.specs.Links.{Link}
 use Rattle.term_model.specs.Store.{tree_at, IsStore, IsSolved}
 use Rattle.chain_laws.specs.Layout.{Layout, NodePair, IsSoundAsked, IsChained, AreFormulaNodes, AreCandidateNodes, place_pairs, candidate_pairs, HasRoom, Joins, CannotJoin}
-use Rattle.chain_laws.proofs.Candidates.{joins_more, cannot_more, accepts, refuses, chained_same, reordered}
+use Rattle.chain_laws.proofs.Candidates.{joins_more, accepts, refuses, chained_same, reordered}
 use Rattle.chain_laws.proofs.Chained.{solvable}
-use Rattle.step_chain.specs.Joined.{pair_of, pairs_of}
+use Rattle.step_chain.specs.Joined.{pairs_of}
 use Rattle.step_chain.specs.Ordered.{may_reorder, place_at, formula_at, id_pairs, tried, IsFirstFit}
 use Rattle.step_chain.specs.Ordered as ordered
 

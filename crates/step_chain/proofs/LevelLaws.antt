@@ -1,31 +1,28 @@
 -- One step more.
-use Rattle.std.specs.Prelude.{◌≡◌, ℕ, ◌<◌, ◌≤◌, ◌+◌, ◌⊎◌, List, [], ◌∷◌, ◌++◌, length, map, take, slice_get, slice_index_or, Contains, Option, Some, None, refl}
-use Rattle.std.specs.List.{AllByRecursion, AllZip}
+use Rattle.std.specs.Prelude.{◌≡◌, ℕ, ◌<◌, ◌≤◌, ◌+◌, List, [], ◌∷◌, ◌++◌, length, map, take, slice_get, Contains, Option, Some, None, refl}
 use Rattle.std.proofs.Common.{zero, suc, sym, ap, subst, ◌∙◌, arith, inl, inr}
 use Rattle.std.proofs.lemmas.Bool.{cases_lt, cases_eq}
 use Rattle.std.proofs.lemmas.List.{append-nil, length-append, length_push, take-append-le}
-use Rattle.std.proofs.lemmas.List.Elements.{filter_map-append, Contains-append_left, Contains-append_right}
-use Rattle.std.proofs.lemmas.Option.{get_or_from_slice_get}
+use Rattle.std.proofs.lemmas.List.Elements.{filter_map-append}
 use Rattle.std.proofs.Math.Seq.{take-append_seam}
 use Rattle.mm_base.specs.declared.symbols.Sym.{Sym}
 use Rattle.mm_base.specs.declared.symbols.Typecode.{Typecode}
 use Rattle.mm_base.specs.declared.tree.Tree.{Tree}
-use Rattle.mm_model.specs.Productions.{TypedVariable}
 use Rattle.mm_model.specs.Book.{Database, Assertion}
 use Rattle.mm_database.specs.Opened.{Opened}
 use Rattle.solve_model.specs.declared.bound.BoundStep.{BoundStep}
 use Rattle.solve_model.specs.declared.bound.Bound.{Bound}
 use Rattle.solve_model.specs.declared.verdict.Verdict.{Verdict}
-use Rattle.solve_model.specs.Bound.{standing, settled}
-use Rattle.solve_model.specs.Solutions.{Unknown, named, blank, copy, IsUnknown, in_formula, is_blank, in_frame, Asked, instance}
-use Rattle.solve_model.specs.Verdicts.{Judgement, accepted, stands, asked_of, accepted_in, asked, IsJudgement, other}
+use Rattle.solve_model.specs.Bound.{standing}
+use Rattle.solve_model.specs.Solutions.{Unknown, named, blank, copy, IsUnknown, in_formula, is_blank, in_frame, Asked}
+use Rattle.solve_model.specs.Verdicts.{Judgement, accepted, stands, asked_of, accepted_in, IsJudgement}
 use Rattle.term_model.specs.declared.shape.Id.{Id}
 use Rattle.term_model.specs.Terms.{Term}
 use Rattle.term_model.specs.Links.{Link}
 use Rattle.term_model.specs.Store.{tree_at}
 use Rattle.chain_laws.specs.declared.leaves.WorkNode.{WorkNode}
 use Rattle.term_model.specs.Sizes.{HaveConstants}
-use Rattle.chain_laws.specs.Adding.{variable_at, constants_in}
+use Rattle.chain_laws.specs.Adding.{constants_in}
 use Rattle.chain_laws.specs.Layout.{Layout, IsChained, AreFormulaNodes, IsInstanceNode, IsSoundAsked, IsOver, valuation_of}
 use Rattle.chain_laws.proofs.Agreement.{instance_same}
 use Rattle.chain_laws.proofs.Grown.{fit_front}
@@ -39,7 +36,7 @@ use Rattle.step_chain.specs.Steps.{asked_by, accepted_by, judgement_of, judgemen
 use Rattle.step_chain.specs.Sizes.{size_of_front}
 use Rattle.step_chain.proofs.CountLaws.{front_rises}
 use Rattle.step_chain.specs.Levels.{AreKeptNodes, IsKeptStep, AreEachJudged, AreBefore, IsLevel}
-use Rattle.step_chain.proofs.Lists.{get_front, get_seam, get_past, all_has, all_join, all_weaker, all_at, zip_weaker}
+use Rattle.step_chain.proofs.Lists.{get_front, get_seam, get_past, all_has, all_join, all_weaker, zip_weaker}
 
 -- ---- the judgements of one step more
 

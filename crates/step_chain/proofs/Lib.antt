@@ -26,3 +26,4 @@ pub mod RowSizes
 pub mod AnswerLaws
 pub mod ReaderLaws
 pub mod FewLaws
+pub mod PlacedLaws

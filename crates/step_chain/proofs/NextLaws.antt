@@ -1,6 +1,6 @@
 -- The next step, judged.
-use Rattle.std.specs.Prelude.{◌≡◌, ℕ, ◌<◌, ◌≤◌, List, [], ◌∷◌, ◌++◌, length, take, slice_get, Option, Some, None, refl}
-use Rattle.std.proofs.Common.{sym, ap, subst, ◌∙◌, arith}
+use Rattle.std.specs.Prelude.{◌≡◌, ℕ, ◌<◌, List, [], ◌∷◌, ◌++◌, length, take, slice_get, Option, Some, None}
+use Rattle.std.proofs.Common.{sym, ap, subst, ◌∙◌}
 use Rattle.std.proofs.lemmas.List.{append-nil}
 use Rattle.std.proofs.lemmas.Option.{slice_get-get_or}
 use Rattle.std.proofs.Math.Seq.{take-append_seam}
@@ -30,10 +30,8 @@ use Rattle.chain_laws.specs.declared.leaves.WorkNode.{WorkNode}
 use Rattle.chain_laws.specs.Laws.{CandidatesAreReady}
 use Rattle.chain_laws.specs.Layout.{IsReadyAsked}
 use Rattle.again_laws.specs.Whole.{IsWhole, AssertionsAreWhole}
-use Rattle.step_chain.specs.declared.standing.Standing.{Standing}
 use Rattle.step_chain.specs.declared.standing.Standing.TheVariants.{Settled, Candidate}
 use Rattle.step_chain.specs.declared.judged.Accepted.{Accepted}
-use Rattle.step_chain.specs.declared.judged.Judged.{Judged}
 use Rattle.step_chain.specs.declared.judged.Judged.TheVariants.{Stands, Fits}
 use Rattle.step_chain.specs.declared.judged.Pushed.{Pushed}
 use Rattle.step_chain.specs.Standings.{usable_in, standing_in, IsStandingOf, IsCandidateOf}

@@ -1,5 +1,5 @@
 -- Trees that are read one after the other.
-use Rattle.std.specs.Prelude.{◌≡◌, ℕ, ◌<◌, ◌≤◌, ◌+◌, ◌⊎◌, List, [], ◌∷◌, ◌++◌, length, map, take, slice_get, Option, Some, None, Result, Ok, Err, refl}
+use Rattle.std.specs.Prelude.{◌≡◌, ℕ, ◌<◌, ◌≤◌, ◌+◌, List, [], ◌∷◌, ◌++◌, length, take, Ok, Err, refl}
 use Rattle.std.specs.List.{AllByRecursion}
 use Rattle.std.proofs.Common.{zero, suc, get_or, sym, ap, subst, ◌∙◌, arith, inl, inr}
 use Rattle.std.proofs.lemmas.List.{take_more, map_push}
@@ -11,7 +11,7 @@ use Rattle.chain_laws.specs.Reading.{value_at, AreWorkNodes}
 use Rattle.step_chain.specs.declared.reading.TreeFault.{TreeFault}
 use Rattle.step_chain.specs.declared.reading.TreeFault.TheVariants.{TooLong, Memory}
 use Rattle.step_chain.specs.Readings.{Readable, IsRead, IsReadOff}
-use Rattle.step_chain.specs.Answers.{IsShort, IsFirstLong, AreTold, IsFaultOf, AreReadOff, values_at}
+use Rattle.step_chain.specs.Answers.{IsShort, IsFirstLong, AreTold, IsFaultOf, values_at}
 use Rattle.step_chain.proofs.Lists.{all_join}
 
 -- the first of them can be told

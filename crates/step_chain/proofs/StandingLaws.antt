@@ -1,11 +1,9 @@
 -- What stands of a step, by tests.
-use Rattle.std.specs.Prelude.{◌≡◌, ℕ, ◌<◌, ◌≤◌, Bool, true, false, nat_lt, slice_index_or, is_some, Option, Some, None, refl}
-use Rattle.std.proofs.Common.{sym, ap, ◌∙◌, cond}
+use Rattle.std.specs.Prelude.{◌≡◌, ℕ, ◌<◌, ◌≤◌, true, false, nat_lt, slice_index_or, is_some, Option, Some, None, refl}
 use Rattle.std.proofs.lemmas.Bool.Decides.{nat_tests}
 use Rattle.std.proofs.Common.{arith}
 use Rattle.mm_base.specs.declared.symbols.Label.{Label}
 use Rattle.mm_model.specs.declared.frames.Frame.{Frame}
-use Rattle.mm_frames.specs.Contents.{frame_at}
 use Rattle.mm_database.specs.declared.assertions.Parsed.{Parsed}
 use Rattle.mm_database.specs.Books.{parsed_at}
 use Rattle.mm_database.specs.Opened.{Opened}

@@ -6,7 +6,7 @@ use Rattle.mm_base.specs.declared.symbols.Label.{Label}
 use Rattle.mm_base.specs.declared.kinds.Kinds.{Kinds}
 use Rattle.mm_model.specs.declared.frames.Frame.{Frame}
 use Rattle.mm_model.specs.Names.{Name, label_named}
-use Rattle.mm_model.specs.Book.{Database, Assertion, position_of, label_of}
+use Rattle.mm_model.specs.Book.{Database, Assertion, position_of}
 use Rattle.mm_frames.specs.Contents.{frame_at, Contents}
 use Rattle.mm_frames.proofs.Queries.{frame-is}
 use Rattle.mm_database.specs.declared.assertions.Parsed.{Parsed}
@@ -18,7 +18,7 @@ use Rattle.solve_model.specs.Bound.{settled, candidate, standing, standing_usabl
 use Rattle.solve_model.specs.Bound as spec
 use Rattle.step_chain.specs.declared.standing.Standing.{Standing}
 use Rattle.step_chain.specs.declared.standing.Standing.TheVariants.{Settled, Candidate}
-use Rattle.step_chain.specs.Standings.{standing_at_usable, standing_at_position, standing_at_frame, standing_at_label, standing_at_name, standing_at_reference, standing_in, usable_in, IsBookOf, IsCandidateOf, IsStandingOf}
+use Rattle.step_chain.specs.Standings.{standing_at_usable, standing_at_frame, standing_at_label, standing_at_name, standing_at_reference, standing_in, usable_in, IsBookOf, IsStandingOf}
 
 -- an opened database is that of what is kept
 pub book_of : (kinds : Kinds) (text : List ℕ) (d : Opened) → IsOpened kinds text d → IsBookOf (database_of kinds text d.rows d.parsed) d
@@ -46,9 +46,14 @@ module _ (db : Database) (d : Opened) (place : ℕ) (s : BoundStep) (book : IsBo
           let few : nat_le (length s.places) (length p.hyps) ≡ false = grind (arith, nat_tests, e) in
           ap (λ (b : Bool). cond b (candidate (assertion_of l f p)) (settled verdict.TooManyHyps)) few
       by_room p kept false e =
-          let room : nat_le (length s.places) (length p.hyps) ≡ true = grind (arith, nat_tests, e) in
-          (assertion_of l f p, ap (usable_with d.parsed l) frame ∙ ap (option_map (assertion_of l f)) kept, refl,
-          ap (λ (b : Bool). cond b (candidate (assertion_of l f p)) (settled verdict.TooManyHyps)) room, before, grind (arith, nat_tests, e))
+          let room : nat_le (length s.places) (length p.hyps) ≡ true = grind (arith, nat_tests, e) in (
+            assertion_of l f p,
+            ap (usable_with d.parsed l) frame ∙ ap (option_map (assertion_of l f)) kept,
+            refl,
+            ap (λ (b : Bool). cond b (candidate (assertion_of l f p)) (settled verdict.TooManyHyps)) room,
+            before,
+            grind (arith, nat_tests, e),
+          )
 
       by_parsed : (o : Option Parsed) → parsed_at d.parsed l ≡ o → IsSame (standing_usable s (option_map (assertion_of l f) o)) (standing_at_usable s l o)
       by_parsed None e = refl

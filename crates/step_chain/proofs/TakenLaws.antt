@@ -1,9 +1,9 @@
 -- What was taken is judged.
-use Rattle.std.specs.Prelude.{◌≡◌, ℕ, ◌<◌, ◌≤◌, ◌+◌, ◌⊎◌, List, [], ◌∷◌, ◌++◌, length, map, slice_get, Option, Some, None, refl}
+use Rattle.std.specs.Prelude.{◌≡◌, ℕ, ◌<◌, ◌≤◌, List, [], ◌∷◌, ◌++◌, length, map, slice_get, Option, Some, None, refl}
 use Rattle.std.specs.List.{AllByRecursion}
-use Rattle.std.proofs.Common.{zero, suc, sym, ap, subst, ◌∙◌, arith, inl, inr, get_or}
+use Rattle.std.proofs.Common.{zero, suc, sym, ap, subst, ◌∙◌, arith, inl, inr}
 use Rattle.std.proofs.lemmas.Bool.{cases_lt}
-use Rattle.std.proofs.lemmas.List.{length-append, length-map, get_or-map}
+use Rattle.std.proofs.lemmas.List.{length-map}
 use Rattle.mm_base.specs.declared.symbols.Sym.{Sym}
 use Rattle.mm_base.specs.declared.symbols.Typecode.{Typecode}
 use Rattle.mm_model.specs.Typed.{IsTyped}
@@ -17,7 +17,7 @@ use Rattle.solve_model.specs.Bound.{candidate}
 use Rattle.solve_model.specs.Solutions.{copy, IsUnknown, Asked, orders_of}
 use Rattle.solve_model.specs.Verdicts.{asked, Judgement, accepted, stands, IsJudgement}
 use Rattle.term_model.specs.declared.shape.Id.{Id}
-use Rattle.term_model.specs.Terms.{Term, Free, term_at, children_of}
+use Rattle.term_model.specs.Terms.{Term, term_at, children_of}
 use Rattle.term_model.specs.Links.{Link}
 use Rattle.term_model.specs.Store.{Store, IsStore, IsSolved}
 use Rattle.chain_laws.specs.Adding.{Rooted, Listed, Adder, id_of, added, run, numbered, free_of, AreApart}
@@ -25,9 +25,9 @@ use Rattle.chain_laws.specs.Layout.{Layout, IsOver, IsChained, AreFormulaNodes, 
 use Rattle.chain_laws.proofs.Grown.{term_front}
 use Rattle.chain_laws.proofs.Copies.{with_copies}
 use Rattle.chain_laws.proofs.Prepared.{prepared, prepared_formula_nodes, prepared_candidate_nodes}
-use Rattle.step_chain.specs.Candidate.{table_of, root_of, roots_of}
+use Rattle.step_chain.specs.Candidate.{root_of, roots_of}
 use Rattle.step_chain.specs.Ordered.{formula_at, reordered, may_reorder, tried, id_pairs, IsFirstFit}
-use Rattle.step_chain.specs.Tried.{conclusion_pairs, IsTried, IsJoinedFirst, IsTaken}
+use Rattle.step_chain.specs.Tried.{conclusion_pairs, IsTried, IsTaken}
 use Rattle.step_chain.proofs.JudgedLaws.{no_conclusion, no_order, accepted_chain, first_order}
 
 -- a store with free nodes behind

@@ -1,13 +1,11 @@
 -- A chain stands for the most general valuation of the accepted steps.
-use Rattle.std.specs.Prelude.{◌≡◌, ℕ, ◌<◌, ◌≤◌, ◌+◌, Bool, true, false, ◌==◌, ◌&&◌, List, [], ◌∷◌, length, map, find, slice_get, slice_index_or, unwrap_or, option_map, option_and_then, Contains, Option, Some, None, refl}
+use Rattle.std.specs.Prelude.{◌≡◌, ℕ, ◌<◌, ◌+◌, Bool, true, false, ◌==◌, ◌&&◌, List, [], ◌∷◌, length, find, slice_get, slice_index_or, unwrap_or, option_map, option_and_then, Contains, Option, Some, None, refl}
 use Rattle.std.specs.Option.{option_map_or}
 use Rattle.std.specs.List.{AllByRecursion}
-use Rattle.std.proofs.Common.{zero, suc, sym, ap, subst, ◌∙◌, arith, inl, inr, cond}
+use Rattle.std.proofs.Common.{zero, suc, sym, ap, subst, ◌∙◌, arith, cond}
 use Rattle.std.proofs.lemmas.Bool.Decides.{nat_tests}
 use Rattle.std.proofs.lemmas.Option.{slice_get_within, get_or_from_slice_get}
-use Rattle.mm_base.specs.declared.symbols.Sym.{Sym}
 use Rattle.mm_base.specs.declared.symbols.Typecode.{Typecode}
-use Rattle.mm_base.specs.declared.tree.Tree.{Tree}
 use Rattle.mm_base.specs.Trees.{code_of}
 use Rattle.mm_model.specs.Typed.{IsTyped}
 use Rattle.mm_model.specs.Productions.{TypedVariable}
@@ -16,18 +14,15 @@ use Rattle.mm_database.specs.Opened.{Opened}
 use Rattle.solve_model.specs.declared.bound.BoundStep.{BoundStep}
 use Rattle.solve_model.specs.declared.bound.Bound.{Bound}
 use Rattle.solve_model.specs.Trees.{Open, work, fresh, Occurs}
-use Rattle.solve_model.specs.Solutions.{Unknown, named, blank, copy, Valuation, IsValuation, IsUnknown, in_formula, is_blank, in_frame, Asked, Solves, unknown_code, formula, formula_value, instance, no_step}
-use Rattle.solve_model.specs.MostGeneral.{IsInstance, IsMostGeneral, IsLeastNamed, IsNamedLeaf, IsCanonical, IsTheValuation, refine}
-use Rattle.solve_model.specs.Verdicts.{Judgement, accepted, stands, accepted_in}
-use Rattle.term_model.specs.declared.shape.Id.{Id}
-use Rattle.term_model.specs.Terms.{Term}
-use Rattle.term_model.specs.Links.{Link}
+use Rattle.solve_model.specs.Solutions.{Unknown, named, blank, copy, Valuation, IsUnknown, in_formula, is_blank, in_frame, Asked, formula, formula_value, no_step}
+use Rattle.solve_model.specs.MostGeneral.{IsLeastNamed, IsNamedLeaf, IsTheValuation, refine}
+use Rattle.solve_model.specs.Verdicts.{Judgement, accepted_in}
 use Rattle.chain_laws.specs.declared.leaves.WorkNode.{WorkNode}
 use Rattle.chain_laws.specs.Adding.{is_work, work_at, variable_at}
-use Rattle.chain_laws.specs.Layout.{Layout, IsChained, IsSoundAsked, work_node}
+use Rattle.chain_laws.specs.Layout.{Layout, IsSoundAsked, work_node}
 use Rattle.chain_laws.specs.Reading.{value_at, value_of_store}
 use Rattle.chain_laws.proofs.Agreement.{solve_same, formula_same}
-use Rattle.chain_laws.proofs.ReadValues.{formula_read, instance_read, unknown_read, read_valuation}
+use Rattle.chain_laws.proofs.ReadValues.{formula_read, unknown_read, read_valuation}
 use Rattle.step_chain.specs.declared.judged.Accepted.{Accepted}
 use Rattle.step_chain.specs.declared.judged.Judged.{Judged}
 use Rattle.step_chain.specs.declared.judged.Judged.TheVariants.{Stands, Fits}
@@ -38,9 +33,7 @@ use Rattle.step_chain.specs.Steps.{asked_by, accepted_by, judgement_of, judgemen
 use Rattle.step_chain.specs.Levels.{IsLevel}
 use Rattle.step_chain.specs.Held.{Held, judgements_of, OfEachBook, IsHeld}
 use Rattle.mm_database.specs.Books.{database_of}
-use Rattle.solve_model.specs.Bound.{work_size}
 use Rattle.step_chain.proofs.ChainLaws.{sound_of}
-use Rattle.step_chain.proofs.CountLaws.{front_few}
 use Rattle.step_chain.specs.Values as values
 use Rattle.step_chain.specs.Values.{accepted_at, node_in, value_of}
 
@@ -223,12 +216,3 @@ pub chain_valuation : (h now : Held) → h ≡ now → IsHeld h → OfEachBook n
 chain_valuation h now e inv =
     subst (λ (x : Held). OfEachBook x (λ db. IsTheValuation db x.bound (accepted_in (judgements_of x)) (value_of x))) e
     (λ kinds text sheet opened binds code. the_valuation h (database_of kinds text h.book.rows h.book.parsed) ((sound_of h inv).level kinds text sheet opened binds code))
-
-pub chain_few : (h now : Held) → h ≡ now → IsHeld h → OfEachBook now (λ db. length now.nodes ≤ work_size db now.bound)
-chain_few h now e inv =
-    subst (λ (x : Held). OfEachBook x (λ db. length x.nodes ≤ work_size db x.bound)) e
-    (λ kinds text sheet opened binds code.
-    let db = database_of kinds text h.book.rows h.book.parsed in
-    let few = ((sound_of h inv).level kinds text sheet opened binds code).few in
-    let all = front_few db h.bound (length h.steps) in
-    omega (arith, few, all))

@@ -2,21 +2,19 @@
 use Rattle.std.specs.Prelude.{◌≡◌, ℕ, List, [], ◌∷◌, ◌++◌, length, Option, Some, None, option_map}
 use Rattle.mm_base.specs.declared.symbols.Label.{Label}
 use Rattle.mm_model.specs.declared.rows.Production.{Production}
-use Rattle.mm_model.specs.Book.{Database, Assertion}
+use Rattle.mm_model.specs.Book.{Assertion}
 use Rattle.mm_database.specs.Opened.{Opened}
 use Rattle.sheet_text.specs.declared.sheet.Given.{Given}
 use Rattle.solve_model.specs.declared.bound.Bound.{Bound}
-use Rattle.solve_model.specs.declared.verdict.Verdict.TheVariants as verdict
 use Rattle.term_model.specs.declared.shape.Id.{Id}
 use Rattle.term_model.specs.Terms.{Term}
 use Rattle.term_model.specs.Store.{Store, IsStore, IsSolved}
 use Rattle.chain_laws.specs.declared.leaves.WorkNode.{WorkNode}
 use Rattle.step_chain.specs.declared.judged.Accepted.{Accepted}
 use Rattle.step_chain.specs.declared.judged.Judged.{Judged}
-use Rattle.step_chain.specs.declared.judged.Judged.TheVariants.{Stands, Fits}
+use Rattle.step_chain.specs.declared.judged.Judged.TheVariants.{Fits}
 use Rattle.step_chain.specs.declared.judged.Pushed.{Pushed}
 use Rattle.step_chain.specs.Candidate.{table_of, roots_of}
-use Rattle.step_chain.specs.Grown.{AreIdsIn, AreVariablesIn}
 use Rattle.step_chain.specs.Tried.{IsTaken, IsExtended}
 use Rattle.step_chain.specs.Levels.{ForEachBook, IsLevel, IsKeptIn}
 

@@ -1,11 +1,11 @@
 -- What is answered of a chain's steps.
-use Rattle.std.specs.Prelude.{◌≡◌, ℕ, ◌+◌, ◌<◌, ◌≤◌, ◌⊎◌, List, [], ◌∷◌, map, length, slice_get, Option, Some, None, Result, Ok, Err, MatchResult}
+use Rattle.std.specs.Prelude.{◌≡◌, ℕ, ◌+◌, ◌≤◌, ◌⊎◌, List, [], ◌∷◌, map, slice_get, Some, Result, Err, MatchResult}
 use Rattle.std.specs.List.{AllByRecursion}
 use Rattle.mm_base.specs.declared.symbols.Label.{Label}
 use Rattle.mm_base.specs.declared.tree.Tree.{Tree}
 use Rattle.mm_model.specs.Productions.{TypedVariable}
 use Rattle.solve_model.specs.Solutions.{copy, Asked}
-use Rattle.solve_model.specs.Verdicts.{Judgement, accepted}
+use Rattle.solve_model.specs.Verdicts.{accepted}
 use Rattle.term_model.specs.Sizes.{saturated, tokens, HaveConstants}
 use Rattle.chain_laws.specs.declared.leaves.VariableNode.{VariableNode}
 use Rattle.chain_laws.specs.Adding.{constants_in}

@@ -1,6 +1,6 @@
 -- The places of a candidate in their orders.
-use Rattle.std.specs.Prelude.{◌≡◌, ℕ, ◌<◌, ◌==◌, ◌&&◌, Bool, true, false, List, [], ◌∷◌, length, map, nat_le, if◌then◌else◌, slice_get, slice_index_or, Option, Some, None}
-use Rattle.std.specs.List.{AllByRecursion, list_all, range_with_len}
+use Rattle.std.specs.Prelude.{◌≡◌, ℕ, ◌<◌, ◌==◌, ◌&&◌, Bool, List, [], ◌∷◌, length, map, nat_le, if◌then◌else◌, slice_get, slice_index_or, Option, Some, None}
+use Rattle.std.specs.List.{list_all, range_with_len}
 use Rattle.sheet_text.specs.declared.sheet.Given.{Given}
 use Rattle.sheet_text.specs.declared.sheet.Given.TheVariants as given
 use Rattle.solve_model.specs.Firsts.{orders}

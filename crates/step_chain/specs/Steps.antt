@@ -1,6 +1,8 @@
 -- The judgements of the steps that were pushed.
-use Rattle.std.specs.Prelude.{ℕ, suc, ◌<◌, ◌^◌, List, [], ◌∷◌, length, slice_index_or, Option, Some, None}
-use Rattle.std.specs.List.{AllByRecursion}
+use Rattle.std.specs.Prelude.{ℕ, suc, ◌<◌, ◌^◌, ◌&&◌, Bool, true, nat_lt, List, [], ◌∷◌, length, slice_index_or, Option, Some, None}
+use Rattle.std.specs.List.{AllByRecursion, list_all}
+use Rattle.sheet_text.specs.declared.sheet.Given.{Given}
+use Rattle.sheet_text.specs.declared.sheet.Given.TheVariants as given
 use Rattle.mm_model.specs.Book.{Assertion}
 use Rattle.mm_database.specs.Opened.{Opened}
 use Rattle.solve_model.specs.declared.bound.BoundStep.{BoundStep}
@@ -49,3 +51,12 @@ pub record IsPlaced (n : ℕ) (s : BoundStep) : Type 0 where
 
 abbrev pub ArePlaced : Bound → Type 0
 ArePlaced bound = AllByRecursion (IsPlaced (length bound.steps)) bound.steps
+
+-- ---- the same as tests
+
+abbrev pub place_in : ℕ → Given → Bool
+place_in n given.Gap = true
+place_in n (given.Step k) = nat_lt k n
+
+abbrev pub step_placed : ℕ → BoundStep → Bool
+step_placed n s = nat_lt (length s.places) (2 ^ 32) && list_all (place_in n) s.places

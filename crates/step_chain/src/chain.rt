@@ -9,7 +9,7 @@ use crate::judging::judge;
 use crate::reader::values;
 use crate::reading::{TreeFault, Trees};
 use chain_laws::WorkNode;
-use mm_base::{Kinds, List, Memory, Tree, Typecode};
+use mm_base::{Kinds, Label, List, Memory, Tree, Typecode};
 use mm_database::Database;
 use solve_model::{Bound, Verdict};
 use std::alloc::Global;
@@ -41,11 +41,27 @@ impl<'a> Model for Chain<'a> {
 
     ghost coded = { Prim.hlevel (codes, tree.the_row.coded) };
 
-    ghost view = { λ c. record { book = c.db.now; logic = c.logic; bound = c.bound.now; nodes = c.arena.nodes; links = c.arena.links;
-        works = c.works; formulas = c.formulas; steps = c.steps.items } };
+    ghost view = { λ c. record {
+      book = c.db.now;
+      logic = c.logic;
+      bound = c.bound.now;
+      nodes = c.arena.nodes;
+      links = c.arena.links;
+      works = c.works;
+      formulas = c.formulas;
+      steps = c.steps.items;
+    } };
 
-    ghost invariant = { λ c. IsHeld (record { book = c.db.now; logic = c.logic; bound = c.bound.now; nodes = c.arena.nodes; links = c.arena.links;
-        works = c.works; formulas = c.formulas; steps = c.steps.items }) };
+    ghost invariant = { λ c. IsHeld (record {
+      book = c.db.now;
+      logic = c.logic;
+      bound = c.bound.now;
+      nodes = c.arena.nodes;
+      links = c.arena.links;
+      works = c.works;
+      formulas = c.formulas;
+      steps = c.steps.items;
+    }) };
 }
 
 fn count(steps: &[Pushed]) -> usize
@@ -130,14 +146,12 @@ impl<'a> Chain<'a> {
     }
 
     /// How many steps were pushed. Each is judged by those that were accepted before it, and the chain stands for the most
-    /// general valuation of those that are accepted. Its store has no more nodes than the work size counts. It takes constant
-    /// time.
+    /// general valuation of those that are accepted. It takes constant time.
     pub fn pushed(&self) -> u32
         ensures count { result ≡ length (judgements_of self.now) }
         ensures judged { OfEachBook self.now (λ db. length (judgements_of self.now) ≡ length self.now.bound.steps
             → AreJudged db self.now.bound (judgements_of self.now)) }
         ensures valuation { OfEachBook self.now (λ db. IsTheValuation db self.now.bound (verdicts.accepted_in (judgements_of self.now)) (value_of self.now)) }
-        ensures few { OfEachBook self.now (λ db. length self.now.nodes ≤ work_size db self.now.bound) }
     {
         count(self.steps.as_slice()) as u32
     }
@@ -197,12 +211,17 @@ impl<'a> Chain<'a> {
     }
 
     /// What is kept of a step that was accepted.
-    pub fn accepted(&self, i: u32) -> &Accepted
+    fn accepted(&self, i: u32) -> &Accepted
         requires { IsSome (accepted_at self.now i) }
         ensures { accepted_at self.now i ≡ Some result.now }
     {
         match self.steps.as_slice().get(i as usize) {
-            Some(Pushed { judged: Judged::Fits(accepted), .. }) => accepted,
+            Some(
+                Pushed {
+                    judged: Judged::Fits(accepted),
+                    ..
+                },
+            ) => accepted,
             _ => unreachable!(),
         }
     }
@@ -214,6 +233,15 @@ impl<'a> Chain<'a> {
         ensures judged { IsTrue result → OfEachBook self.now (λ db. (y : Asked) × IsAcceptedAs self.now i y) }
     {
         fits_at(self.steps.as_slice(), i)
+    }
+
+    /// The label of an accepted step's assertion.
+    pub fn label(&self, i: u32) -> Label
+        requires { IsSome (accepted_at self.now i) }
+        ensures { OfAccepted self.now i (λ y. y.assertion.label ≡ result) }
+    {
+        let _steps = &self.steps;
+        self.accepted(i).label
     }
 
     /// The order in which an accepted step fits, as positions in its places.
@@ -302,6 +330,10 @@ impl<'c, 'a> ChainTrees<'c, 'a> {
         requires { IsSome (accepted_at self.now i) }
         ensures { OfAccepted self.now i (λ y. AreRead (constants_of self.now) (values_of self.now i y) result) }
     {
-        values(alloc, &self.trees, self.chain.accepted(i).variables.as_slice())
+        values(
+            alloc,
+            &self.trees,
+            self.chain.accepted(i).variables.as_slice(),
+        )
     }
 }

@@ -12,17 +12,16 @@ mod judged;
 mod judging;
 mod laws;
 mod orders;
+mod placed;
 mod reader;
 mod reading;
 mod standing;
-#[cfg(test)]
-mod tests;
 mod trying;
 mod works;
 
 pub use chain::{Chain, ChainTrees};
 pub use chain_laws::{VariableNode, WorkNode};
-pub use judged::{Accepted, Judged};
 pub use laws::constants_are_counted;
+pub use placed::are_placed;
 pub use reading::TreeFault;
 pub use solve_model::Verdict;

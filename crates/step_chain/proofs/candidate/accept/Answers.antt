@@ -1,6 +1,4 @@
 use Rattle.std.proofs.Common.{◌≡◌, ap, sym, subst, length, List, Option, ℕ}
-use Rattle.chain_laws.specs.declared.leaves.VariableNode.{VariableNode}
-use Rattle.term_model.specs.declared.shape.Id.{Id}
 use Rattle.step_chain.specs.Tried.{IsTaken}
 use Rattle.step_chain.specs.Grown.{AreIdsIn, AreVariablesIn}
 use Rattle.step_chain.specs.declared.judged.Accepted.{Accepted}
@@ -22,6 +20,7 @@ returns-in-Some-clause-taken c =
 
 pub returns-in-Some-clause-kept_in : goal.returns-in-Some-clause-kept_in
 returns-in-Some-clause-kept_in c =
-    let n = length c.take.new.arena.nodes in
-    (subst (AreIdsIn n) (sym (ap (λ (x : Accepted). x.hyps) c.kept_of.ensures)) c.in_ok-nodes.ensures.hyps_in,
-    subst (AreVariablesIn n) (sym (ap (λ (x : Accepted). x.variables) c.kept_of.ensures)) c.in_ok-nodes.ensures.variables_in)
+    let n = length c.take.new.arena.nodes in (
+      subst (AreIdsIn n) (sym (ap (λ (x : Accepted). x.hyps) c.kept_of.ensures)) c.in_ok-nodes.ensures.hyps_in,
+      subst (AreVariablesIn n) (sym (ap (λ (x : Accepted). x.variables) c.kept_of.ensures)) c.in_ok-nodes.ensures.variables_in,
+    )

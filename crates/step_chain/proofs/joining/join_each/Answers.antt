@@ -1,4 +1,4 @@
-use Rattle.std.proofs.Common.{◌+◌, length, take, get_or, ap, sym, subst, ◌∙◌, List, Bool, true, false, ◌≡◌, ◌++◌}
+use Rattle.std.proofs.Common.{get_or, ap, sym, ◌∙◌, List, true, false, ◌≡◌, ◌++◌}
 use Rattle.std.proofs.lemmas.List.{append_assoc}
 use Rattle.term_model.specs.declared.shape.Id.{Id}
 use Rattle.term_model.specs.Links.{Link}

@@ -1,7 +1,7 @@
-use Rattle.std.proofs.Common.{◌+◌, ◌∙◌, sym, ap, ◌++◌, get_or, take}
+use Rattle.std.proofs.Common.{◌∙◌, sym, ap, ◌++◌, get_or, take}
 use Rattle.std.proofs.lemmas.List.{take_all}
 use Rattle.term_model.specs.declared.shape.Id.{Id}
-use Rattle.step_chain.specs.Ordered.{one_pair, place_at, id_pairs}
+use Rattle.step_chain.specs.Ordered.{one_pair, id_pairs}
 use Rattle.step_chain.proofs.OrderLaws.{pairs_more, pairs_past}
 use Rattle.step_chain.proofs.orders.pairs_at.Goals as goal
 

@@ -1,5 +1,5 @@
 use Rattle.std.proofs.Common.{get_or}
-use Rattle.step_chain.proofs.ReaderLaws.{AreShort, items_more, short_more, fault_here, all_told, no_node, own_item}
+use Rattle.step_chain.proofs.ReaderLaws.{fault_here, no_node, own_item}
 use Rattle.step_chain.proofs.reader.values.Goals as goal
 
 pub returns-in-Err : goal.returns-in-Err

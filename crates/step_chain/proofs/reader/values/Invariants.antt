@@ -1,5 +1,4 @@
-use Rattle.std.proofs.Common.{◌≡◌, length, take}
-use Rattle.step_chain.specs.Grown.{AreVariablesIn}
+use Rattle.std.proofs.Common.{◌≡◌, take}
 use Rattle.step_chain.specs.Answers.{values_at}
 use Rattle.step_chain.proofs.ReaderLaws.{AreShort}
 use Rattle.step_chain.proofs.reader.values.Given as goal

@@ -1,6 +1,6 @@
 use Rattle.std.proofs.Common.{ap, length, ◌∙◌}
 use Rattle.step_chain.proofs.ChainLaws.{pushed_count, pushed_judged}
-use Rattle.step_chain.proofs.ValueLaws.{chain_valuation, chain_few}
+use Rattle.step_chain.proofs.ValueLaws.{chain_valuation}
 use Rattle.step_chain.proofs.chain.Chain.pushed.Goals as goal
 
 pub returns-clause-count : goal.returns-clause-count
@@ -11,6 +11,3 @@ returns-clause-judged c = pushed_judged _ c.args.self.now c.self.view_is c.self.
 
 pub returns-clause-valuation : goal.returns-clause-valuation
 returns-clause-valuation c = chain_valuation _ c.args.self.now c.self.view_is c.self.invariant
-
-pub returns-clause-few : goal.returns-clause-few
-returns-clause-few c = chain_few _ c.args.self.now c.self.view_is c.self.invariant
