@@ -1,6 +1,5 @@
 -- Pairs that are put in one after the other are those that are written.
-use Rattle.std.specs.Prelude.{◌≡◌, ℕ, Bool, true, false, List, [], ◌∷◌, ◌++◌, map, filter, flat_map, fold, not, nat_lt, option_map, option_and_then, Option, Some, None, if◌then◌else◌, Result, Ok, Err, OnOk, refl}
-use Rattle.std.specs.List.{AllByRecursion}
+use Rattle.std.specs.Prelude.{◌≡◌, ℕ, Bool, true, false, List, [], ◌∷◌, map, filter, flat_map, fold, not, nat_lt, option_map, option_and_then, Option, Some, None, if◌then◌else◌, Result, Ok, Err, OnOk, refl}
 use Rattle.std.proofs.Common.{sym, ap, subst, ◌∙◌, arith, inl, inr}
 use Rattle.std.proofs.lemmas.Bool.{cases_Bool}
 use Rattle.std.proofs.lemmas.Bool.Decides.{nat_tests}
@@ -14,7 +13,7 @@ use Rattle.mm_database.specs.Opened.{Opened}
 use Rattle.proof_model.specs.Machine.{is_shared}
 use Rattle.solve_model.specs.PairSets.{ordered, put_pair, same_pair, stands_before}
 use Rattle.written_model.specs.declared.options.DvMode.TheVariants as dv
-use Rattle.written_model.specs.Pairs.{crossings, needed, needed_by, pairs_of}
+use Rattle.written_model.specs.Pairs.{crossings, needed_by, pairs_of}
 use Rattle.written_model.specs.WrittenSteps.{Use, WrittenStep, steps_in}
 use Rattle.written_steps.specs.declared.draft.StepUse.{StepUse}
 use Rattle.written_steps.specs.declared.draft.DraftStep.{DraftStep}

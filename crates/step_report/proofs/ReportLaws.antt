@@ -1,8 +1,8 @@
 -- What is told of the steps of a draft is what is reported of the steps that are written.
-use Rattle.std.specs.Prelude.{◌≡◌, ℕ, zero, suc, ◌+◌, ◌<◌, Bool, true, false, List, [], ◌∷◌, ◌++◌, map, take, get_or, length, option_and_then, Option, Some, None, is_some, find, not, refl}
+use Rattle.std.specs.Prelude.{◌≡◌, ℕ, zero, suc, ◌+◌, ◌<◌, true, false, List, [], ◌∷◌, ◌++◌, map, take, get_or, length, Option, Some, None, is_some, find, not, refl}
 use Rattle.std.specs.List.{AllByRecursion}
 use Rattle.std.specs.Borrow.{Bor}
-use Rattle.std.proofs.Common.{sym, ap, subst, ◌∙◌, arith, add-one}
+use Rattle.std.proofs.Common.{sym, ap, ◌∙◌, arith, add-one}
 use Rattle.mm_base.specs.declared.symbols.Sym.{Sym}
 use Rattle.mm_base.specs.declared.symbols.Pair.{Pair}
 use Rattle.mm_database.specs.Opened.{Opened}
@@ -16,7 +16,7 @@ use Rattle.written_model.specs.Report.{step_clash, report_of}
 use Rattle.written_steps.specs.declared.draft.DraftStep.{DraftStep}
 use Rattle.written_steps.specs.declared.draft.DraftItem.{DraftItem}
 use Rattle.written_steps.specs.declared.draft.DraftItem.TheVariants as draft
-use Rattle.written_steps.specs.Drafts.{AreSound, IsSoundStep, drafts_in, items_in, refs, step_in, use_in}
+use Rattle.written_steps.specs.Drafts.{AreSound, IsSoundStep, drafts_in, items_in, refs, step_in}
 use Rattle.step_report.specs.declared.report.Flaw.{Flaw}
 use Rattle.step_report.specs.Flaws.{flaw_in, lack_in, line_in}
 

@@ -1,5 +1,5 @@
 -- Marks of the steps below `qed`, and whether a marked step is done.
-use Rattle.std.specs.Prelude.{◌≡◌, ◌<◌, ◌⊎◌, ℕ, Bool, true, false, not, ◌&&◌, ◌||◌, List, length, fold, slice_get, slice_set, slice_index_or, if◌then◌else◌, Option, Some, codes}
+use Rattle.std.specs.Prelude.{◌≡◌, ◌<◌, ◌⊎◌, ◌↔◌, ℕ, IsTrue, Bool, true, false, not, ◌&&◌, ◌||◌, List, length, fold, slice_get, slice_set, slice_index_or, if◌then◌else◌, Option, Some, codes}
 use Rattle.mm_base.specs.declared.symbols.Pair.{Pair}
 use Rattle.mm_model.specs.Names.{Name}
 use Rattle.sheet_text.specs.declared.sheet.Given.{Given}
@@ -19,14 +19,19 @@ mark_place marks (given.Step k) = slice_set marks k true
 abbrev pub mark_places : List Bool → List Given → List Bool
 mark_places marks places = fold mark_place marks places
 
+-- with its places where it is reached; else the marks stay
+abbrev pub mark_step : Bool → List Bool → ℕ → List Given → List Bool
+mark_step reached marks n places = if reached then mark_places (slice_set marks n true) places else marks
+
 -- a step that is marked or is `qed`
 abbrev pub IsReached : List Bool → ℕ → Name → Type 0
 IsReached marks n name = (slice_index_or marks n false ≡ true) ⊎ (name ≡ codes "qed")
 
 -- it is marked with its places; else the marks stay
 pub record IsStepMarked (old : List Bool) (n : ℕ) (name : Name) (places : List Given) (new : List Bool) : Type 0 where
-  pub reached : IsReached old n name → new ≡ mark_places (slice_set old n true) places
-  pub stays : (IsReached old n name → ⊥) → new ≡ old
+  pub reached : Bool
+  pub is_reached : IsTrue reached ↔ IsReached old n name
+  pub new_is : new ≡ mark_step reached old n places
 
 -- just the steps are marked that are `qed` or are listed on the way to it
 pub record AreMarked (es : List WrittenStep) (marks : List Bool) : Type 0 where

@@ -1,4 +1,4 @@
-ghost use Rattle.std.specs.Prelude.{◌≡◌, ◌||◌, ◌<◌, ◌↔◌, length, map, is_some, codes, IfOk, IsTrue, List as ListOf};
+ghost use Rattle.std.specs.Prelude.{◌≡◌, ◌||◌, ◌<◌, ◌↔◌, length, map, replicate, slice_set, true, false, is_some, codes, IfOk, IsTrue, List as ListOf};
 ghost use Rattle.std.specs.List.{AllByRecursion, list_all};
 ghost use Rattle.mm_base.specs.declared.symbols.Pair.{Pair as PairOf};
 ghost use Rattle.mm_database.specs.Opened.{Opened};
@@ -89,14 +89,22 @@ fn is_done(db: &Database, step: &DraftStep, line: &ReportLine, is_below: bool) -
     !step.hyp || is_ground(&step.tree)
 }
 
+/// Marks a number; one past the last has no mark.
+fn put_mark(marks: &mut [bool], number: usize)
+    ensures { marks.new ≡ slice_set marks.old number true }
+{
+    if number < marks.len() {
+        marks[number] = true;
+    }
+}
+
 /// Marks the step that a place names.
 fn mark_place(marks: &mut [bool], place: Given)
     ensures { marks.new ≡ marking.mark_place marks.old place }
 {
-    if let Given::Step(k) = place {
-        if let Some(mark) = marks.get_mut(k as usize) {
-            *mark = true;
-        }
+    match place {
+        Given::Gap => {}
+        Given::Step(k) => put_mark(marks, k as usize),
     }
 }
 
@@ -131,16 +139,25 @@ fn mark_step(marks: &mut [bool], number: usize, step: &DraftStep)
     }
 }
 
-/// Whether each step is `qed`, or is listed on the way to it. Steps list earlier ones alone.
-fn below_qed(alloc: Global, steps: &[&DraftStep]) -> Result<Vec<bool>, Memory>
-    ensures { IfOk result (λ marks. (d : Opened) → PlacesAreEarlier (map (step_in d) (refs steps.now)) → marking.AreMarked (map (step_in d) (refs steps.now)) marks.items) }
+/// Marks the steps that are `qed` or are listed on the way to it, from the last step down. Steps list earlier ones alone.
+fn mark_all(marks: &mut [bool], steps: &[&DraftStep])
+    requires { marks.old ≡ replicate (length steps.now) false }
+    ensures { (d : Opened) → PlacesAreEarlier (map (step_in d) (refs steps.now)) → marking.AreMarked (map (step_in d) (refs steps.now)) marks.new }
 {
-    let mut marks = vec![in alloc; false; steps.len()]?;
     let mut left = steps.len();
     while left > 0 {
         left -= 1;
-        mark_step(&mut marks, left, steps[left]);
+        mark_step(marks, left, steps[left]);
     }
+}
+
+/// Whether each step is `qed`, or is listed on the way to it.
+fn below_qed(alloc: Global, steps: &[&DraftStep]) -> Result<Vec<bool>, Memory>
+    ensures count { IfOk result (λ marks. length marks.items ≡ length steps.now) }
+    ensures marked { IfOk result (λ marks. (d : Opened) → PlacesAreEarlier (map (step_in d) (refs steps.now)) → marking.AreMarked (map (step_in d) (refs steps.now)) marks.items) }
+{
+    let mut marks = vec![in alloc; false; steps.len()]?;
+    mark_all(marks.as_mut_slice(), steps);
     Ok(marks)
 }
 

@@ -40,12 +40,7 @@ fn put_use(alloc: Global, db: &Database, set: &mut PairSet, by: &StepUse) -> Res
 }
 
 /// Puts in the pairs that an item needs.
-fn put_item(
-    alloc: Global,
-    db: &Database,
-    set: &mut PairSet,
-    item: &DraftItem,
-) -> Result<(), Memory>
+fn put_item(alloc: Global, db: &Database, set: &mut PairSet, item: &DraftItem) -> Result<(), Memory>
     requires { IsSoundItem db.now item.now }
     ensures { OnOk result (ForEachText db.now (set.new ≡ put_draft db.now set.old item.now)) }
 {

@@ -1,4 +1,4 @@
-use Rattle.std.proofs.Common.{◌≡◌, ◌∙◌, sym, ap, subst, fold, take, arith}
+use Rattle.std.proofs.Common.{◌∙◌, sym, ap, fold, take}
 use Rattle.std.proofs.lemmas.List.{take_all}
 use Rattle.std.proofs.lemmas.List.Sums.{fold_more}
 use Rattle.step_report.specs.PutPairs.{put_draft}

@@ -1,4 +1,4 @@
-use Rattle.std.proofs.Common.{◌∙◌, sym}
+use Rattle.std.proofs.Common.{sym}
 use Rattle.written_steps.specs.Drafts.{use_in}
 use Rattle.step_report.proofs.ReportLaws.{flaw_clash, flaw_lack}
 use Rattle.step_report.proofs.report.flaw_of_use.Goals as goal

@@ -1,6 +1,3 @@
-use Rattle.std.proofs.Common.{◌≡◌, ◌∙◌, sym, ap, find, not}
-use Rattle.solve_model.specs.PairSets.{is_pair_in}
-use Rattle.step_report.specs.Flaws.{lack_in}
 use Rattle.step_report.proofs.ReportLaws.{given_lack}
 use Rattle.step_report.proofs.PairLaws.{sound_use, use_is}
 use Rattle.step_report.proofs.report.lack_of.Goals as goal

@@ -1,8 +1,7 @@
-use Rattle.std.proofs.Common.{◌∙◌, sym, ap, subst, map}
+use Rattle.std.proofs.Common.{◌∙◌, sym, ap, subst}
 use Rattle.std.specs.List.{AllByRecursion}
 use Rattle.std.proofs.lemmas.Result.{IfOk-weaker}
 use Rattle.written_steps.specs.Drafts.{IsSoundStep, refs}
-use Rattle.step_report.specs.Flaws.{line_in}
 use Rattle.step_report.proofs.ReportLaws.{sound_drafts, report_is}
 use Rattle.step_report.proofs.report.report_of.Goals as goal
 
