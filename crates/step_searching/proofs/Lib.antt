@@ -1,2 +1,3 @@
 pub mod ApplyLaws
 pub mod WantedLaws
+pub mod FindLaws
