@@ -24,11 +24,11 @@ use Rattle.sheet_text.specs.declared.sheet.Given.{Given}
 use Rattle.written_model.specs.declared.options.DvMode.{DvMode}
 use Rattle.written_model.specs.declared.report.ReportVerdict.TheVariants as report
 use Rattle.written_model.specs.Found.{is_to_be_searched, FitsUse, IsSearched}
-use Rattle.written_model.specs.WrittenSteps.{Use, WrittenStep}
+use Rattle.written_model.specs.WrittenSteps.{Use, WrittenStep, steps_in}
 use Rattle.written_steps.specs.declared.draft.DraftStep.{DraftStep}
 use Rattle.written_steps.specs.declared.draft.DraftItem.{DraftItem}
 use Rattle.written_steps.specs.declared.draft.DraftItem.TheVariants as draft
-use Rattle.written_steps.specs.Drafts.{AreSound, IsSoundUse, items_in, step_in, usable_in, use_in}
+use Rattle.written_steps.specs.Drafts.{AreSound, IsSoundUse, drafts_in, items_in, step_in, usable_in, use_in}
 use Rattle.ref_search.specs.declared.wanted.Found.{Found}
 use Rattle.ref_search.specs.Completing.{use_of}
 use Rattle.ref_search.specs.Searching.{book, HasFound}
@@ -146,3 +146,50 @@ zip_next R (x ∷ xs) (suc k) d (z ∷ ys) y l h r = (h.0, zip_next R xs k d ys 
 
 pub zip_more : {X Y : Type 0} (R : X → Y → Type 0) (xs : List X) (k : ℕ) (d : X) (ys : List Y) (y : Y) → k < length xs → AllZip R (take k xs) ys → R (get_or xs k d) y → AllZip R (take (k + 1) xs) (ys ++ y ∷ [])
 zip_more R xs k d ys y l h r = rw add-one (zip_next R xs k d ys y l h r)
+
+-- so far
+pub record FoundTo (d : Opened) (place : ℕ) (mode : DvMode) (allowed : List Pair) (es : List WrittenStep) (items : List DraftItem) (found : List (Option Found)) : Type 0 where
+  pub sound : AllByRecursion (HasFound (IsSoundFound d)) found
+  pub finds : (kinds : Kinds) (text : List ℕ) → IsOpened kinds text d → AllZip (FindsItem (book kinds text d) place mode allowed d es) items found
+
+pub found_more : (d : Opened) (place : ℕ) (mode : DvMode) (allowed : List Pair) (es : List WrittenStep) (items : List DraftItem) (k : ℕ) (i : DraftItem) (found new : List (Option Found)) (o : Option Found)
+    → k < length items → i ≡ get_or items k i → FoundTo d place mode allowed es (take k items) found → HasFound (IsSoundFound d) o
+    → ((kinds : Kinds) (text : List ℕ) → IsOpened kinds text d → FindsItem (book kinds text d) place mode allowed d es i o) → new ≡ found ++ o ∷ [] → FoundTo d place mode allowed es (take (k + 1) items) new
+found_more d place mode allowed es items k i found new o l g h s f n = subst (FoundTo d place mode allowed es (take (k + 1) items)) (sym n) (record {
+  sound = all_more (HasFound (IsSoundFound d)) found o h.sound s;
+  finds = λ kinds text opened.
+      zip_more (FindsItem (book kinds text d) place mode allowed d es) items k i found o l (h.finds kinds text opened)
+      (subst (λ x. FindsItem (book kinds text d) place mode allowed d es x o) g (f kinds text opened));
+})
+
+pub item_found : (kinds : Kinds) (text : List ℕ) (d : Opened) (place : ℕ) (mode : DvMode) (allowed : List Pair) (es : List WrittenStep) (item : DraftItem) (s : DraftStep) (o : Option Found) → item ≡ draft.Step s
+    → IsSearchOf (book kinds text d) place mode allowed es (step_in d s) o → FindsItem (book kinds text d) place mode allowed d es item o
+item_found kinds text d place mode allowed es item s o e h = subst (λ i. FindsItem (book kinds text d) place mode allowed d es i o) (sym e) h
+
+-- ---- all items
+
+steps_are : (d : Opened) (items : List DraftItem) → steps_in (items_in d items) ≡ map (step_in d) (drafts_in items)
+steps_are d [] = refl
+steps_are d (draft.Comment lines ∷ items) = steps_are d items
+steps_are d (draft.Step s ∷ items) = ap (λ es. step_in d s ∷ es) (steps_are d items)
+
+-- the lists that the calls give are the items, and what is kept is the database's
+pub record IsPutTo (d : Opened) (items new : List DraftItem) (found : List (Option Found)) : Type 0 where
+  pub new_is : new ≡ map (pair_with d.contents) (zip items found)
+
+pub put_to : (d : Opened) (c : Contents) (items vec new : List DraftItem) (found : List (Option Found)) → c ≡ d.contents → vec ≡ items → new ≡ map (pair_with c) (zip vec found) → IsPutTo d items new found
+put_to d c items vec new found e f n = record { new_is = n ∙ ap (λ x. map (pair_with x) (zip vec found)) e ∙ ap (λ is. map (pair_with d.contents) (zip is found)) f }
+
+pub new_sound : (d : Opened) (items new : List DraftItem) (found : List (Option Found)) → IsPutTo d items new found → AreSound d items → AllByRecursion (HasFound (IsSoundFound d)) found → AreSound d new
+new_sound d items new found p h k = subst (AreSound d) (sym p.new_is) (stay_sound d items found h k)
+
+pub new_searched : (kinds : Kinds) (text : List ℕ) (d : Opened) → IsOpened kinds text d → (place : ℕ) (mode : DvMode) (allowed : List Pair) (items slice new : List DraftItem) (found : List (Option Found)) → slice ≡ items
+    → IsPutTo d items new found → AllZip (FindsItem (book kinds text d) place mode allowed d (map (step_in d) (drafts_in slice))) slice found
+    → AllZip (ItemIsSearched (book kinds text d) place mode allowed (steps_in (items_in d items))) (items_in d items) (items_in d new)
+new_searched kinds text d opened place mode allowed items slice new found e p h =
+    let there : AllZip (FindsItem (book kinds text d) place mode allowed d (map (step_in d) (drafts_in items))) items found =
+    subst (λ xs. AllZip (FindsItem (book kinds text d) place mode allowed d (map (step_in d) (drafts_in xs))) xs found) e h in
+    let whole : AllZip (FindsItem (book kinds text d) place mode allowed d (steps_in (items_in d items))) items found =
+    subst (λ es. AllZip (FindsItem (book kinds text d) place mode allowed d es) items found) (sym (steps_are d items)) there in
+    subst (λ is. AllZip (ItemIsSearched (book kinds text d) place mode allowed (steps_in (items_in d items))) (items_in d items) (items_in d is)) (sym p.new_is)
+    (all_searched kinds text d opened place mode allowed (steps_in (items_in d items)) items found whole)
