@@ -1,0 +1,4 @@
+pub mod BookLaws
+pub mod DraftSteps
+pub mod FirstLaws
+pub mod SizeLaws

@@ -1,0 +1,3 @@
+pub mod Ambiguous
+pub mod Sheets
+pub mod Sizes
