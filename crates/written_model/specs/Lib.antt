@@ -5,6 +5,7 @@ pub mod Existence
 pub mod FaultLines
 pub mod FaultLinesExamples
 pub mod Filled
+pub mod Fitting
 pub mod Found
 pub mod Headline
 pub mod Named
