@@ -1,7 +1,7 @@
 -- The nodes that a tree adds stand for it.
-use Rattle.std.specs.Prelude.{◌≡◌, ℕ, ◌<◌, ◌≤◌, ◌+◌, List, [], ◌∷◌, ◌++◌, length, map, Option, Some, None, Contains, refl}
+use Rattle.std.specs.Prelude.{◌≡◌, ℕ, ◌<◌, List, [], ◌∷◌, ◌++◌, length, map, Option, Some, refl}
 use Rattle.std.specs.List.{AllByRecursion}
-use Rattle.std.proofs.Common.{sym, ap, subst, ◌∙◌, arith}
+use Rattle.std.proofs.Common.{sym, ap, subst, ◌∙◌}
 use Rattle.std.proofs.lemmas.List.{append_assoc}
 use Rattle.mm_base.specs.declared.symbols.Sym.{Sym}
 use Rattle.mm_base.specs.declared.symbols.Label.{Label}
@@ -18,12 +18,12 @@ use Rattle.solve_model.specs.Trees.{Open, work, replace}
 use Rattle.solve_model.proofs.TreeLaws.{replace-Var, replace-Work, replace-Node}
 use Rattle.term_model.specs.declared.shape.Id.{Id}
 use Rattle.term_model.specs.Terms.{Term, Var, Free, Node, term_at, term_code}
-use Rattle.term_model.specs.Store.{tree_at, trees_at, Fits}
+use Rattle.term_model.specs.Store.{tree_at, trees_at}
 use Rattle.chain_laws.specs.declared.leaves.WorkNode.{WorkNode}
 use Rattle.chain_laws.specs.declared.leaves.VariableNode.{VariableNode}
-use Rattle.chain_laws.specs.Adding.{Rooted, Listed, Adder, run, id_of, first_then, put, there_or, work_at, variable_at, constants_in, with_production, layer_adder, added}
+use Rattle.chain_laws.specs.Adding.{Rooted, Listed, Adder, run, first_then, put, there_or, work_at, variable_at, constants_in, with_production, layer_adder, added}
 use Rattle.chain_laws.specs.Layout.{IsTypedTerm, Fit}
-use Rattle.chain_laws.proofs.Grown.{Grown, Addable, Made, new_node, standing_node, new_variable, term_front, fit_back, within_front}
+use Rattle.chain_laws.proofs.Grown.{Grown, Made, new_node, standing_node, new_variable, term_front, fit_back, within_front}
 
 module _ (rows : List Production) (works : List WorkNode) (vars : List VariableNode) where
   pub added-Var : (s : Sym) (c : Typecode) (nodes : List Term) → added rows works vars (tree.Var s c) nodes ≡ there_or (variable_at vars s c) (Var s c) nodes

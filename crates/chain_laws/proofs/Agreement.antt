@@ -7,7 +7,6 @@ use Rattle.mm_base.specs.declared.symbols.Sym.{Sym}
 use Rattle.mm_base.specs.declared.symbols.Typecode.{Typecode}
 use Rattle.mm_base.specs.declared.tree.Tree.{Tree}
 use Rattle.mm_base.specs.declared.tree.Tree.TheVariants.{Var, Work, Fresh, Node, outs-Var, outs-Work, outs-Fresh}
-use Rattle.mm_base.specs.declared.tree.Tree.TheOpen.{Tree-F}
 use Rattle.mm_base.specs.declared.tree.Tree.TheFolds.{every_here-Tree}
 use Rattle.mm_base.specs.Trees.{Each}
 use Rattle.mm_base.proofs.TreeInduction.{tree_ind}

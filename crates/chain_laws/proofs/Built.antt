@@ -6,35 +6,30 @@ use Rattle.std.proofs.lemmas.Bool.{cases_lt}
 use Rattle.std.proofs.lemmas.List.{append_assoc, get_or-map, length-map, length-append}
 use Rattle.std.proofs.lemmas.List.Elements.{Contains-append_left, Contains-append_right}
 use Rattle.std.proofs.lemmas.Option.{slice_get-get_or}
-use Rattle.mm_base.specs.declared.symbols.Sym.{Sym}
-use Rattle.mm_base.specs.declared.symbols.Label.{Label}
 use Rattle.mm_base.specs.declared.symbols.Typecode.{Typecode}
 use Rattle.mm_base.specs.declared.tree.Tree.{Tree}
 use Rattle.mm_base.specs.declared.tree.Tree.TheVariants as tree
 use Rattle.mm_base.specs.Trees.{Each, code_of}
 use Rattle.mm_base.proofs.TreeFacts.{node_held}
-use Rattle.mm_model.specs.declared.rows.Production.{Production}
-use Rattle.mm_model.specs.Productions.{TypedVariable}
-use Rattle.mm_model.specs.Book.{Database, Assertion, logic_code}
-use Rattle.mm_model.specs.Typed.{IsTyped, HasNoFresh}
+use Rattle.mm_model.specs.Book.{Database}
+use Rattle.mm_model.specs.Typed.{IsTyped}
 use Rattle.solve_model.specs.declared.bound.BoundStep.{BoundStep}
 use Rattle.solve_model.specs.declared.bound.Bound.{Bound}
 use Rattle.sheet_text.specs.declared.sheet.Given.{Given}
 use Rattle.sheet_text.specs.declared.sheet.Given.TheVariants as given
 use Rattle.solve_model.specs.Trees.{Open, work, fresh, leaf_tree, open_leaves, flatten, Occurs}
-use Rattle.solve_model.specs.Solutions.{Unknown, named, blank, copy, Valuation, IsUnknown, in_formula, is_blank, in_frame, Asked, Solves, PlacesFit, Solvable, unknown_code, formula_value, formula, instance, open_value, no_step}
+use Rattle.solve_model.specs.Solutions.{Unknown, named, blank, copy, Valuation, IsUnknown, in_formula, is_blank, in_frame, Asked, Solves, PlacesFit, Solvable, unknown_code, formula_value, instance, open_value, no_step}
 use Rattle.solve_model.specs.MostGeneral.{IsTheValuation}
 use Rattle.solve_model.proofs.TreeLaws.{open_leaves-Fresh, open_leaves-Work, open_leaves-Node}
 use Rattle.solve_laws.proofs.NoFresh.{no_fresh_leaf}
 use Rattle.term_model.specs.declared.shape.Id.{Id}
 use Rattle.term_model.specs.Terms.{Term, Free, Node, term_at, term_code, children_of}
-use Rattle.term_model.specs.Links.{Link}
-use Rattle.term_model.specs.Store.{tree_at, Solution, IsStore, IsSolved}
+use Rattle.term_model.specs.Store.{tree_at, Solution, IsStore}
 use Rattle.term_model.proofs.CycleLaws.{start_solution}
 use Rattle.term_model.proofs.ClosureLaws.{agrees_refl}
 use Rattle.chain_laws.specs.declared.leaves.WorkNode.{WorkNode}
 use Rattle.written_model.specs.Existence.{IsPlaceIn}
-use Rattle.chain_laws.specs.Layout.{Layout, HasNode, HasUnknown, IsLaidOut, IsWorkNode, work_node, valuation_of, IsOver, IsSoundAsked, IsExact, IsChained, Fit, IsFormulaNode, IsInstanceNode, AreFormulaNodes, AreCandidateNodes, place_pairs, candidate_pairs, NodePair, AreJoined, HasRoom, IsReadyFormula, IsReadyBound, IsReadyAsked}
+use Rattle.chain_laws.specs.Layout.{Layout, HasNode, IsLaidOut, work_node, valuation_of, IsOver, IsSoundAsked, IsChained, Fit, IsFormulaNode, IsInstanceNode, AreFormulaNodes, AreCandidateNodes, place_pairs, candidate_pairs, NodePair, AreJoined, HasRoom, IsReadyFormula, IsReadyBound, IsReadyAsked}
 use Rattle.chain_laws.proofs.LeastLeaves.{first, later, nothing}
 use Rattle.chain_laws.proofs.Listed.{unknowns, all_unknowns, only_unknowns, once_each, OnceEach, place_in, place_is, place_back, parted}
 use Rattle.chain_laws.proofs.Grown.{Grown, Made, add_tree, standing_node, new_variable, term_front, fit_back, within_front}

@@ -1,7 +1,7 @@
 -- A candidate fits in an order exactly where the nodes of that order can be joined.
-use Rattle.std.specs.Prelude.{◌≡◌, ℕ, ◌<◌, List, [], ◌∷◌, ◌++◌, length, Contains, refl}
+use Rattle.std.specs.Prelude.{◌≡◌, ℕ, ◌<◌, List, [], ◌∷◌, ◌++◌, length, Contains}
 use Rattle.std.specs.List.{AllByRecursion, AllZip}
-use Rattle.std.proofs.Common.{zero, suc, sym, ap, subst, ◌∙◌, arith, inl, inr}
+use Rattle.std.proofs.Common.{zero, suc, sym, subst, ◌∙◌, arith, inl, inr}
 use Rattle.std.proofs.lemmas.List.Elements.{Contains-append_left, Contains-append_right, Contains-append_cases}
 use Rattle.mm_base.specs.declared.tree.Tree.{Tree}
 use Rattle.mm_model.specs.Productions.{TypedVariable}
@@ -9,14 +9,14 @@ use Rattle.mm_model.specs.Book.{Database, Assertion}
 use Rattle.sheet_text.specs.declared.sheet.Given.{Given}
 use Rattle.sheet_text.specs.declared.sheet.Given.TheVariants as given
 use Rattle.solve_model.specs.declared.bound.Bound.{Bound}
-use Rattle.solve_model.specs.Solutions.{Unknown, copy, Valuation, IsValuation, IsUnknown, in_formula, is_blank, in_frame, Asked, Solves, PlacesFit, Solvable, formula, instance}
+use Rattle.solve_model.specs.Solutions.{Unknown, copy, Valuation, IsValuation, IsUnknown, in_formula, is_blank, in_frame, Asked, Solves, PlacesFit, formula}
 use Rattle.solve_model.specs.Verdicts.{asked, FitsIn}
 use Rattle.term_model.specs.Terms.{Term}
 use Rattle.term_model.specs.Links.{Link}
 use Rattle.term_model.specs.Store.{tree_at, Solution, IsStore, IsSolved}
 use Rattle.written_model.specs.Existence.{IsPlaceIn}
-use Rattle.chain_laws.specs.Layout.{Layout, IsLaidOut, HasNode, HasUnknown, IsWorkNode, valuation_of, IsSoundAsked, IsExact, IsChained, Fit, IsFormulaNode, IsInstanceNode, AreFormulaNodes, AreCandidateNodes, place_pairs, candidate_pairs, HasRoom, NodePair, AreJoined, Joins, CannotJoin}
-use Rattle.chain_laws.proofs.LeastLeaves.{first, later, nothing}
+use Rattle.chain_laws.specs.Layout.{Layout, IsLaidOut, valuation_of, IsSoundAsked, IsChained, Fit, IsInstanceNode, AreFormulaNodes, AreCandidateNodes, place_pairs, candidate_pairs, HasRoom, NodePair, AreJoined, Joins, CannotJoin}
+use Rattle.chain_laws.proofs.LeastLeaves.{first}
 use Rattle.chain_laws.proofs.Agreement.{solve_same}
 use Rattle.chain_laws.proofs.Chained.{solution_of}
 

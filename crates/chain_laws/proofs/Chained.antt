@@ -1,5 +1,5 @@
 -- The valuation of a chained store: it is most general, and named by the least work variables.
-use Rattle.std.specs.Prelude.{◌≡◌, ℕ, ◌<◌, ◌≤◌, ◌+◌, List, [], ◌∷◌, length, Option, Some, None, slice_get, Contains, refl}
+use Rattle.std.specs.Prelude.{◌≡◌, ℕ, ◌<◌, ◌≤◌, List, [], ◌∷◌, length, Option, Some, None, Contains, refl}
 use Rattle.std.specs.List.{AllByRecursion}
 use Rattle.std.proofs.Common.{zero, suc, sym, ap, subst, ◌∙◌, arith, inl, inr}
 use Rattle.std.proofs.lemmas.Bool.{cases_lt}
@@ -18,10 +18,9 @@ use Rattle.mm_model.proofs.TypedLaws.{code-Work, typed-Work}
 use Rattle.solve_model.specs.declared.bound.Bound.{Bound}
 use Rattle.solve_model.specs.Trees.{Open, work, fresh, leaf_tree, open_leaves, Occurs}
 use Rattle.solve_model.specs.Solutions.{Unknown, named, Valuation, IsValuation, IsUnknown, Asked, Solves, Solvable, unknown_code}
-use Rattle.solve_model.specs.MostGeneral.{Refinement, refine, IsInstance, IsMostGeneral, IsLeastNamed, IsNamedLeaf, IsTheValuation}
+use Rattle.solve_model.specs.MostGeneral.{Refinement, refine, IsInstance, IsLeastNamed, IsNamedLeaf, IsTheValuation}
 use Rattle.solve_model.proofs.TreeLaws.{replace-Work, replace-Fresh, open_leaves-Var, open_leaves-Work, open_leaves-Fresh}
 use Rattle.solve_laws.proofs.ReplacedTypes.{code-Fresh, typed-Fresh}
-use Rattle.term_model.specs.declared.shape.Id.{Id}
 use Rattle.term_model.specs.Terms.{Term, Var, Free, Node, term_at, term_code}
 use Rattle.term_model.specs.Links.{Link, target_of, end_of}
 use Rattle.term_model.specs.Ranks.{AreRanked}
@@ -33,7 +32,7 @@ use Rattle.term_model.proofs.SolutionLaws.{respects_end}
 use Rattle.term_model.proofs.RankLaws.{numbered}
 use Rattle.chain_laws.specs.declared.leaves.WorkNode.{WorkNode}
 use Rattle.chain_laws.specs.Leaves.{least_at, named_leaf, leaf_at}
-use Rattle.chain_laws.specs.Layout.{Layout, HasNode, HasUnknown, IsLaidOut, IsWorkNode, work_node, valuation_of, IsSoundAsked, IsExact, IsChained}
+use Rattle.chain_laws.specs.Layout.{Layout, HasNode, work_node, valuation_of, IsChained}
 use Rattle.chain_laws.proofs.LeastLeaves.{IsAnswerAt, IsLeastAt, NoneAt, least_at_answers}
 use Rattle.chain_laws.specs.Reading.{read, made, value_of_store}
 use Rattle.chain_laws.proofs.Reading.{AreMade, trees_made}

@@ -1,7 +1,7 @@
 -- Where a solution gives one tree to the nodes of each of some pairs, there are closed bindings under which all solutions do.
-use Rattle.std.specs.Prelude.{◌≡◌, ◌≢◌, ℕ, ◌<◌, ◌≤◌, ◌+◌, List, [], ◌∷◌, ◌++◌, length, take, map, Option, Some, None, refl}
+use Rattle.std.specs.Prelude.{◌≡◌, ◌≢◌, ℕ, ◌<◌, ◌≤◌, ◌+◌, List, [], ◌∷◌, ◌++◌, length, Option, Some, None, refl}
 use Rattle.std.specs.List.{AllByRecursion}
-use Rattle.std.proofs.Common.{zero, suc, sym, ap, subst, ◌∙◌, arith, inl, inr, get_or}
+use Rattle.std.proofs.Common.{zero, suc, sym, ap, subst, ◌∙◌, arith, inl, inr}
 use Rattle.std.proofs.lemmas.Bool.{cases_eq, cases_lt}
 use Rattle.std.proofs.lemmas.List.{append_assoc, get_or_append_left, length_push, get_or_push}
 use Rattle.mm_base.specs.declared.symbols.Sym.{Sym}
@@ -10,13 +10,12 @@ use Rattle.mm_base.specs.declared.symbols.Typecode.{Typecode}
 use Rattle.mm_base.specs.declared.tree.Tree.{Tree}
 use Rattle.term_model.specs.declared.shape.Id.{Id}
 use Rattle.term_model.specs.Terms.{Term, Var, Free, Node, term_at, term_code, children_of}
-use Rattle.term_model.specs.Links.{Link, link_at, target_of, end_of, InOrder}
-use Rattle.term_model.specs.Store.{tree_at, trees_at, Fits, Respects, Solution, IsClosed, IsClosedUpTo, IsStore, Agrees, IsSameNode, ends_of, HaveSameCodes}
-use Rattle.term_model.proofs.LinkLaws.{hop, hop_at, hop_past, end_of_push, end_of_unbound, end_below, end_unbound, in_order_push, target_of_push_other, target_of_push_same, end_of_append}
+use Rattle.term_model.specs.Links.{Link, link_at, target_of, end_of}
+use Rattle.term_model.specs.Store.{tree_at, trees_at, Fits, Respects, Solution, IsClosed, IsClosedUpTo, IsStore, Agrees, ends_of, HaveSameCodes}
+use Rattle.term_model.proofs.LinkLaws.{hop, hop_at, hop_past, end_of_push, end_below, end_unbound, in_order_push, target_of_push_other, target_of_push_same, end_of_append}
 use Rattle.term_model.proofs.ClosureLaws.{agrees_refl, closed_step, closed_all}
 use Rattle.term_model.proofs.SolutionLaws.{respects_end, respects_push, fits_code, fits_Node, fits_Var, fits_Var_Node}
-use Rattle.chain_laws.specs.Layout.{Fit, NodePair, AreJoined}
-use Rattle.chain_laws.proofs.Candidates.{fit_of}
+use Rattle.chain_laws.specs.Layout.{NodePair, AreJoined}
 
 -- ---- how many nodes are not bound
 

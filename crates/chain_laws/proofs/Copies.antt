@@ -1,8 +1,8 @@
 -- A store that grows by free nodes for a candidate's copies of variables.
-use Rattle.std.specs.Prelude.{◌≡◌, ℕ, ◌<◌, ◌≤◌, ◌+◌, ◌-◌, ◌==◌, ◌&&◌, ◌⊎◌, Bool, true, false, List, [], ◌∷◌, ◌++◌, length, map, find, Option, Some, None, option_map, nat_lt, if◌then◌else◌, Contains, refl}
+use Rattle.std.specs.Prelude.{◌≡◌, ℕ, ◌<◌, ◌≤◌, ◌+◌, ◌-◌, ◌==◌, ◌&&◌, ◌⊎◌, Bool, true, false, List, [], ◌∷◌, ◌++◌, length, map, find, Option, Some, None, option_map, nat_lt, Contains, refl}
 use Rattle.std.specs.List.{AllByRecursion}
 use Rattle.std.proofs.Common.{zero, suc, get_or, sym, ap, subst, ◌∙◌, arith, inl, inr, cond}
-use Rattle.std.proofs.lemmas.Bool.{cases_lt, cases_eq}
+use Rattle.std.proofs.lemmas.Bool.{cases_lt}
 use Rattle.std.proofs.lemmas.Bool.Decides.{nat_tests}
 use Rattle.std.proofs.lemmas.List.{length-append, length-map, get_or-map}
 use Rattle.std.proofs.lemmas.List.Elements.{Contains-append_left, Contains-append_right, Contains-append_cases}
@@ -13,16 +13,15 @@ use Rattle.mm_model.specs.Productions.{TypedVariable}
 use Rattle.mm_model.specs.Book.{Database, Assertion}
 use Rattle.sheet_text.specs.declared.sheet.Given.{Given}
 use Rattle.solve_model.specs.declared.bound.Bound.{Bound}
-use Rattle.solve_model.specs.Solutions.{Unknown, named, blank, copy, IsUnknown, in_formula, is_blank, in_frame, Asked, unknown_code}
+use Rattle.solve_model.specs.Solutions.{Unknown, named, blank, copy, IsUnknown, in_formula, is_blank, in_frame, Asked}
 use Rattle.solve_model.specs.Verdicts.{asked}
 use Rattle.term_model.specs.declared.shape.Id.{Id}
-use Rattle.term_model.specs.Terms.{Term, Free, Node, term_at, children_of}
-use Rattle.term_model.specs.Links.{Link}
-use Rattle.term_model.specs.Store.{IsStore, IsSolved}
+use Rattle.term_model.specs.Terms.{Term, Node, term_at, children_of}
+use Rattle.term_model.specs.Store.{IsStore}
 use Rattle.chain_laws.specs.declared.leaves.VariableNode.{VariableNode}
 use Rattle.chain_laws.specs.Adding.{is_variable, variable_at, numbered, free_of, AreApart}
-use Rattle.chain_laws.specs.Layout.{Layout, HasNode, HasUnknown, IsLaidOut, IsTypedTerm, IsWorkNode, work_node}
-use Rattle.chain_laws.proofs.LeastLeaves.{first, later, nothing}
+use Rattle.chain_laws.specs.Layout.{Layout, HasNode, HasUnknown, IsLaidOut, IsTypedTerm}
+use Rattle.chain_laws.proofs.LeastLeaves.{first, nothing}
 use Rattle.chain_laws.proofs.Listed.{parted}
 use Rattle.chain_laws.proofs.Grown.{term_front, codes_front}
 

@@ -1,7 +1,7 @@
 -- What holds of the trees by node of a solved store.
-use Rattle.std.specs.Prelude.{◌≡◌, ℕ, ◌<◌, ◌≤◌, ◌+◌, List, [], ◌∷◌, ◌++◌, length, map, Option, Some, None, slice_get, Contains, refl}
-use Rattle.std.specs.List.{AllByRecursion, range_with_len, flat_map}
-use Rattle.std.proofs.Common.{zero, suc, get_or, sym, ap, subst, ◌∙◌, arith, inl, inr}
+use Rattle.std.specs.Prelude.{◌≡◌, ℕ, ◌<◌, ◌≤◌, ◌+◌, List, [], ◌∷◌, length, map, Some, None, slice_get, Contains, refl}
+use Rattle.std.specs.List.{AllByRecursion, range_with_len}
+use Rattle.std.proofs.Common.{suc, sym, ap, subst, ◌∙◌, arith, inl, inr}
 use Rattle.std.proofs.lemmas.List.{get_or-map}
 use Rattle.std.proofs.lemmas.List.Elements.{Contains-append_cases}
 use Rattle.std.proofs.lemmas.List.FromFn.{length-range_with_len, get_or-range_with_len, length-map-range_with_len}
@@ -10,19 +10,18 @@ use Rattle.mm_base.specs.declared.symbols.Label.{Label}
 use Rattle.mm_base.specs.declared.symbols.Typecode.{Typecode}
 use Rattle.mm_base.specs.declared.tree.Tree.{Tree}
 use Rattle.mm_base.specs.declared.tree.Tree.TheVariants as tree
-use Rattle.mm_base.specs.declared.tree.Tree.TheOpen.{Tree-F}
 use Rattle.mm_base.specs.Trees.{Each, code_of}
 use Rattle.mm_model.specs.declared.rows.Production.{Production}
-use Rattle.mm_model.specs.Typed.{IsTyped, LayerIsTyped}
+use Rattle.mm_model.specs.Typed.{IsTyped}
 use Rattle.mm_model.proofs.TypedLaws.{typed-Var, typed-Node}
-use Rattle.solve_model.specs.Trees.{Open, replace, open_leaves, flatten, Occurs}
+use Rattle.solve_model.specs.Trees.{Open, open_leaves, flatten, Occurs}
 use Rattle.solve_model.specs.MostGeneral.{Refinement, refine}
 use Rattle.solve_model.proofs.TreeLaws.{replace-Var, replace-Node, open_leaves-Var, open_leaves-Node}
 use Rattle.term_model.specs.declared.shape.Id.{Id}
 use Rattle.term_model.specs.Terms.{Term, Var, Free, Node, term_at, term_code, children_of}
 use Rattle.term_model.specs.Links.{Link, target_of, end_of}
 use Rattle.term_model.specs.Ranks.{AreRanked}
-use Rattle.term_model.specs.Store.{tree_at, trees_at, Fits, Respects, Solution, IsClosed, IsStore, Agrees, IsSameNode, ends_of}
+use Rattle.term_model.specs.Store.{tree_at, trees_at, Fits, Solution, IsClosed, IsStore, Agrees, IsSameNode, ends_of}
 use Rattle.term_model.proofs.TreeLaws.{code_of-Var, code_of-Node}
 use Rattle.term_model.proofs.LinkLaws.{end_unbound, end_of_unbound, target_ends, target_below, source_below, are_below}
 use Rattle.term_model.proofs.CycleLaws.{code_of_end, respects_targets}
@@ -30,7 +29,7 @@ use Rattle.term_model.proofs.SolutionLaws.{respects_end}
 use Rattle.chain_laws.specs.Layout.{IsTypedTerm}
 use Rattle.chain_laws.proofs.LeastLeaves.{nothing}
 use Rattle.chain_laws.specs.Reading.{made}
-use Rattle.chain_laws.proofs.Reading.{AreMade, by_rank, child_below, end_inside}
+use Rattle.chain_laws.proofs.Reading.{AreMade, by_rank, end_inside}
 
 -- a leaf has the typecode of its free node
 pub record HasCodes (nodes : List Term) (links : List Link) (leaf : ℕ → Typecode → Tree) : Type 0 where

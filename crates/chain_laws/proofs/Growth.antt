@@ -1,22 +1,21 @@
 -- A chained store that grows.
-use Rattle.std.specs.Prelude.{◌≡◌, ℕ, ◌<◌, ◌≤◌, ◌+◌, List, [], ◌∷◌, ◌++◌, length, map, take, Contains, refl}
+use Rattle.std.specs.Prelude.{◌≡◌, ℕ, ◌<◌, ◌≤◌, List, [], ◌∷◌, ◌++◌, length, take, refl}
 use Rattle.std.specs.List.{AllByRecursion}
-use Rattle.std.proofs.Common.{zero, suc, get_or, sym, ap, subst, ◌∙◌, arith, inl, inr}
+use Rattle.std.proofs.Common.{zero, suc, sym, ap, subst, ◌∙◌, arith, inl, inr}
 use Rattle.std.proofs.lemmas.Bool.{cases_lt}
 use Rattle.std.proofs.lemmas.List.{length-append}
 use Rattle.mm_base.specs.declared.symbols.Label.{Label}
 use Rattle.mm_base.specs.declared.symbols.Typecode.{Typecode}
 use Rattle.mm_base.specs.declared.tree.Tree.{Tree}
 use Rattle.mm_base.specs.declared.tree.Tree.TheVariants as tree
-use Rattle.mm_model.specs.declared.rows.Production.{Production}
 use Rattle.mm_model.specs.Book.{Database}
 use Rattle.solve_model.specs.declared.bound.Bound.{Bound}
-use Rattle.solve_model.specs.Solutions.{Unknown, Valuation, IsUnknown, Asked, Solves}
+use Rattle.solve_model.specs.Solutions.{Unknown, IsUnknown, Asked}
 use Rattle.term_model.specs.declared.shape.Id.{Id}
-use Rattle.term_model.specs.Terms.{Term, Var, Free, Node, term_at, children_of, no_code}
+use Rattle.term_model.specs.Terms.{Term, Var, Free, Node, term_at, children_of}
 use Rattle.term_model.specs.Links.{Link, InOrder}
 use Rattle.term_model.specs.Store.{tree_at, trees_at, Fits, Respects, Solution, IsStore}
-use Rattle.chain_laws.specs.Layout.{Layout, HasNode, HasUnknown, IsLaidOut, IsTypedTerm, valuation_of, IsSoundAsked, IsExact}
+use Rattle.chain_laws.specs.Layout.{Layout, HasNode, IsLaidOut, IsTypedTerm, valuation_of, IsSoundAsked, IsExact}
 use Rattle.chain_laws.proofs.Agreement.{solve_same}
 use Rattle.chain_laws.proofs.Grown.{term_front, codes_front}
 

@@ -1,7 +1,6 @@
 -- The least work variable whose bindings end at a node.
 use Rattle.std.specs.Prelude.{◌≡◌, ℕ, ◌==◌, nat_le, Bool, true, false, List, [], ◌∷◌, Option, Some, None, Contains, refl}
-use Rattle.std.proofs.Common.{◌≤◌, ◌<◌, zero, suc, ◌+◌, get_or, length, sym, ap, subst, ◌∙◌, arith, inl, inr, cond}
-use Rattle.std.proofs.lemmas.Bool.{cases_eq}
+use Rattle.std.proofs.Common.{◌≤◌, zero, suc, sym, ap, subst, arith, cond}
 use Rattle.std.proofs.lemmas.Bool.Decides.{nat_tests}
 use Rattle.term_model.specs.Links.{Link, end_of}
 use Rattle.chain_laws.specs.declared.leaves.WorkNode.{WorkNode}

@@ -1,5 +1,5 @@
 -- The unknowns of a worksheet and of some candidates, each once.
-use Rattle.std.specs.Prelude.{◌≡◌, ℕ, ◌<◌, ◌+◌, ◌⊎◌, List, [], ◌∷◌, ◌++◌, length, map, slice_get, Option, Some, None, Contains, refl}
+use Rattle.std.specs.Prelude.{◌≡◌, ℕ, ◌<◌, ◌+◌, ◌⊎◌, List, [], ◌∷◌, ◌++◌, length, slice_get, Option, Some, None, Contains, refl}
 use Rattle.std.proofs.Common.{zero, suc, get_or, sym, ap, subst, ◌∙◌, arith, inl, inr}
 use Rattle.std.proofs.lemmas.Bool.{cases_eq}
 use Rattle.std.proofs.lemmas.List.Elements.{Contains-append_left, Contains-append_right, Contains-append_cases}
@@ -9,7 +9,7 @@ use Rattle.mm_base.specs.declared.tree.Tree.{Tree}
 use Rattle.mm_model.specs.Productions.{TypedVariable}
 use Rattle.solve_model.specs.declared.bound.BoundStep.{BoundStep}
 use Rattle.solve_model.specs.declared.bound.Bound.{Bound}
-use Rattle.solve_model.specs.Trees.{Open, work, fresh, open_leaves, Occurs}
+use Rattle.solve_model.specs.Trees.{Open, work, fresh, open_leaves}
 use Rattle.solve_model.specs.Solutions.{Unknown, named, blank, copy, IsUnknown, in_formula, is_blank, in_frame, Asked}
 use Rattle.chain_laws.proofs.LeastLeaves.{first, later, nothing}
 

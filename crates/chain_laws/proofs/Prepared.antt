@@ -1,8 +1,8 @@
 -- A store to which a candidate's nodes were added, ready for its orders to be tried.
-use Rattle.std.specs.Prelude.{◌≡◌, ℕ, ◌<◌, ◌≤◌, ◌+◌, List, [], ◌∷◌, ◌++◌, length, map, Option, Some, Contains, refl}
+use Rattle.std.specs.Prelude.{◌≡◌, ℕ, ◌<◌, ◌≤◌, ◌+◌, List, [], ◌∷◌, ◌++◌, length, map}
 use Rattle.std.specs.List.{AllByRecursion, AllZip}
 use Rattle.std.proofs.Common.{sym, ap, subst, ◌∙◌, arith}
-use Rattle.std.proofs.lemmas.List.{append_assoc, length-append}
+use Rattle.std.proofs.lemmas.List.{append_assoc}
 use Rattle.std.proofs.lemmas.List.Elements.{Contains-append_left}
 use Rattle.mm_base.specs.declared.symbols.Sym.{Sym}
 use Rattle.mm_base.specs.declared.symbols.Label.{Label}
@@ -12,7 +12,6 @@ use Rattle.mm_base.specs.declared.tree.Tree.TheVariants as tree
 use Rattle.mm_base.specs.Trees.{Each, code_of}
 use Rattle.mm_base.proofs.TreeFacts.{node_held}
 use Rattle.mm_model.specs.Typed.{IsTyped}
-use Rattle.mm_model.specs.Productions.{TypedVariable}
 use Rattle.mm_model.specs.Book.{Database, Assertion}
 use Rattle.sheet_text.specs.declared.sheet.Given.{Given}
 use Rattle.solve_model.specs.declared.bound.Bound.{Bound}
@@ -25,11 +24,11 @@ use Rattle.term_model.specs.Links.{Link}
 use Rattle.term_model.specs.Store.{tree_at, trees_at, IsStore, IsSolved}
 use Rattle.chain_laws.specs.declared.leaves.VariableNode.{VariableNode}
 use Rattle.chain_laws.specs.Adding.{Rooted, Listed, run, numbered, free_of, variable_at, there_or, AreApart, added}
-use Rattle.chain_laws.specs.Layout.{Layout, IsLaidOut, valuation_of, IsOver, LayerIsOver, IsChained, IsExact, IsTypedTerm, Fit, IsFormulaNode, IsInstanceNode, AreFormulaNodes, AreCandidateNodes}
+use Rattle.chain_laws.specs.Layout.{Layout, IsLaidOut, valuation_of, IsOver, LayerIsOver, IsChained, IsExact, IsTypedTerm, Fit, IsInstanceNode, AreFormulaNodes, AreCandidateNodes}
 use Rattle.chain_laws.proofs.Agreement.{over_Var, over_Work, over_Fresh, formula_same}
-use Rattle.chain_laws.proofs.Grown.{Grown, append_none, term_front, fit_front, fit_back, within_front}
+use Rattle.chain_laws.proofs.Grown.{Grown, append_none, term_front, fit_back, within_front}
 use Rattle.chain_laws.proofs.Growth.{exact_grows, laid_out_grows}
-use Rattle.chain_laws.proofs.Copies.{with_copies, kept_node, each_own, copied_is, own_new, old_new, laid_out_copies, found, Found, variable_with}
+use Rattle.chain_laws.proofs.Copies.{with_copies, kept_node, copied_is, own_new, laid_out_copies, found, variable_with}
 use Rattle.chain_laws.proofs.Added.{IsMade, AreMade, found_node, added_made, all_made}
 
 each_of_all : (P : Tree → Type 0) (ts : List Tree) → AllByRecursion P ts → Each P ts

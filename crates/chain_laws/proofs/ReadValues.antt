@@ -1,12 +1,10 @@
 -- What is read off a store: its general solution, how many tokens the trees have, and the valuation of a chained store.
-use Rattle.std.specs.Prelude.{◌≡◌, ℕ, ◌<◌, ◌≤◌, ◌+◌, Bool, true, false, List, [], ◌∷◌, length, map, Option, Some, None, Contains, refl}
-use Rattle.std.specs.List.{AllByRecursion, range_with_len}
-use Rattle.std.proofs.Common.{zero, suc, get_or, sym, ap, subst, ◌∙◌, arith}
-use Rattle.mm_base.specs.declared.symbols.Sym.{Sym}
+use Rattle.std.specs.Prelude.{◌≡◌, ℕ, ◌<◌, true, List, [], ◌∷◌, length, Option, Some, None, Contains, refl}
+use Rattle.std.specs.List.{AllByRecursion}
+use Rattle.std.proofs.Common.{zero, suc, sym, ap, subst, ◌∙◌, arith}
 use Rattle.mm_base.specs.declared.symbols.Label.{Label}
 use Rattle.mm_base.specs.declared.symbols.Typecode.{Typecode}
 use Rattle.mm_base.specs.declared.tree.Tree.{Tree}
-use Rattle.mm_base.specs.declared.tree.Tree.TheVariants as tree
 use Rattle.mm_base.specs.Trees.{code_of}
 use Rattle.mm_base.proofs.TreeFolds.{fold-Work, fold-Fresh}
 use Rattle.mm_model.specs.Book.{Database}
@@ -15,22 +13,21 @@ use Rattle.solve_model.specs.declared.bound.Bound.{Bound}
 use Rattle.solve_model.specs.Solutions.{Unknown, named, Valuation, IsUnknown, Asked, formula, instance}
 use Rattle.solve_model.specs.MostGeneral.{IsTheValuation}
 use Rattle.solve_laws.proofs.ReplacedTypes.{code-Fresh}
-use Rattle.term_model.specs.declared.shape.Id.{Id}
 use Rattle.term_model.specs.Terms.{Term, Var, Free, Node, term_at, term_code, is_free}
-use Rattle.term_model.specs.Links.{Link, target_of, end_of}
+use Rattle.term_model.specs.Links.{Link, target_of}
 use Rattle.term_model.specs.Ranks.{AreRanked}
-use Rattle.term_model.specs.Store.{tree_at, Fits, Solution, IsStore, IsSolved}
-use Rattle.term_model.specs.Sizes.{saturated, size_at, layer_tokens, tokens, HaveConstants, IsGeneral, AreTreeSizes}
+use Rattle.term_model.specs.Store.{tree_at, Solution, IsStore, IsSolved}
+use Rattle.term_model.specs.Sizes.{saturated, size_at, layer_tokens, tokens, HaveConstants, AreTreeSizes}
 use Rattle.term_model.proofs.LinkLaws.{end_of_unbound}
 use Rattle.term_model.proofs.CycleLaws.{code_of_end}
 use Rattle.chain_laws.specs.declared.leaves.WorkNode.{WorkNode}
 use Rattle.chain_laws.specs.Leaves.{least_at, named_leaf, leaf_at}
-use Rattle.chain_laws.specs.Layout.{Layout, IsChained, Fit, valuation_of, IsFormulaNode, IsInstanceNode}
-use Rattle.chain_laws.specs.Reading.{made, read, value_at, store_trees, value_of_store, AreWorkNodes}
-use Rattle.chain_laws.proofs.LeastLeaves.{IsLeastAt, IsAnswerAt, least_at_answers, first, later, nothing}
+use Rattle.chain_laws.specs.Layout.{Layout, IsChained, IsFormulaNode, IsInstanceNode}
+use Rattle.chain_laws.specs.Reading.{made, value_at, store_trees, value_of_store, AreWorkNodes}
+use Rattle.chain_laws.proofs.LeastLeaves.{IsAnswerAt, least_at_answers, first, later, nothing}
 use Rattle.chain_laws.proofs.Reading.{AreMade, trees_made}
 use Rattle.chain_laws.proofs.General.{HasCodes, general_trees, general_solves, tree_is}
-use Rattle.chain_laws.proofs.Chained.{ranked_of, the_value, value_is_read, is_the_valuation}
+use Rattle.chain_laws.proofs.Chained.{ranked_of, value_is_read, is_the_valuation}
 
 one_of : (P : WorkNode → Type 0) (works : List WorkNode) (w : WorkNode) → AllByRecursion P works → Contains works w → P w
 one_of P [] w h c = absurd (nothing w c)

@@ -1,25 +1,16 @@
 -- The general solution of a solved store: each unbound free node has a leaf.
-use Rattle.std.specs.Prelude.{◌≡◌, ℕ, ◌<◌, ◌≤◌, ◌+◌, List, [], ◌∷◌, length, map, Option, Some, None, slice_get, Contains, refl}
-use Rattle.std.specs.List.{AllByRecursion, range_with_len}
-use Rattle.std.proofs.Common.{zero, suc, get_or, sym, ap, subst, ◌∙◌, arith, inl, inr}
-use Rattle.std.proofs.lemmas.List.{get_or-map}
-use Rattle.std.proofs.lemmas.List.FromFn.{length-range_with_len, get_or-range_with_len, length-map-range_with_len}
-use Rattle.std.proofs.lemmas.Option.{slice_get_within}
-use Rattle.mm_base.specs.declared.symbols.Sym.{Sym}
-use Rattle.mm_base.specs.declared.symbols.Label.{Label}
+use Rattle.std.specs.Prelude.{◌≡◌, ℕ, ◌<◌, List, [], ◌∷◌, length, map, Option, Some, None, slice_get, refl}
+use Rattle.std.specs.List.{AllByRecursion}
+use Rattle.std.proofs.Common.{zero, suc, ap, subst, arith}
 use Rattle.mm_base.specs.declared.symbols.Typecode.{Typecode}
 use Rattle.mm_base.specs.declared.tree.Tree.{Tree}
 use Rattle.mm_base.specs.declared.tree.Tree.TheVariants as tree
-use Rattle.mm_base.specs.Trees.{code_of}
 use Rattle.term_model.specs.declared.shape.Id.{Id}
-use Rattle.term_model.specs.Terms.{Term, Var, Free, Node, term_at, term_code, children_of, no_code}
-use Rattle.term_model.specs.Links.{Link, target_of, end_of}
+use Rattle.term_model.specs.Terms.{Term, Var, Free, Node, term_at, children_of}
+use Rattle.term_model.specs.Links.{Link, end_of}
 use Rattle.term_model.specs.Ranks.{AreRanked, end_rank}
-use Rattle.term_model.specs.Store.{tree_at, trees_at, Fits, Respects, Solution, IsClosed, IsSolved, IsStore, Agrees, IsSameNode, ends_of}
-use Rattle.term_model.proofs.TreeLaws.{code_of-Var, code_of-Node}
-use Rattle.term_model.proofs.LinkLaws.{end_below, end_unbound, end_of_unbound, target_ends}
-use Rattle.term_model.proofs.CycleLaws.{code_of_end, respects_targets}
-use Rattle.term_model.proofs.RankLaws.{numbered}
+use Rattle.term_model.specs.Store.{IsStore}
+use Rattle.term_model.proofs.LinkLaws.{end_below}
 use Rattle.chain_laws.specs.Reading.{made, read}
 
 -- the children are one by one the same

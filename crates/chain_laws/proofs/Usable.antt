@@ -1,16 +1,14 @@
 -- What is bound over an opened database, and its candidates, are ready to be solved.
-use Rattle.std.specs.Prelude.{◌≡◌, ℕ, ◌<◌, ◌≤◌, ◌==◌, Bool, true, false, List, [], ◌∷◌, ◌++◌, length, map, drop, find, slice_get, slice_index_or, Option, Some, None, option_map, Contains, refl}
+use Rattle.std.specs.Prelude.{◌≡◌, ℕ, ◌<◌, ◌≤◌, ◌==◌, Bool, true, false, List, [], ◌∷◌, length, map, drop, find, slice_index_or, Option, Some, None, option_map, Contains, refl}
 use Rattle.std.specs.List.{AllByRecursion, AllZip, filter_map, cons_option}
-use Rattle.std.proofs.Common.{zero, suc, get_or, sym, ap, subst, ◌∙◌, arith, inl, inr, cond}
-use Rattle.std.proofs.lemmas.Bool.{cases_eq}
+use Rattle.std.proofs.Common.{suc, sym, ap, subst, ◌∙◌, arith, inl, inr, cond}
 use Rattle.std.proofs.lemmas.Bool.Decides.{nat_tests}
 use Rattle.std.proofs.lemmas.List.Elements.{Contains-append_left, Contains-append_right}
-use Rattle.std.proofs.lemmas.List.{length-map, get_or-map}
+use Rattle.std.proofs.lemmas.List.{length-map}
 use Rattle.std.proofs.lemmas.Option.{slice_get_within, get_or_from_slice_get}
 use Rattle.mm_base.specs.declared.symbols.Sym.{Sym}
 use Rattle.mm_base.specs.declared.symbols.Label.{Label}
 use Rattle.mm_base.specs.declared.symbols.Typecode.{Typecode}
-use Rattle.mm_base.specs.declared.kinds.Kinds.{Kinds}
 use Rattle.mm_base.specs.declared.tree.Tree.{Tree}
 use Rattle.mm_base.specs.declared.tree.Tree.TheVariants as tree
 use Rattle.mm_base.specs.Trees.{Each, code_of}
@@ -23,16 +21,16 @@ use Rattle.mm_model.specs.declared.rows.Leaf.TheVariants as leaf
 use Rattle.mm_model.specs.declared.rows.Item.{Item}
 use Rattle.mm_model.specs.declared.rows.Item.TheVariants as item
 use Rattle.mm_model.specs.declared.rows.Production.{Production}
-use Rattle.mm_model.specs.Rows.{slot_order, place_of, EachOnce, IsRow, IsGrammar}
-use Rattle.mm_model.specs.Texts.{row_of, item_text, items_text, row_text, text}
-use Rattle.mm_model.specs.Typed.{IsTyped, HasNoFresh, Parses}
+use Rattle.mm_model.specs.Rows.{slot_order, place_of, IsGrammar}
+use Rattle.mm_model.specs.Texts.{row_of, items_text, row_text, text}
+use Rattle.mm_model.specs.Typed.{IsTyped, HasNoFresh}
 use Rattle.mm_model.specs.Productions.{TypedVariable, typed_variables, essentials}
-use Rattle.mm_model.specs.Book.{Database, Assertion, IsUsable, IsRead, float_of, position_of, expression_at}
+use Rattle.mm_model.specs.Book.{Database, IsUsable, IsRead, float_of, position_of}
 use Rattle.mm_model.specs.BookFacts.{IsDatabase}
-use Rattle.mm_model.proofs.RowLaws.{find_passes, IsFound, row_stands, is_row}
+use Rattle.mm_model.proofs.RowLaws.{find_passes, row_stands, is_row}
 use Rattle.mm_model.proofs.TextLaws.{text-Var, text-Work, text-Node}
 use Rattle.mm_model.proofs.TypedLaws.{typed-Var, typed-Work, typed-Node, typed_here, typed_held, named_held, fresh_is_not_named}
-use Rattle.model_laws.specs.FrameLaws.{own_leaf, own_expression, IsOwn, HasOwnExpressions}
+use Rattle.model_laws.specs.FrameLaws.{own_leaf, IsOwn, HasOwnExpressions}
 use Rattle.solve_laws.proofs.ReplacedTypes.{typed-Fresh}
 use Rattle.mm_model.specs.Names.{Name}
 use Rattle.sheet_text.specs.declared.sheet.Sheet.{Sheet}

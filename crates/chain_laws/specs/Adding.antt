@@ -1,5 +1,5 @@
 -- The nodes that the trees of a worksheet add to a store.
-use Rattle.std.specs.Prelude.{ℕ, ◌+◌, Contains, ◌==◌, ◌&&◌, Bool, true, false, List, [], ◌∷◌, ◌++◌, length, map, find, min, count_by, ◌-◌, ◌^◌, Option, Some, None, option_map}
+use Rattle.std.specs.Prelude.{ℕ, ◌+◌, Contains, ◌==◌, ◌&&◌, Bool, true, false, List, [], ◌∷◌, ◌++◌, length, find, min, count_by, ◌-◌, ◌^◌, Option, Some, None, option_map}
 use Rattle.std.specs.Option.{option_map_or}
 use Rattle.mm_base.specs.declared.symbols.Sym.{Sym}
 use Rattle.mm_base.specs.declared.symbols.Label.{Label}

@@ -10,9 +10,7 @@ use Rattle.solve_model.specs.Solutions.{Valuation, Asked, Solvable}
 use Rattle.solve_model.specs.MostGeneral.{IsTheValuation}
 use Rattle.written_model.specs.Opened.{IsOpened}
 use Rattle.written_model.specs.Existence.{IsCandidate, HasMostGeneral}
-use Rattle.term_model.specs.Terms.{Term}
-use Rattle.term_model.specs.Links.{Link}
-use Rattle.chain_laws.specs.Layout.{Layout, IsReadyBound, IsReadyAsked, IsChained}
+use Rattle.chain_laws.specs.Layout.{IsReadyBound, IsReadyAsked}
 
 -- where a valuation solves typed formulas and candidates, there is a most general one
 abbrev pub MostGeneralExists : Type 0

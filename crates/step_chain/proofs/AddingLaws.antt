@@ -2,7 +2,7 @@
 use Rattle.std.specs.Prelude.{◌≡◌, ℕ, ◌<◌, ◌≤◌, ◌+◌, List, [], ◌∷◌, ◌++◌, length, map, take, Option, Some, None, find, option_map, Bool, true, false, refl, Result, Ok, Err, IfOk, OnOk}
 use Rattle.std.specs.Option.{ForSome}
 use Rattle.std.proofs.Common.{sym, ap, subst, ◌∙◌, arith, cond, get_or}
-use Rattle.std.proofs.lemmas.List.{append_assoc, length-append, take_more, take_all, map_push}
+use Rattle.std.proofs.lemmas.List.{append_assoc, append-nil, length-append, take_more, take_all, map_push}
 use Rattle.mm_base.specs.declared.errors.Memory.{Memory}
 use Rattle.mm_base.specs.declared.symbols.Sym.{Sym}
 use Rattle.mm_base.specs.declared.symbols.Label.{Label}
@@ -63,12 +63,8 @@ pub ids_in_push : (n : ℕ) (ids : List Id) (id : Id) → AreIdsIn n ids → id.
 ids_in_push n [] id a h = (h, tt)
 ids_in_push n (x ∷ xs) id a h = (a.0, ids_in_push n xs id a.1 h)
 
-append_none : (ns : List Term) → ns ++ [] ≡ ns
-append_none [] = refl
-append_none (n ∷ ns) = ap (λ (rest : List Term). n ∷ rest) (append_none ns)
-
 pub grown_none : (s : Store) → IsGrown s s
-grown_none s = record { more = []; nodes = sym (append_none s.nodes); links = refl; solved = λ h. h }
+grown_none s = record { more = []; nodes = sym (append-nil s.nodes); links = refl; solved = λ h. h }
 
 pub grown_more : (a b c : Store) → IsGrown a b → IsGrown b c → IsGrown a c
 grown_more a b c h g = record {

@@ -3,7 +3,7 @@ use Rattle.std.specs.Prelude.{◌≡◌, ℕ, ◌<◌, ◌≤◌, ◌+◌, List,
 use Rattle.std.specs.List.{AllByRecursion}
 use Rattle.std.specs.Option.{option_map_or}
 use Rattle.std.proofs.Common.{zero, suc, get_or, sym, ap, subst, ◌∙◌, arith, inl, inr}
-use Rattle.std.proofs.lemmas.List.{append_assoc, length_push}
+use Rattle.std.proofs.lemmas.List.{append_assoc, append-nil, length_push}
 use Rattle.std.proofs.lemmas.Option.{slice_get-get_or}
 use Rattle.mm_base.specs.declared.errors.Memory.{Memory}
 use Rattle.mm_base.specs.declared.symbols.Typecode.{Typecode}
@@ -184,10 +184,6 @@ module _ (db : Database) (bound : Bound) (ready : IsReadyBound db bound)
     count : length r.roots ≡ length ss
     each : (i : ℕ) (s : BoundStep) → slice_get ss i ≡ Some s → IsFormulaAt r.nodes r.roots i (k + i) s
 
-  append_none : (ns : List Term) → ns ++ [] ≡ ns
-  append_none [] = refl
-  append_none (n ∷ ns) = ap (λ (rest : List Term). n ∷ rest) (append_none ns)
-
   each_then : (k : ℕ) (t : BoundStep) (ss : List BoundStep) (nodes more after : List Term) (root : ℕ) (roots : List Id) → after ≡ nodes ++ more → root < length nodes → ((vs : List Tree)
       → Fit nodes vs → tree_at vs root ≡ formula_value (valuation_of lay vs) k t.tree)
       → ((i : ℕ) (s : BoundStep) → slice_get ss i ≡ Some s → IsFormulaAt after roots i (k + 1 + i) s) → (i : ℕ) (s : BoundStep) → slice_get (t ∷ ss) i ≡ Some s
@@ -221,7 +217,7 @@ module _ (db : Database) (bound : Bound) (ready : IsReadyBound db bound)
   formulas_made k [] [] at h count blanks nodes g = record {
     more = [];
     extends = sym
-        (append_none nodes);
+        (append-nil nodes);
     grown = g;
     count = refl;
     each = λ i s e. let impossible : ◌≡◌ {A = Option BoundStep} None (Some s) = e in absurd (cc);

@@ -1,8 +1,8 @@
 -- Each production of the store has the number of constants of its label.
 use Rattle.std.specs.Prelude.{◌≡◌, ℕ, ◌<◌, List, [], ◌∷◌, ◌++◌, length, map, Option, Some, None, Result, Ok, Err, IfOk, refl}
-use Rattle.std.proofs.Common.{sym, ap, subst, arith, inl, inr}
+use Rattle.std.proofs.Common.{sym, subst, arith, inl, inr}
 use Rattle.std.proofs.lemmas.Bool.{cases_eq}
-use Rattle.std.proofs.lemmas.List.{append_assoc, get_or_append_left, get_or_push, length_push}
+use Rattle.std.proofs.lemmas.List.{append_assoc, append-nil, get_or_append_left, get_or_push, length_push}
 use Rattle.mm_base.specs.declared.errors.Memory.{Memory}
 use Rattle.mm_base.specs.declared.symbols.Typecode.{Typecode}
 use Rattle.mm_base.specs.declared.tree.Tree.{Tree}
@@ -38,11 +38,7 @@ module _ (rows : List Production) where
   ]
 
   free_have : (more : List TypedVariable) (nodes : List Term) → Have nodes → Have (nodes ++ map free_of more)
-  free_have [] nodes h = subst Have (sym (none nodes)) h
-    where
-      none : (ns : List Term) → ns ++ [] ≡ ns
-      none [] = refl
-      none (n ∷ ns) = ap (λ (rest : List Term). n ∷ rest) (none ns)
+  free_have [] nodes h = subst Have (sym (append-nil nodes)) h
   free_have (v ∷ more) nodes h = subst Have (append_assoc nodes (Free v.code ∷ []) (map free_of more)) (free_have more (nodes ++ Free v.code ∷ []) (push_have nodes (Free v.code) h tt))
 
   there_have : (o : Option ℕ) (e : Term) (nodes : List Term) → HasConstants (constants_in rows) e → Have nodes → Have (there_or o e nodes).nodes

@@ -19,7 +19,7 @@ use Rattle.chain_laws.specs.declared.leaves.WorkNode.{WorkNode}
 use Rattle.chain_laws.specs.Adding.{Adder, Listed, run, id_of, work_at}
 use Rattle.step_chain.specs.Grown.{IsRooted, AreListed, AreWorksIn}
 use Rattle.step_chain.specs.Formulas.{Begun, begun, with_work, with_leaf, with_leaves, with_formula, with_step, with_steps, blank_node, blank_nodes, formula_adder, formula_adders, nothing_begun, unknowns_of, formulas_of, AreFormulas}
-use Rattle.step_chain.proofs.AddingLaws.{run_nodes, run_roots}
+use Rattle.step_chain.proofs.AddingLaws.{run_nodes, run_roots, works_in_more}
 
 -- ---- the work variables of a tree
 
@@ -152,15 +152,11 @@ leaves_within : (b : Begun) (xs : List Open) → IsWithin b (with_leaves b xs)
 leaves_within b [] = record { longer = omega arith; works = λ w. w }
 leaves_within b (x ∷ xs) = within_more b (with_leaf b x) (with_leaves (with_leaf b x) xs) (leaf_within b x) (leaves_within (with_leaf b x) xs)
 
-works_longer : (n m : ℕ) (ws : List WorkNode) → n ≤ m → AreWorksIn n ws → AreWorksIn m ws
-works_longer n m [] h a = tt
-works_longer n m (w ∷ ws) h a = (omega (arith, a.0, h), works_longer n m ws h a.1)
-
 module _ (logic : Typecode) where
   formula_within : (b : Begun) (t : Option Tree) → IsWithin b (with_formula logic b t)
   formula_within b None =
       let long : length (b.nodes ++ Free logic ∷ []) ≡ length b.nodes + 1 = length-append b.nodes (Free logic ∷ []) in
-      record { longer = omega (arith, long); works = works_longer (length b.nodes) (length (b.nodes ++ Free logic ∷ [])) b.works (omega (arith, long)) }
+      record { longer = omega (arith, long); works = works_in_more (length b.nodes) (length (b.nodes ++ Free logic ∷ [])) b.works (omega (arith, long)) }
   formula_within b (Some t) = leaves_within b (open_leaves t)
 
   steps_within : (b : Begun) (ss : List BoundStep) → IsWithin b (with_steps logic b ss)

@@ -1,7 +1,7 @@
 -- Whether places name steps, by tests.
-use Rattle.std.specs.Prelude.{◌≡◌, ◌↔◌, ℕ, ◌<◌, ◌^◌, ◌&&◌, Bool, true, false, nat_lt, List, [], ◌∷◌, length, IsTrue, refl}
+use Rattle.std.specs.Prelude.{◌≡◌, ◌↔◌, ℕ, ◌^◌, Bool, true, nat_lt, List, [], ◌∷◌, length, IsTrue, refl}
 use Rattle.std.specs.List.{AllByRecursion, list_all}
-use Rattle.std.proofs.Common.{sym, ap, subst, ◌∙◌, arith}
+use Rattle.std.proofs.Common.{sym, ◌∙◌, arith}
 use Rattle.std.proofs.lemmas.Bool.{and_parts, and_from}
 use Rattle.std.proofs.lemmas.Bool.Decides.{nat_tests}
 use Rattle.sheet_text.specs.declared.sheet.Given.{Given}
@@ -40,6 +40,7 @@ module _ (n : ℕ) where
       and_from (nat_lt (length s.places) (2 ^ 32)) (list_all (place_in n) s.places) short (all_to (place_in n) (IsPlaceIn n) place_to s.places h.places)
 
 pub placed_is : (bound : Bound) (b : Bool) → b ≡ list_all (step_placed (length bound.steps)) bound.steps → IsTrue b ↔ ArePlaced bound
-placed_is bound b e =
-    (λ h. all_from (step_placed (length bound.steps)) (IsPlaced (length bound.steps)) (step_from (length bound.steps)) bound.steps (sym e ∙ h),
-    λ h. e ∙ all_to (step_placed (length bound.steps)) (IsPlaced (length bound.steps)) (step_to (length bound.steps)) bound.steps h)
+placed_is bound b e = (
+  λ h. all_from (step_placed (length bound.steps)) (IsPlaced (length bound.steps)) (step_from (length bound.steps)) bound.steps (sym e ∙ h),
+  λ h. e ∙ all_to (step_placed (length bound.steps)) (IsPlaced (length bound.steps)) (step_to (length bound.steps)) bound.steps h,
+)

@@ -3,7 +3,7 @@ use Rattle.std.specs.Prelude.{◌≡◌, ℕ, ◌<◌, ◌+◌, ◌⊎◌, ◌==
 use Rattle.std.proofs.Common.{zero, suc, get_or, sym, ap, subst, ◌∙◌, arith, inl, inr, cond}
 use Rattle.std.proofs.lemmas.Bool.{and_parts}
 use Rattle.std.proofs.lemmas.Bool.Decides.{nat_tests}
-use Rattle.std.proofs.lemmas.List.{append_assoc, get_or_append_left, get_or_push, length_push, length-map, length-append, map_push}
+use Rattle.std.proofs.lemmas.List.{append_assoc, append-nil, get_or_append_left, get_or_push, length_push, length-map, length-append, map_push}
 use Rattle.std.proofs.lemmas.List.Elements.{Contains-append_left, Contains-append_right, Contains-append_cases}
 use Rattle.mm_base.specs.declared.symbols.Typecode.{Typecode}
 use Rattle.mm_base.specs.declared.tree.Tree.{Tree}
@@ -29,11 +29,7 @@ works_from k [] = []
 works_from k (u ∷ us) = work_entry k u ++ works_from (k + 1) us
 
 works_push : (k : ℕ) (us : List Unknown) (u : Unknown) → works_from k (us ++ u ∷ []) ≡ works_from k us ++ work_entry (k + length us) u
-works_push k [] u = none (work_entry k u) ∙ (let same : k ≡ k + 0 = omega arith in ap (λ (j : ℕ). work_entry j u) same)
-  where
-    none : (ws : List WorkNode) → ws ++ [] ≡ ws
-    none [] = refl
-    none (w ∷ ws) = ap (λ (rest : List WorkNode). w ∷ rest) (none ws)
+works_push k [] u = append-nil (work_entry k u) ∙ (let same : k ≡ k + 0 = omega arith in ap (λ (j : ℕ). work_entry j u) same)
 works_push k (w ∷ us) u =
     let same : k + 1 + length us ≡ k + length (w ∷ us) = omega arith in
     ap (λ (ws : List WorkNode). work_entry k w ++ ws) (works_push (k + 1) us u ∙ ap (λ (j : ℕ). works_from (k + 1) us ++ work_entry j u) same)
@@ -118,12 +114,8 @@ module _ (logic : Typecode) where
     pub all : (u : Unknown) → Contains new u → Contains list u
     pub only : (u : Unknown) → Contains list u → Contains us u ⊎ Contains new u
 
-  append_none : (us : List Unknown) → us ++ [] ≡ us
-  append_none [] = refl
-  append_none (u ∷ us) = ap (λ (rest : List Unknown). u ∷ rest) (append_none us)
-
   no_more : (us : List Unknown) (b : Begun) (new : List Unknown) → IsListed us b → ((u : Unknown) → Contains new u → Contains us u) → Listing us b new
-  no_more us b new is all = record { list = us; more = []; extends = sym (append_none us); is = is; all = all; only = λ u h. inl h }
+  no_more us b new is all = record { list = us; more = []; extends = sym (append-nil us); is = is; all = all; only = λ u h. inl h }
 
   then : (us : List Unknown) (b c : Begun) (xs ys : List Unknown) → (h : Listing us b xs) → Listing h.list c ys → Listing us c (xs ++ ys)
   then us b c xs ys h g = record {
@@ -210,7 +202,7 @@ module _ (logic : Typecode) where
         listing = one_new us (with_formula logic b None) (blank k)
             (record {
               nodes = ap (λ (ns : List Term). ns ++ Free logic ∷ []) h.nodes ∙ sym (map_push free_for us (blank k));
-              works = h.works ∙ sym (works_push 0 us (blank k) ∙ no_works (works_from 0 us));
+              works = h.works ∙ sym (works_push 0 us (blank k) ∙ append-nil (works_from 0 us));
               distinct = distinct_push us (blank k) h.distinct off;
             });
         blank_node = λ e. record {
@@ -218,10 +210,6 @@ module _ (logic : Typecode) where
           there = get_or_push us (blank k) (blank 0) (length b.nodes) (sym count);
         };
       }
-    where
-      no_works : (ws : List WorkNode) → ws ++ [] ≡ ws
-      no_works [] = refl
-      no_works (w ∷ ws) = ap (λ (rest : List WorkNode). w ∷ rest) (no_works ws)
   formula_listed k (Some t) us b h off = record { listing = leaves_listed (open_leaves t) us b h; blank_node = λ e. cc }
 
   no_blank : (xs : List Open) (j : ℕ) → Contains (works_in xs) (blank j) → ⊥

@@ -1,4 +1,4 @@
-use Rattle.std.proofs.Common.{◌≡◌, ap, ◌∙◌, length, List}
+use Rattle.std.proofs.Common.{ap, ◌∙◌, length, List}
 use Rattle.std.specs.List.{list_all}
 use Rattle.solve_model.specs.declared.bound.BoundStep.{BoundStep}
 use Rattle.step_chain.specs.Steps.{step_placed}
