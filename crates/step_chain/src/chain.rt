@@ -156,6 +156,14 @@ impl<'a> Chain<'a> {
         count(self.steps.as_slice()) as u32
     }
 
+    /// How many steps the worksheet has.
+    pub fn steps(&self) -> u32
+        ensures { result ≡ length self.now.bound.steps }
+    {
+        let _steps = &self.steps;
+        self.bound.steps.as_slice().len() as u32
+    }
+
     /// The store of terms. It has at most as many nodes as the worksheet's work size.
     pub fn arena(&self) -> &Arena
         ensures few { OfEachBook self.now (λ db. length self.now.nodes ≤ work_size db self.now.bound) }
