@@ -7,7 +7,7 @@ ghost use Rattle.leaf_names.specs.Named.{IsNamesOf};
 ghost use Rattle.leaf_names.specs.Tables.{read_leaves};
 ghost use Rattle.step_naming.specs.Named.{tree_of, formulas, HasSmallLeaves, AreNamed};
 
-use crate::renaming::named_items;
+use crate::renaming::renamed;
 use leaf_names::{Names, names_are_naming};
 use mm_base::{List, Memory};
 use mm_database::Database;
@@ -49,7 +49,7 @@ fn names_of<'d>(
 /// formulas, each fresh leaf becomes the work variable of its typecode with the least number that the worksheet as it was
 /// read does not have, whose name the database does not declare, and that no other leaf became. The values of uses are
 /// named too, and all else stays. It takes time in proportion to the trees and to the formulas of the worksheet as it was
-/// read, and memory for the trees and for one name for each new work variable.
+/// read, and memory for one name for each new work variable and, where there is one, for the trees.
 ///
 /// Fails where memory runs out.
 pub fn name_items(
@@ -66,5 +66,5 @@ pub fn name_items(
     names_are_naming();
     let names = names_of(alloc, db, bound, items.as_slice())?;
     names.numbers_fit();
-    named_items(alloc, &names, items.into_vec())
+    renamed(alloc, &names, items)
 }
