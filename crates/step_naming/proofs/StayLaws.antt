@@ -1,5 +1,5 @@
 -- Where no leaf has a name, nothing is renamed.
-use Rattle.std.specs.Prelude.{◌≡◌, ℕ, List, [], ◌∷◌, length, map, Option, Some, None, option_map, refl}
+use Rattle.std.specs.Prelude.{◌≡◌, List, [], ◌∷◌, length, map, Option, Some, None, option_map, refl}
 use Rattle.std.proofs.Common.{sym, ap, ◌∙◌, arith}
 use Rattle.mm_base.specs.declared.tree.Tree.{Tree}
 use Rattle.mm_base.specs.declared.tree.Tree.TheVariants.{Var}
@@ -11,7 +11,7 @@ use Rattle.written_steps.specs.declared.draft.StepUse.{StepUse}
 use Rattle.written_steps.specs.declared.draft.DraftItem.{DraftItem}
 use Rattle.written_steps.specs.declared.draft.DraftItem.TheVariants as draft
 use Rattle.written_steps.specs.declared.draft.DraftStep.{DraftStep}
-use Rattle.step_naming.specs.Named.{rename_use, rename_step, rename_item}
+use Rattle.step_naming.specs.Named.{rename_use, rename_item}
 
 abbrev none : Naming
 none = naming_of []

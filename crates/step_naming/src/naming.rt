@@ -13,6 +13,7 @@ use mm_base::{List, Memory};
 use mm_database::Database;
 use solve_model::Bound;
 use std::alloc::Global;
+use writing_laws::named_tree_has_count;
 use written_steps::DraftItem;
 
 /// Names the fresh leaves of a step's formula.
@@ -64,6 +65,7 @@ pub fn name_items(
     ensures { IfOk result (AreNamed db.now bound.now items) }
 {
     names_are_naming();
+    named_tree_has_count();
     let names = names_of(alloc, db, bound, items.as_slice())?;
     names.numbers_fit();
     renamed(alloc, &names, items)
