@@ -36,7 +36,7 @@ impl<'a> Model for Names<'a> {
 }
 
 impl<'a> Names<'a> {
-    ghost use Rattle.std.specs.Prelude.{◌≡◌, ◌≤◌, ◌^◌, ◌<◌, ◌++◌, ◌∷◌, [], ℕ, List, length, take, IfOk, OnOk, OnErr};
+    ghost use Rattle.std.specs.Prelude.{◌≡◌, ◌↔◌, ◌≤◌, ◌^◌, ◌<◌, ◌++◌, ◌∷◌, [], ℕ, List, length, take, IfOk, IsTrue, OnOk, OnErr};
     ghost use Rattle.mm_base.specs.declared.symbols.Typecode.{Typecode};
     ghost use Rattle.mm_base.specs.declared.tree.Tree.{Tree};
     ghost use Rattle.mm_database.specs.Opened.{Opened};
@@ -85,6 +85,13 @@ impl<'a> Names<'a> {
             &mut self.given,
             leaves.as_slice(),
         )
+    }
+
+    /// Whether no leaf has a name.
+    pub fn is_empty(&self) -> bool
+        ensures { IsTrue result ↔ (length self.now.given ≡ 0) }
+    {
+        self.given.numbers.is_empty()
     }
 
     /// The numbers that leaves have are such as a token may have. It does nothing.

@@ -6,10 +6,11 @@ use Rattle.std.proofs.lemmas.List.{append-nil, length-map}
 use Rattle.mm_base.specs.declared.tree.Tree.{Tree}
 use Rattle.mm_database.specs.Opened.{Opened}
 use Rattle.mm_database.proofs.Lists.{filter_map_found, filter_map_none, map_more}
-use Rattle.mm_model.specs.Book.{Assertion}
+use Rattle.mm_model.specs.Book.{Assertion, Database}
 use Rattle.solve_model.specs.declared.bound.Bound.{Bound}
 use Rattle.written_model.specs.WrittenSteps.{Use, WrittenStep, WrittenItem, step, over_step, steps_in, trees}
 use Rattle.written_model.specs.Named.{Naming, name_tree, name_use, name_step, name_items}
+use Rattle.writing_laws.specs.TokenCounts.{NamedHasCount}
 use Rattle.again_laws.specs.Second.{NumbersFit}
 use Rattle.leaf_names.specs.Tables.{Table, naming_of}
 use Rattle.leaf_names.specs.Named.{IsNamesOf, NamesAreNaming}
@@ -17,8 +18,9 @@ use Rattle.written_steps.specs.declared.draft.StepUse.{StepUse}
 use Rattle.written_steps.specs.declared.draft.DraftStep.{DraftStep}
 use Rattle.written_steps.specs.declared.draft.DraftItem.{DraftItem}
 use Rattle.written_steps.specs.declared.draft.DraftItem.TheVariants as draft
-use Rattle.written_steps.specs.Drafts.{usable_in, use_in, item_in, items_in, IsSoundUse, IsSoundItem, AreSound}
-use Rattle.step_naming.specs.Named.{rename_use, rename_item, tree_of, formulas, AreNamed}
+use Rattle.written_steps.specs.Drafts.{book, usable_in, use_in, item_in, items_in, IsSoundUse, IsSoundItem, AreSound}
+use Rattle.step_naming.specs.Named.{rename_use, rename_item, tree_of, formulas, NamesThem, AreWrittenShort, AreNamed}
+use Rattle.step_naming.proofs.ShortLaws.{named_short}
 
 -- ---- one more
 
@@ -85,12 +87,24 @@ module _ (d : Opened) (names : Naming) where
 
 -- ---- the answer
 
-pub are_named : (d : Opened) (bound : Bound) (items named : List DraftItem) (t : Table) → NamesAreNaming → NumbersFit (naming_of t.given) → IsNamesOf d bound (formulas items) t
+pub are_named : (d : Opened) (bound : Bound) (items named : List DraftItem) (t : Table) → NamesAreNaming → ((db : Database) → NamedHasCount db) → NumbersFit (naming_of t.given) → IsNamesOf d bound (formulas items) t
     → named ≡ map (rename_item (naming_of t.given)) items → AreNamed d bound items named
-are_named d bound items named t law fit is e = record {
-  names = naming_of t.given;
+are_named d bound items named t law counts fit is e = record {
+  names = names;
   fit = fit;
-  naming = λ kinds text before opened writable. law kinds text d bound before (trees (steps_in (items_in d items))) t opened (subst (λ ts. IsNamesOf d bound ts t) (sym (trees_are d items)) is) writable;
-  items_are = ap (items_in d) e ∙ items_renamed d (naming_of t.given) items;
-  sound = λ h. subst (AreSound d) (sym e) (sound_renamed d (naming_of t.given) items h);
+  naming = naming;
+  items_are = items_are;
+  sound = λ h. subst (AreSound d) (sym e) (sound_renamed d names items h);
+  short = λ kinds text before opened writable short.
+      subst (λ xs. AreWrittenShort d (steps_in xs)) (sym items_are)
+      (named_short (book kinds text d) (counts (book kinds text d)) bound (trees (steps_in (items_in d items))) names (naming kinds text before opened writable) short (items_in d items) (λ u m. m));
 }
+  where
+    names : Naming
+    names = naming_of t.given
+
+    naming : NamesThem d bound (trees (steps_in (items_in d items))) names
+    naming kinds text before opened writable = law kinds text d bound before (trees (steps_in (items_in d items))) t opened (subst (λ ts. IsNamesOf d bound ts t) (sym (trees_are d items)) is) writable
+
+    items_are : items_in d named ≡ name_items names (items_in d items)
+    items_are = ap (items_in d) e ∙ items_renamed d names items

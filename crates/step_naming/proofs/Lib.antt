@@ -1,1 +1,3 @@
 pub mod DraftLaws
+pub mod ShortLaws
+pub mod StayLaws

@@ -1,14 +1,16 @@
 -- The steps of a draft with their fresh leaves named.
-use Rattle.std.specs.Prelude.{◌≡◌, ◌<◌, ◌^◌, ℕ, List, map, filter_map, Contains, Option, Some, None, option_map}
+use Rattle.std.specs.Prelude.{◌≡◌, ◌<◌, ◌≤◌, ◌^◌, ℕ, List, length, map, filter_map, Contains, Option, Some, None, option_map}
 use Rattle.mm_base.specs.declared.kinds.Kinds.{Kinds}
 use Rattle.mm_base.specs.declared.symbols.Typecode.{Typecode}
 use Rattle.mm_base.specs.declared.tree.Tree.{Tree}
+use Rattle.mm_model.specs.Texts.{text}
 use Rattle.mm_database.specs.Opened.{Opened, IsOpened}
 use Rattle.solve_model.specs.declared.bound.Bound.{Bound}
 use Rattle.solve_model.specs.Trees.{fresh, Occurs}
-use Rattle.written_model.specs.WrittenSteps.{steps_in, trees}
+use Rattle.written_model.specs.WrittenSteps.{WrittenStep, WrittenItem, steps_in, trees}
 use Rattle.written_model.specs.Named.{Naming, IsNaming, name_tree, name_items}
 use Rattle.writing_laws.specs.HasNames.{IsWritable}
+use Rattle.writing_laws.specs.HasLong.{AreShort}
 use Rattle.again_laws.specs.Second.{NumbersFit}
 use Rattle.written_steps.specs.declared.draft.StepUse.{StepUse}
 use Rattle.written_steps.specs.declared.draft.DraftStep.{DraftStep}
@@ -51,6 +53,16 @@ NamesThem d bound ts names =
     (kinds : Kinds) (text : List ℕ) (before : ℕ) → IsOpened kinds text d → ((t : Tree) → Contains ts t → IsWritable (book kinds text d) bound before t)
     → IsNaming (book kinds text d) bound ts names
 
+-- each formula is as short as can be read again
+abbrev pub AreWrittenShort : Opened → List WrittenStep → Type 0
+AreWrittenShort d es = (e : WrittenStep) → Contains es e → length (text d.rows e.tree) ≤ 4095
+
+-- where the formulas are not too long by their count of tokens, they are not once they have these names
+abbrev pub StayShort : Opened → Bound → List WrittenItem → List WrittenItem → Type 0
+StayShort d bound items named =
+    (kinds : Kinds) (text : List ℕ) (before : ℕ) → IsOpened kinds text d → ((t : Tree) → Contains (trees (steps_in items)) t → IsWritable (book kinds text d) bound before t)
+    → AreShort (book kinds text d) (trees (steps_in items)) → AreWrittenShort d (steps_in named)
+
 -- the second draft is the first with these names; all else stays
 pub record AreNamed (d : Opened) (bound : Bound) (items named : List DraftItem) : Type 0 where
   pub names : Naming
@@ -58,3 +70,4 @@ pub record AreNamed (d : Opened) (bound : Bound) (items named : List DraftItem) 
   pub naming : NamesThem d bound (trees (steps_in (items_in d items))) names
   pub items_are : items_in d named ≡ name_items names (items_in d items)
   pub sound : AreSound d items → AreSound d named
+  pub short : StayShort d bound (items_in d items) (items_in d named)

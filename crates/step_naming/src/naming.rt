@@ -7,12 +7,13 @@ ghost use Rattle.leaf_names.specs.Named.{IsNamesOf};
 ghost use Rattle.leaf_names.specs.Tables.{read_leaves};
 ghost use Rattle.step_naming.specs.Named.{tree_of, formulas, HasSmallLeaves, AreNamed};
 
-use crate::renaming::named_items;
+use crate::renaming::renamed;
 use leaf_names::{Names, names_are_naming};
 use mm_base::{List, Memory};
 use mm_database::Database;
 use solve_model::Bound;
 use std::alloc::Global;
+use writing_laws::named_tree_has_count;
 use written_steps::DraftItem;
 
 /// Names the fresh leaves of a step's formula.
@@ -49,7 +50,7 @@ fn names_of<'d>(
 /// formulas, each fresh leaf becomes the work variable of its typecode with the least number that the worksheet as it was
 /// read does not have, whose name the database does not declare, and that no other leaf became. The values of uses are
 /// named too, and all else stays. It takes time in proportion to the trees and to the formulas of the worksheet as it was
-/// read, and memory for the trees and for one name for each new work variable.
+/// read, and memory for one name for each new work variable and, where there is one, for the trees.
 ///
 /// Fails where memory runs out.
 pub fn name_items(
@@ -64,7 +65,8 @@ pub fn name_items(
     ensures { IfOk result (AreNamed db.now bound.now items) }
 {
     names_are_naming();
+    named_tree_has_count();
     let names = names_of(alloc, db, bound, items.as_slice())?;
     names.numbers_fit();
-    named_items(alloc, &names, items.into_vec())
+    renamed(alloc, &names, items)
 }

@@ -81,8 +81,7 @@ fn named_item(alloc: Global, names: &Names<'_>, item: DraftItem) -> Result<Draft
     }
 }
 
-/// The items with their leaves named, those that have a name.
-pub(crate) fn named_items(
+fn named_items(
     alloc: Global,
     names: &Names<'_>,
     items: Vec<DraftItem>,
@@ -94,4 +93,18 @@ pub(crate) fn named_items(
         named.push(named_item(alloc, names, item)?)?;
     }
     Ok(List::from_vec(named))
+}
+
+/// The items with those of their fresh leaves named that have a name. Where none has, the items stay as they are.
+pub(crate) fn renamed(
+    alloc: Global,
+    names: &Names<'_>,
+    items: List<DraftItem>,
+) -> Result<List<DraftItem>, Memory>
+    ensures { IfOk result (λ named. named ≡ map (rename_item (naming_of names.now.given)) items) }
+{
+    if names.is_empty() {
+        return Ok(items);
+    }
+    named_items(alloc, names, items.into_vec())
 }

@@ -1,4 +1,4 @@
-use Rattle.std.proofs.Common.{◌≡◌, ap, subst, ◌∙◌, List, map}
+use Rattle.std.proofs.Common.{◌≡◌, subst, List, map}
 use Rattle.std.proofs.lemmas.Result.{IfOk-weaker}
 use Rattle.leaf_names.specs.Tables.{naming_of}
 use Rattle.leaf_names.specs.Named.{IsNamesOf}
@@ -14,5 +14,5 @@ returns c =
     let items = c.args.items in
     let t = c.in_ok-names.names in
     let is = subst (λ (xs : List DraftItem). IsNamesOf d bound (formulas xs) t) c.as_slice.ensures c.in_ok-names.ensures in
-    IfOk-weaker c.named_items.result (λ named. named ≡ map (rename_item (naming_of t.given)) c.into_vec.result.items) (AreNamed d bound items)
-    (λ named e. are_named d bound items named t c.names_are_naming.ensures c.numbers_fit.ensures is (e ∙ ap (map (rename_item (naming_of t.given))) c.into_vec.ensures)) c.named_items.ensures
+    IfOk-weaker c.renamed.result (λ named. named ≡ map (rename_item (naming_of t.given)) items) (AreNamed d bound items)
+    (λ named e. are_named d bound items named t c.names_are_naming.ensures c.named_tree_has_count.ensures c.numbers_fit.ensures is e) c.renamed.ensures
