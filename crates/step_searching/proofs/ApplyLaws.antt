@@ -1,5 +1,5 @@
 -- What was found is put to the items in turn.
-use Rattle.std.specs.Prelude.{◌≡◌, ◌<◌, ◌⊎◌, ℕ, List, [], ◌∷◌, ◌++◌, length, map, zip, Option, Some, None, refl}
+use Rattle.std.specs.Prelude.{◌≡◌, ◌<◌, ◌⊎◌, ℕ, List, [], ◌∷◌, ◌++◌, length, map, zip, Option, refl}
 use Rattle.std.specs.List.{AllByRecursion}
 use Rattle.std.proofs.Common.{sym, ap, ◌∙◌, inl, inr}
 use Rattle.std.proofs.lemmas.List.{append-nil}
@@ -7,7 +7,7 @@ use Rattle.mm_frames.specs.Contents.{Contents}
 use Rattle.ref_search.specs.declared.wanted.Found.{Found}
 use Rattle.ref_search.specs.Searching.{HasFound}
 use Rattle.written_steps.specs.declared.draft.DraftItem.{DraftItem}
-use Rattle.step_searching.specs.Searched.{item_with, pair_with}
+use Rattle.step_searching.specs.Searched.{pair_with}
 
 abbrev pub IsWithin : Contents → Option Found → Type 0
 IsWithin c o = HasFound (λ (f : Found). f.label.0 < length c.labels) o

@@ -1,5 +1,5 @@
 -- What is found for the steps of a draft is what is found for the steps that are written.
-use Rattle.std.specs.Prelude.{◌≡◌, ◌<◌, ◌+◌, ℕ, zero, suc, true, false, List, [], ◌∷◌, ◌++◌, length, map, zip, take, slice_get, slice_index_or, get_or, option_map, option_and_then, Option, Some, None, refl}
+use Rattle.std.specs.Prelude.{◌≡◌, ◌<◌, ◌+◌, ℕ, zero, suc, true, List, [], ◌∷◌, ◌++◌, length, map, zip, take, slice_get, slice_index_or, get_or, option_map, option_and_then, Option, Some, None, refl}
 use Rattle.std.specs.List.{AllByRecursion, AllZip, range_with_len}
 use Rattle.std.proofs.Common.{sym, ap, subst, ◌∙◌, arith, add-one}
 use Rattle.std.proofs.lemmas.List.{length-map}
@@ -8,14 +8,13 @@ use Rattle.std.proofs.lemmas.Option.{slice_get_within}
 use Rattle.mm_base.specs.declared.kinds.Kinds.{Kinds}
 use Rattle.mm_base.specs.declared.symbols.Label.{Label}
 use Rattle.mm_base.specs.declared.symbols.Pair.{Pair}
-use Rattle.mm_base.specs.declared.tree.Tree.{Tree}
 use Rattle.mm_base.specs.Trees.{code_of}
 use Rattle.mm_model.specs.declared.frames.Frame.{Frame}
 use Rattle.mm_model.specs.Names.{Name, label}
 use Rattle.mm_model.specs.Statements.{statements, labels}
 use Rattle.mm_model.specs.Frames.{frame_of}
 use Rattle.mm_model.specs.Productions.{TypedVariable}
-use Rattle.mm_model.specs.Book.{Assertion, Database, label_name}
+use Rattle.mm_model.specs.Book.{Assertion, label_name}
 use Rattle.mm_frames.specs.Contents.{Contents, frame_at}
 use Rattle.mm_frames.proofs.Queries.{frame-is}
 use Rattle.mm_database.specs.Books.{usable_with}
@@ -23,7 +22,7 @@ use Rattle.mm_database.specs.Opened.{Opened, IsOpened}
 use Rattle.sheet_text.specs.declared.sheet.Given.{Given}
 use Rattle.written_model.specs.declared.options.DvMode.{DvMode}
 use Rattle.written_model.specs.declared.report.ReportVerdict.TheVariants as report
-use Rattle.written_model.specs.Found.{is_to_be_searched, FitsUse, IsSearched}
+use Rattle.written_model.specs.Found.{is_to_be_searched, IsSearched}
 use Rattle.written_model.specs.WrittenSteps.{Use, WrittenStep, steps_in}
 use Rattle.written_steps.specs.declared.draft.DraftStep.{DraftStep}
 use Rattle.written_steps.specs.declared.draft.DraftItem.{DraftItem}
@@ -32,7 +31,7 @@ use Rattle.written_steps.specs.Drafts.{AreSound, IsSoundUse, drafts_in, items_in
 use Rattle.ref_search.specs.declared.wanted.Found.{Found}
 use Rattle.ref_search.specs.Completing.{use_of}
 use Rattle.ref_search.specs.Searching.{book, HasFound}
-use Rattle.ref_search.specs.Wholes.{IsFoundFor, choice_of, places_at}
+use Rattle.ref_search.specs.Wholes.{IsFoundFor, places_at}
 use Rattle.step_searching.specs.Searched.{FindsItem, IsSearchOf, passed, searched, IsSoundFound, ItemIsSearched, with_found, pair_with}
 use Rattle.step_searching.proofs.ApplyLaws.{IsWithin}
 

@@ -1,9 +1,9 @@
 -- What is looked for is what the definitions look for.
 use Rattle.std.specs.Prelude.{◌≡◌, ◌<◌, ◌+◌, ℕ, zero, suc, Bool, true, false, not, ◌&&◌, List, [], ◌∷◌, ◌++◌, length, map, take, filter_map, slice_get, slice_index_or, get_or, option_map, Option, Some, None, is_none, refl}
-use Rattle.std.specs.List.{list_all, AllByRecursion}
+use Rattle.std.specs.List.{list_all}
 use Rattle.std.specs.Option.{option_map_or, option_copied}
 use Rattle.std.specs.Borrow.{Bor}
-use Rattle.std.proofs.Common.{sym, ap, subst, ◌∙◌, arith, add-one}
+use Rattle.std.proofs.Common.{sym, ap, ◌∙◌}
 use Rattle.mm_base.specs.declared.tree.Tree.{Tree}
 use Rattle.mm_database.proofs.Lists.{filter_map_found, filter_map_none}
 use Rattle.mm_database.specs.Opened.{Opened}
@@ -12,8 +12,7 @@ use Rattle.sheet_text.specs.declared.sheet.Given.TheVariants as given
 use Rattle.written_model.specs.Found.{is_ground, is_ground_place, is_to_be_searched}
 use Rattle.written_model.specs.WrittenSteps.{WrittenStep, place_tree, trees}
 use Rattle.written_steps.specs.declared.draft.DraftStep.{DraftStep}
-use Rattle.written_steps.specs.Drafts.{refs, step_in}
-use Rattle.ref_search.specs.declared.wanted.Wanted.{Wanted}
+use Rattle.written_steps.specs.Drafts.{step_in}
 use Rattle.ref_search.specs.Placing.{IsClosed}
 use Rattle.ref_search.specs.Matching.{AreGround}
 use Rattle.ref_search.specs.Wholes.{IsWantedBy}
