@@ -25,7 +25,8 @@ ended c (i ∷ left) [] h = refl
 ended c (i ∷ left) (o ∷ found_left) (inl h) = absurd (cc)
 ended c (i ∷ left) (o ∷ found_left) (inr h) = absurd (cc)
 
-pub part_ends : (c : Contents) (items : List DraftItem) (found : List (Option Found)) (done left : List DraftItem) (found_left : List (Option Found)) (n m : ℕ) → IsPart c items found done left found_left n m
+pub part_ends : (c : Contents) (items : List DraftItem) (found : List (Option Found)) (done left : List DraftItem) (found_left : List (Option Found)) (n m : ℕ)
+    → IsPart c items found done left found_left n m
     → (n ≡ 0) ⊎ (m ≡ 0) → done ≡ map (pair_with c) (zip items found)
 part_ends c items found done left found_left n m p h =
     sym (p.whole ∙ ap (λ xs. done ++ xs) (ended c left found_left (elim h [ inl e ↦ inl (sym p.count ∙ e) | inr e ↦ inr (sym p.found_count ∙ e) ])) ∙ append-nil done)
