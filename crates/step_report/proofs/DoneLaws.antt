@@ -67,7 +67,8 @@ module _ (mode : DvMode) (allowed : List Pair) (es : List WrittenStep) (marks : 
       at : (i : ℕ) (e : WrittenStep) → slice_get es i ≡ Some e → is_done mode allowed (mark_of i) e ≡ true
       at i e s = d.each i (slice_get_within es i e s) e s
 
-  done_by : (b : Bool) (e : WrittenStep) → (e.hyp ≡ true → is_ground e.tree ≡ true) → (b ≡ true → is_ground e.tree ≡ true) → (b ≡ true → is_complete mode allowed e ≡ true) → is_done mode allowed b e ≡ true
+  done_by : (b : Bool) (e : WrittenStep) → (e.hyp ≡ true → is_ground e.tree ≡ true) → (b ≡ true → is_ground e.tree ≡ true) → (b ≡ true → is_complete mode allowed e ≡ true)
+      → is_done mode allowed b e ≡ true
   done_by true e h g k = rw (g refl, k refl) refl
   done_by false e h g k = not_or e.hyp (is_ground e.tree) h
 
@@ -106,8 +107,10 @@ map_there f [] n e h = absurd (cc)
 map_there f (x ∷ es) zero e h = ap (λ y. Some (f y)) (some_is h)
 map_there f (x ∷ es) (suc n) e h = map_there f es n e h
 
-pub done_at : (d : Opened) (steps : List (Bor DraftStep)) (report : List ReportLine) (marks : List Bool) (n : ℕ) (r : Bor DraftStep) (line : ReportLine) (b : Bool) → n < length steps → r ≡ get_or steps n r
-    → line ≡ get_or report n line → ((mode : DvMode) (allowed : List Pair) → line ≡ report_of mode allowed (step_in d r.now) → b ≡ is_done mode allowed (slice_index_or marks n false) (step_in d r.now))
+pub done_at : (d : Opened) (steps : List (Bor DraftStep)) (report : List ReportLine) (marks : List Bool) (n : ℕ) (r : Bor DraftStep) (line : ReportLine) (b : Bool) → n < length steps
+    → r ≡ get_or steps n r
+    → line ≡ get_or report n line → ((mode : DvMode) (allowed : List Pair) → line ≡ report_of mode allowed (step_in d r.now)
+    → b ≡ is_done mode allowed (slice_index_or marks n false) (step_in d r.now))
     → (mode : DvMode) (allowed : List Pair) → report ≡ map (report_of mode allowed) (map (step_in d) (refs steps)) → IsTrue b ↔ IsDoneAt mode allowed (map (step_in d) (refs steps)) marks n
 done_at d steps report marks n r line b inside g l h mode allowed told = (to, from)
   where
@@ -131,7 +134,8 @@ done_at d steps report marks n r line b inside g l h mode allowed told = (to, fr
 pub finished_is : (d : Opened) (items : List DraftItem) (first steps : List (Bor DraftStep)) (lines report : List ReportLine) (marks marks_in : List Bool) (b : Bool)
     → refs first ≡ drafts_in items → refs steps ≡ drafts_in items → lines ≡ report → marks_in ≡ marks
     → (PlacesAreEarlier (map (step_in d) (refs first)) → AreMarked (map (step_in d) (refs first)) marks)
-    → ((mode : DvMode) (allowed : List Pair) → lines ≡ map (report_of mode allowed) (map (step_in d) (refs steps)) → IsTrue b ↔ AreDone mode allowed (map (step_in d) (refs steps)) marks_in (length steps))
+    → ((mode : DvMode) (allowed : List Pair) → lines ≡ map (report_of mode allowed) (map (step_in d) (refs steps))
+    → IsTrue b ↔ AreDone mode allowed (map (step_in d) (refs steps)) marks_in (length steps))
     → (mode : DvMode) (allowed : List Pair) → report ≡ map (report_of mode allowed) (steps_in (items_in d items)) → PlacesAreEarlier (steps_in (items_in d items))
     → IsTrue b ↔ Finished mode allowed (steps_in (items_in d items))
 finished_is d items first steps lines report marks marks_in b ef es el em hm hd mode allowed told earlier =

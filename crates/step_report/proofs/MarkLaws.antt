@@ -243,5 +243,6 @@ marking_goes steps left n marks new r m l g h c =
           (step_there d steps n r inside ∙ ap (λ (x : Bor DraftStep). Some (step_in d x.now)) g) (subst (λ k. IsMarkedTo (map (step_in d) (refs steps)) k marks) l (m.marked d earlier)) new h;
     }
 
-pub marking_ends : (steps : List (Bor DraftStep)) (marks : List Bool) (d : Opened) → IsMarking steps zero marks → PlacesAreEarlier (map (step_in d) (refs steps)) → AreMarked (map (step_in d) (refs steps)) marks
+pub marking_ends : (steps : List (Bor DraftStep)) (marks : List Bool) (d : Opened) → IsMarking steps zero marks → PlacesAreEarlier (map (step_in d) (refs steps))
+    → AreMarked (map (step_in d) (refs steps)) marks
 marking_ends steps marks d m earlier = ends (map (step_in d) (refs steps)) earlier marks (m.count ∙ sym (count_is d steps)) (m.marked d earlier)

@@ -1,5 +1,6 @@
 -- Pairs that are put in one after the other are those that are written.
-use Rattle.std.specs.Prelude.{◌≡◌, ℕ, Bool, true, false, List, [], ◌∷◌, map, filter, flat_map, fold, not, nat_lt, option_map, option_and_then, Option, Some, None, if◌then◌else◌, Result, Ok, Err, OnOk, refl}
+use Rattle.std.specs.Prelude.{◌≡◌, ℕ, Bool, true, false, List, [], ◌∷◌, map, filter, flat_map, fold}
+use Rattle.std.specs.Prelude.{not, nat_lt, option_map, option_and_then, Option, Some, None, if◌then◌else◌, Result, Ok, Err, OnOk, refl}
 use Rattle.std.proofs.Common.{sym, ap, subst, ◌∙◌, arith, inl, inr}
 use Rattle.std.proofs.lemmas.Bool.{cases_Bool}
 use Rattle.std.proofs.lemmas.Bool.Decides.{nat_tests}

@@ -52,7 +52,8 @@ fn has_flaw(line: &ReportLine) -> bool
 /// Whether a use has all its places, no `?`, no clash and no lack.
 fn is_whole_use(db: &Database, step: &DraftStep, by: &StepUse, line: &ReportLine) -> bool
     requires { IsSoundUse db.now by.now }
-    ensures { (mode : Mode) (allowed : ListOf PairOf) → marking.IsToldOf mode allowed (use_in db.now by.now) line.now → result ≡ spec.is_complete_use mode allowed step.now.places (use_in db.now by.now) }
+    ensures { (mode : Mode) (allowed : ListOf PairOf) → marking.IsToldOf mode allowed (use_in db.now by.now) line.now
+        → result ≡ spec.is_complete_use mode allowed step.now.places (use_in db.now by.now) }
 {
     let places = step.places.as_slice();
     if places.len() != hyp_count(db, by) {

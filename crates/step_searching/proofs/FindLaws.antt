@@ -1,5 +1,5 @@
 -- What is found for the steps of a draft is what is found for the steps that are written.
-use Rattle.std.specs.Prelude.{◌≡◌, ◌<◌, ◌+◌, ℕ, zero, suc, true, false, List, [], ◌∷◌, ◌++◌, length, map, zip, take, slice_get, slice_index_or, get_or, option_map, option_and_then, Option, Some, None, refl}
+use Rattle.std.specs.Prelude.{◌≡◌, ◌<◌, ◌+◌, ℕ, zero, suc, true, List, [], ◌∷◌, ◌++◌, length, map, zip, take, slice_get, slice_index_or, get_or, option_map, option_and_then, Option, Some, None, refl}
 use Rattle.std.specs.List.{AllByRecursion, AllZip, range_with_len}
 use Rattle.std.proofs.Common.{sym, ap, subst, ◌∙◌, arith, add-one}
 use Rattle.std.proofs.lemmas.List.{length-map}
@@ -8,14 +8,13 @@ use Rattle.std.proofs.lemmas.Option.{slice_get_within}
 use Rattle.mm_base.specs.declared.kinds.Kinds.{Kinds}
 use Rattle.mm_base.specs.declared.symbols.Label.{Label}
 use Rattle.mm_base.specs.declared.symbols.Pair.{Pair}
-use Rattle.mm_base.specs.declared.tree.Tree.{Tree}
 use Rattle.mm_base.specs.Trees.{code_of}
 use Rattle.mm_model.specs.declared.frames.Frame.{Frame}
 use Rattle.mm_model.specs.Names.{Name, label}
 use Rattle.mm_model.specs.Statements.{statements, labels}
 use Rattle.mm_model.specs.Frames.{frame_of}
 use Rattle.mm_model.specs.Productions.{TypedVariable}
-use Rattle.mm_model.specs.Book.{Assertion, Database, label_name}
+use Rattle.mm_model.specs.Book.{Assertion, label_name}
 use Rattle.mm_frames.specs.Contents.{Contents, frame_at}
 use Rattle.mm_frames.proofs.Queries.{frame-is}
 use Rattle.mm_database.specs.Books.{usable_with}
@@ -23,7 +22,7 @@ use Rattle.mm_database.specs.Opened.{Opened, IsOpened}
 use Rattle.sheet_text.specs.declared.sheet.Given.{Given}
 use Rattle.written_model.specs.declared.options.DvMode.{DvMode}
 use Rattle.written_model.specs.declared.report.ReportVerdict.TheVariants as report
-use Rattle.written_model.specs.Found.{is_to_be_searched, FitsUse, IsSearched}
+use Rattle.written_model.specs.Found.{is_to_be_searched, IsSearched}
 use Rattle.written_model.specs.WrittenSteps.{Use, WrittenStep, steps_in}
 use Rattle.written_steps.specs.declared.draft.DraftStep.{DraftStep}
 use Rattle.written_steps.specs.declared.draft.DraftItem.{DraftItem}
@@ -32,7 +31,7 @@ use Rattle.written_steps.specs.Drafts.{AreSound, IsSoundUse, drafts_in, items_in
 use Rattle.ref_search.specs.declared.wanted.Found.{Found}
 use Rattle.ref_search.specs.Completing.{use_of}
 use Rattle.ref_search.specs.Searching.{book, HasFound}
-use Rattle.ref_search.specs.Wholes.{IsFoundFor, choice_of, places_at}
+use Rattle.ref_search.specs.Wholes.{IsFoundFor, places_at}
 use Rattle.step_searching.specs.Searched.{FindsItem, IsSearchOf, passed, searched, IsSoundFound, ItemIsSearched, with_found, pair_with}
 use Rattle.step_searching.proofs.ApplyLaws.{IsWithin}
 
@@ -98,7 +97,8 @@ module _ (kinds : Kinds) (text : List ℕ) (d : Opened) (opened : IsOpened kinds
         subst (λ o. Becomes (with (places_at (step_in d s) found.order) (slice_index_or d.contents.labels found.label.0 []) o)) (sym used)
         (subst (λ n. Becomes (with (places_at (step_in d s) found.order) n (Some (use_of a found.trees)))) (name_same found.label) first)
 
-    step_searched : (o : Option Found) → is_to_be_searched es (step_in d s) ≡ true → IsFoundFor (book kinds text d) place mode allowed es (step_in d s) o → Becomes (step_in d (with_found d.contents s o))
+    step_searched : (o : Option Found) → is_to_be_searched es (step_in d s) ≡ true → IsFoundFor (book kinds text d) place mode allowed es (step_in d s) o
+        → Becomes (step_in d (with_found d.contents s o))
     step_searched None t h = IsSearched.none t h.found
     step_searched (Some found) t h = step_found found t h
 
@@ -137,14 +137,16 @@ pub all_more : {X : Type 0} (P : X → Type 0) (xs : List X) (x : X) → AllByRe
 all_more P [] x h k = (k, tt)
 all_more P (y ∷ xs) x h k = (h.0, all_more P xs x h.1 k)
 
-zip_next : {X Y : Type 0} (R : X → Y → Type 0) (xs : List X) (k : ℕ) (d : X) (ys : List Y) (y : Y) → k < length xs → AllZip R (take k xs) ys → R (get_or xs k d) y → AllZip R (take (suc k) xs) (ys ++ y ∷ [])
+zip_next : {X Y : Type 0} (R : X → Y → Type 0) (xs : List X) (k : ℕ) (d : X) (ys : List Y) (y : Y) → k < length xs → AllZip R (take k xs) ys → R (get_or xs k d) y
+    → AllZip R (take (suc k) xs) (ys ++ y ∷ [])
 zip_next R [] k d ys y l h r = absurd (omega (arith, l))
 zip_next R (x ∷ xs) zero d [] y l h r = (r, tt)
 zip_next R (x ∷ xs) zero d (z ∷ ys) y l h r = absurd h
 zip_next R (x ∷ xs) (suc k) d [] y l h r = absurd h
 zip_next R (x ∷ xs) (suc k) d (z ∷ ys) y l h r = (h.0, zip_next R xs k d ys y (omega (arith, l)) h.1 r)
 
-pub zip_more : {X Y : Type 0} (R : X → Y → Type 0) (xs : List X) (k : ℕ) (d : X) (ys : List Y) (y : Y) → k < length xs → AllZip R (take k xs) ys → R (get_or xs k d) y → AllZip R (take (k + 1) xs) (ys ++ y ∷ [])
+pub zip_more : {X Y : Type 0} (R : X → Y → Type 0) (xs : List X) (k : ℕ) (d : X) (ys : List Y) (y : Y) → k < length xs → AllZip R (take k xs) ys → R (get_or xs k d) y
+    → AllZip R (take (k + 1) xs) (ys ++ y ∷ [])
 zip_more R xs k d ys y l h r = rw add-one (zip_next R xs k d ys y l h r)
 
 -- so far
@@ -152,9 +154,11 @@ pub record FoundTo (d : Opened) (place : ℕ) (mode : DvMode) (allowed : List Pa
   pub sound : AllByRecursion (HasFound (IsSoundFound d)) found
   pub finds : (kinds : Kinds) (text : List ℕ) → IsOpened kinds text d → AllZip (FindsItem (book kinds text d) place mode allowed d es) items found
 
-pub found_more : (d : Opened) (place : ℕ) (mode : DvMode) (allowed : List Pair) (es : List WrittenStep) (items : List DraftItem) (k : ℕ) (i : DraftItem) (found new : List (Option Found)) (o : Option Found)
+pub found_more : (d : Opened) (place : ℕ) (mode : DvMode) (allowed : List Pair) (es : List WrittenStep) (items : List DraftItem) (k : ℕ) (i : DraftItem) (found new : List (Option Found))
+    (o : Option Found)
     → k < length items → i ≡ get_or items k i → FoundTo d place mode allowed es (take k items) found → HasFound (IsSoundFound d) o
-    → ((kinds : Kinds) (text : List ℕ) → IsOpened kinds text d → FindsItem (book kinds text d) place mode allowed d es i o) → new ≡ found ++ o ∷ [] → FoundTo d place mode allowed es (take (k + 1) items) new
+    → ((kinds : Kinds) (text : List ℕ) → IsOpened kinds text d → FindsItem (book kinds text d) place mode allowed d es i o) → new ≡ found ++ o ∷ []
+    → FoundTo d place mode allowed es (take (k + 1) items) new
 found_more d place mode allowed es items k i found new o l g h s f n = subst (FoundTo d place mode allowed es (take (k + 1) items)) (sym n) (record {
   sound = all_more (HasFound (IsSoundFound d)) found o h.sound s;
   finds = λ kinds text opened.
@@ -162,7 +166,8 @@ found_more d place mode allowed es items k i found new o l g h s f n = subst (Fo
       (subst (λ x. FindsItem (book kinds text d) place mode allowed d es x o) g (f kinds text opened));
 })
 
-pub item_found : (kinds : Kinds) (text : List ℕ) (d : Opened) (place : ℕ) (mode : DvMode) (allowed : List Pair) (es : List WrittenStep) (item : DraftItem) (s : DraftStep) (o : Option Found) → item ≡ draft.Step s
+pub item_found : (kinds : Kinds) (text : List ℕ) (d : Opened) (place : ℕ) (mode : DvMode) (allowed : List Pair) (es : List WrittenStep) (item : DraftItem) (s : DraftStep) (o : Option Found)
+    → item ≡ draft.Step s
     → IsSearchOf (book kinds text d) place mode allowed es (step_in d s) o → FindsItem (book kinds text d) place mode allowed d es item o
 item_found kinds text d place mode allowed es item s o e h = subst (λ i. FindsItem (book kinds text d) place mode allowed d es i o) (sym e) h
 
@@ -177,13 +182,16 @@ steps_are d (draft.Step s ∷ items) = ap (λ es. step_in d s ∷ es) (steps_are
 pub record IsPutTo (d : Opened) (items new : List DraftItem) (found : List (Option Found)) : Type 0 where
   pub new_is : new ≡ map (pair_with d.contents) (zip items found)
 
-pub put_to : (d : Opened) (c : Contents) (items vec new : List DraftItem) (found : List (Option Found)) → c ≡ d.contents → vec ≡ items → new ≡ map (pair_with c) (zip vec found) → IsPutTo d items new found
+pub put_to : (d : Opened) (c : Contents) (items vec new : List DraftItem) (found : List (Option Found)) → c ≡ d.contents → vec ≡ items → new ≡ map (pair_with c) (zip vec found)
+    → IsPutTo d items new found
 put_to d c items vec new found e f n = record { new_is = n ∙ ap (λ x. map (pair_with x) (zip vec found)) e ∙ ap (λ is. map (pair_with d.contents) (zip is found)) f }
 
-pub new_sound : (d : Opened) (items new : List DraftItem) (found : List (Option Found)) → IsPutTo d items new found → AreSound d items → AllByRecursion (HasFound (IsSoundFound d)) found → AreSound d new
+pub new_sound : (d : Opened) (items new : List DraftItem) (found : List (Option Found)) → IsPutTo d items new found → AreSound d items → AllByRecursion (HasFound (IsSoundFound d)) found
+    → AreSound d new
 new_sound d items new found p h k = subst (AreSound d) (sym p.new_is) (stay_sound d items found h k)
 
-pub new_searched : (kinds : Kinds) (text : List ℕ) (d : Opened) → IsOpened kinds text d → (place : ℕ) (mode : DvMode) (allowed : List Pair) (items slice new : List DraftItem) (found : List (Option Found)) → slice ≡ items
+pub new_searched : (kinds : Kinds) (text : List ℕ) (d : Opened) → IsOpened kinds text d
+    → (place : ℕ) (mode : DvMode) (allowed : List Pair) (items slice new : List DraftItem) (found : List (Option Found)) → slice ≡ items
     → IsPutTo d items new found → AllZip (FindsItem (book kinds text d) place mode allowed d (map (step_in d) (drafts_in slice))) slice found
     → AllZip (ItemIsSearched (book kinds text d) place mode allowed (steps_in (items_in d items))) (items_in d items) (items_in d new)
 new_searched kinds text d opened place mode allowed items slice new found e p h =

@@ -1,9 +1,10 @@
 -- What is looked for is what the definitions look for.
-use Rattle.std.specs.Prelude.{◌≡◌, ◌<◌, ◌+◌, ℕ, zero, suc, Bool, true, false, not, ◌&&◌, List, [], ◌∷◌, ◌++◌, length, map, take, filter_map, slice_get, slice_index_or, get_or, option_map, Option, Some, None, is_none, refl}
-use Rattle.std.specs.List.{list_all, AllByRecursion}
+use Rattle.std.specs.Prelude.{◌≡◌, ◌<◌, ◌+◌, ℕ, zero, suc, Bool, true, false, not, ◌&&◌, List, [], ◌∷◌}
+use Rattle.std.specs.Prelude.{◌++◌, length, map, take, filter_map, slice_get, slice_index_or, get_or, option_map, Option, Some, None, is_none, refl}
+use Rattle.std.specs.List.{list_all}
 use Rattle.std.specs.Option.{option_map_or, option_copied}
 use Rattle.std.specs.Borrow.{Bor}
-use Rattle.std.proofs.Common.{sym, ap, subst, ◌∙◌, arith, add-one}
+use Rattle.std.proofs.Common.{sym, ap, ◌∙◌}
 use Rattle.mm_base.specs.declared.tree.Tree.{Tree}
 use Rattle.mm_database.proofs.Lists.{filter_map_found, filter_map_none}
 use Rattle.mm_database.specs.Opened.{Opened}
@@ -12,8 +13,7 @@ use Rattle.sheet_text.specs.declared.sheet.Given.TheVariants as given
 use Rattle.written_model.specs.Found.{is_ground, is_ground_place, is_to_be_searched}
 use Rattle.written_model.specs.WrittenSteps.{WrittenStep, place_tree, trees}
 use Rattle.written_steps.specs.declared.draft.DraftStep.{DraftStep}
-use Rattle.written_steps.specs.Drafts.{refs, step_in}
-use Rattle.ref_search.specs.declared.wanted.Wanted.{Wanted}
+use Rattle.written_steps.specs.Drafts.{step_in}
 use Rattle.ref_search.specs.Placing.{IsClosed}
 use Rattle.ref_search.specs.Matching.{AreGround}
 use Rattle.ref_search.specs.Wholes.{IsWantedBy}
@@ -82,7 +82,8 @@ module _ (ds : List DraftStep) (s : DraftStep) (h : is_wanted (map is_ground_ste
 
   pub closed_is : IsClosed (wanted_by ds s)
   closed_is = record {
-    formula = and_right (not s.hyp && is_none s.reference) (is_ground s.tree) (and_left (not s.hyp && is_none s.reference && is_ground s.tree) (list_all (marked_place (map is_ground_step ds)) s.places) h);
+    formula = and_right (not s.hyp && is_none s.reference) (is_ground s.tree)
+        (and_left (not s.hyp && is_none s.reference && is_ground s.tree) (list_all (marked_place (map is_ground_step ds)) s.places) h);
     hyps = its_places.ground;
   }
 
@@ -95,7 +96,8 @@ module _ (ds : List DraftStep) (s : DraftStep) (h : is_wanted (map is_ground_ste
 
 -- ---- one place more
 
-pub hyp_more : (ds : List DraftStep) (gs : List Given) (k : ℕ) (g : Given) (hyps new : List Tree) (t u : Tree) → k < length gs → draft_tree ds (get_or gs k g) ≡ Some t → u ≡ t → hyps ≡ filter_map (draft_tree ds) (take k gs)
+pub hyp_more : (ds : List DraftStep) (gs : List Given) (k : ℕ) (g : Given) (hyps new : List Tree) (t u : Tree) → k < length gs → draft_tree ds (get_or gs k g) ≡ Some t → u ≡ t
+    → hyps ≡ filter_map (draft_tree ds) (take k gs)
     → new ≡ hyps ++ u ∷ [] → new ≡ filter_map (draft_tree ds) (take (k + 1) gs)
 hyp_more ds gs k g hyps new t u l e c h n = n ∙ ap (λ ts. ts ++ u ∷ []) h ∙ ap (λ x. filter_map (draft_tree ds) (take k gs) ++ x ∷ []) c ∙ sym (filter_map_found (draft_tree ds) gs k g l t e)
 

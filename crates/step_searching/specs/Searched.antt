@@ -1,6 +1,6 @@
 -- The search for the references of the steps of a draft.
-use Rattle.std.specs.Prelude.{◌≡◌, ◌<◌, ℕ, Bool, true, false, not, ◌&&◌, List, [], length, map, zip, filter_map, slice_get, slice_index_or, option_map, Option, Some, None, is_none}
-use Rattle.std.specs.List.{list_all, AllZip}
+use Rattle.std.specs.Prelude.{◌≡◌, ◌<◌, ℕ, Bool, true, false, not, ◌&&◌, List, [], length, map, filter_map, slice_get, slice_index_or, option_map, Option, Some, None, is_none}
+use Rattle.std.specs.List.{list_all}
 use Rattle.mm_base.specs.declared.kinds.Kinds.{Kinds}
 use Rattle.mm_base.specs.declared.symbols.Pair.{Pair}
 use Rattle.mm_base.specs.declared.tree.Tree.{Tree}
@@ -16,10 +16,9 @@ use Rattle.written_model.specs.WrittenSteps.{WrittenStep, WrittenItem, comment, 
 use Rattle.written_steps.specs.declared.draft.DraftStep.{DraftStep}
 use Rattle.written_steps.specs.declared.draft.DraftItem.{DraftItem}
 use Rattle.written_steps.specs.declared.draft.DraftItem.TheVariants as draft
-use Rattle.written_steps.specs.Drafts.{IsSoundUse, item_in, step_in}
+use Rattle.written_steps.specs.Drafts.{IsSoundUse, step_in}
 use Rattle.ref_search.specs.declared.wanted.Wanted.{Wanted}
 use Rattle.ref_search.specs.declared.wanted.Found.{Found}
-use Rattle.ref_search.specs.Searching.{HasFound}
 use Rattle.ref_search.specs.Wholes.{IsFoundFor}
 
 -- the database is opened from some text

@@ -192,5 +192,14 @@ pub fn find_all(
 {
     let steps = draft_steps(alloc, items)?;
     let marks = ground_marks(alloc, steps.as_slice())?;
-    find_each(alloc, db, place, mode, given, steps.as_slice(), marks.as_slice(), items)
+    find_each(
+        alloc,
+        db,
+        place,
+        mode,
+        given,
+        steps.as_slice(),
+        marks.as_slice(),
+        items,
+    )
 }

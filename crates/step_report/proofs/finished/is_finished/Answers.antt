@@ -11,6 +11,7 @@ are_done-requires-clause-sound c =
 
 pub returns : goal.returns
 returns c =
-    finished_is c.args.db.now c.args.items.now c.as_slice.result.now c.as_slice-2.result.now c.as_slice-3.result.now c.args.report.now c.in_ok-marks.marks.items c.as_slice-4.result.now c.are_done.result
+    finished_is c.args.db.now c.args.items.now c.as_slice.result.now c.as_slice-2.result.now c.as_slice-3.result.now c.args.report.now c.in_ok-marks.marks.items c.as_slice-4.result.now
+    c.are_done.result
     (ap refs c.as_slice.ensures.value ∙ c.in_ok-steps.ensures) (ap refs c.as_slice-2.ensures.value ∙ c.in_ok-steps.ensures) c.as_slice-3.ensures c.as_slice-4.ensures.value
     (c.in_ok-marks.ensures.marked c.args.db.now) c.are_done.ensures

@@ -12,6 +12,7 @@ returns-clause-sound c =
 pub returns-clause-searched : goal.returns-clause-searched
 returns-clause-searched c =
     IfOk-weaker c.with_found.result _ _
-    (λ new h kinds text opened. new_searched kinds text c.args.db.now opened c.args.place c.args.mode c.args.given.now c.args.items c.as_slice.result.now new c.in_ok-found.found.items c.as_slice.ensures
+    (λ new h kinds text opened.
+    new_searched kinds text c.args.db.now opened c.args.place c.args.mode c.args.given.now c.args.items c.as_slice.result.now new c.in_ok-found.found.items c.as_slice.ensures
     (put_to c.args.db.now c.frames.result.now c.args.items c.into_vec.result.items new c.in_ok-found.found.items c.frames.ensures c.into_vec.ensures h)
     (c.in_ok-found.ensures.searched kinds text opened)) c.with_found.ensures

@@ -1,6 +1,5 @@
 use Rattle.std.proofs.Common.{◌≡◌, sym, ap, subst, ◌∙◌, map, true, refl}
 use Rattle.std.proofs.lemmas.Result.{IfOk-weaker}
-use Rattle.written_model.specs.Found.{is_to_be_searched}
 use Rattle.written_steps.specs.Drafts.{refs, step_in}
 use Rattle.ref_search.specs.Placing.{IsClosed}
 use Rattle.ref_search.specs.Wholes.{IsWantedBy}

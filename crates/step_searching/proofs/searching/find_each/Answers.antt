@@ -16,5 +16,6 @@ loop-item-preserved c =
 pub returns-clause-searched : goal.returns-clause-searched
 returns-clause-searched c = λ kinds text opened.
     subst
-    (λ items. AllZip (FindsItem (book kinds text c.args.db.now) c.args.place c.args.mode c.args.given.now c.args.db.now (map (step_in c.args.db.now) (refs c.args.steps.now))) items c.loop-item.found.items)
+    (λ items. AllZip (FindsItem (book kinds text c.args.db.now) c.args.place c.args.mode c.args.given.now c.args.db.now (map (step_in c.args.db.now) (refs c.args.steps.now)))
+    items c.loop-item.found.items)
     (take_all c.loop-item.item-index c.args.items.now c.loop-item-test.false) (c.loop-item.invariant.finds kinds text opened)

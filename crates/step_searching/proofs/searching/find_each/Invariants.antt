@@ -1,8 +1,5 @@
 use Rattle.std.proofs.Common.{take, map}
-use Rattle.std.specs.List.{AllByRecursion, AllZip}
 use Rattle.written_steps.specs.Drafts.{refs, step_in}
-use Rattle.ref_search.specs.Searching.{ForEachText, HasFound}
-use Rattle.step_searching.specs.Searched.{FindsItem, IsSoundFound}
 use Rattle.step_searching.proofs.FindLaws.{FoundTo}
 use Rattle.step_searching.proofs.searching.find_each.Given as goal
 

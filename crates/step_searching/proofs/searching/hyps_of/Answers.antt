@@ -1,4 +1,4 @@
-use Rattle.std.proofs.Common.{◌≡◌, ◌∙◌, ap, sym}
+use Rattle.std.proofs.Common.{◌∙◌, ap, sym}
 use Rattle.std.specs.Option.{option_copied}
 use Rattle.written_steps.specs.Drafts.{refs}
 use Rattle.step_searching.proofs.WantedLaws.{hyp_more, hyp_same, copied_none}
