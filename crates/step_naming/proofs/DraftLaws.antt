@@ -1,5 +1,6 @@
 -- A draft with named leaves is the named draft of the definitions.
 use Rattle.std.specs.Prelude.{◌≡◌, ◌+◌, ◌<◌, ℕ, List, [], ◌∷◌, ◌++◌, length, map, take, get_or, Option, Some, None, option_map, option_and_then, option_to_list, refl}
+use Rattle.std.specs.List.{AllByRecursion}
 use Rattle.std.specs.Option.{ForSome}
 use Rattle.std.proofs.Common.{sym, ap, subst, ◌∙◌}
 use Rattle.std.proofs.lemmas.List.{append-nil, length-map}
@@ -8,6 +9,7 @@ use Rattle.mm_database.specs.Opened.{Opened}
 use Rattle.mm_database.proofs.Lists.{filter_map_found, filter_map_none, map_more}
 use Rattle.mm_model.specs.Book.{Assertion, Database}
 use Rattle.solve_model.specs.declared.bound.Bound.{Bound}
+use Rattle.solve_laws.proofs.Elements.{first, later}
 use Rattle.written_model.specs.WrittenSteps.{Use, WrittenStep, WrittenItem, step, over_step, steps_in, trees}
 use Rattle.written_model.specs.Named.{Naming, name_tree, name_use, name_step, name_items}
 use Rattle.writing_laws.specs.TokenCounts.{NamedHasCount}
@@ -19,7 +21,7 @@ use Rattle.written_steps.specs.declared.draft.DraftStep.{DraftStep}
 use Rattle.written_steps.specs.declared.draft.DraftItem.{DraftItem}
 use Rattle.written_steps.specs.declared.draft.DraftItem.TheVariants as draft
 use Rattle.written_steps.specs.Drafts.{book, usable_in, use_in, item_in, items_in, IsSoundUse, IsSoundItem, AreSound}
-use Rattle.step_naming.specs.Named.{rename_use, rename_item, tree_of, formulas, NamesThem, AreWrittenShort, AreNamed}
+use Rattle.step_naming.specs.Named.{rename_use, rename_item, tree_of, formulas, HasSmallLeaves, AreSmallLeaves, NamesThem, AreWrittenShort, AreNamed}
 use Rattle.step_naming.proofs.ShortLaws.{named_short}
 
 -- ---- one more
@@ -42,6 +44,15 @@ pub trees_are : (d : Opened) (items : List DraftItem) → trees (steps_in (items
 trees_are d [] = refl
 trees_are d (draft.Comment lines ∷ items) = trees_are d items
 trees_are d (draft.Step s ∷ items) = ap (λ ts. s.tree ∷ ts) (trees_are d items)
+
+-- the leaves of each are small where all are
+pub each_small : (items : List DraftItem) → AreSmallLeaves (formulas items) → AllByRecursion HasSmallLeaves items
+each_small [] h = tt
+each_small (draft.Comment lines ∷ items) h = (tt, each_small items h)
+each_small (draft.Step s ∷ items) h = (
+  (λ c n o. h c n (s.tree, first s.tree s.tree (formulas items) refl, o)),
+  each_small items (λ c n l. h c n (l.0, later l.0 s.tree (formulas items) l.1, l.2)),
+)
 
 -- ---- items
 

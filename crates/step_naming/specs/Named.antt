@@ -8,7 +8,7 @@ use Rattle.mm_database.specs.Opened.{Opened, IsOpened}
 use Rattle.solve_model.specs.declared.bound.Bound.{Bound}
 use Rattle.solve_model.specs.Trees.{fresh, Occurs}
 use Rattle.written_model.specs.WrittenSteps.{WrittenStep, WrittenItem, steps_in, trees}
-use Rattle.written_model.specs.Named.{Naming, IsNaming, name_tree, name_items}
+use Rattle.written_model.specs.Named.{Naming, IsNaming, IsWrittenLeaf, name_tree, name_items}
 use Rattle.writing_laws.specs.HasNames.{IsWritable}
 use Rattle.writing_laws.specs.HasLong.{AreShort}
 use Rattle.again_laws.specs.Second.{NumbersFit}
@@ -44,6 +44,10 @@ formulas items = filter_map tree_of items
 abbrev pub HasSmallLeaves : DraftItem → Type 0
 HasSmallLeaves (draft.Comment lines) = Unit {0}
 HasSmallLeaves (draft.Step s) = (c : Typecode) (n : ℕ) → Occurs (fresh c n) s.tree → n < 2 ^ 31
+
+-- the numbers of the fresh leaves of these trees are small
+abbrev pub AreSmallLeaves : List Tree → Type 0
+AreSmallLeaves ts = (c : Typecode) (n : ℕ) → IsWrittenLeaf ts c n → n < 2 ^ 31
 
 -- ---- what naming answers
 

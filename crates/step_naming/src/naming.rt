@@ -3,9 +3,11 @@ ghost use Rattle.std.specs.List.{AllByRecursion};
 ghost use Rattle.mm_base.specs.declared.tree.Tree.{Tree};
 ghost use Rattle.mm_database.specs.Opened.{Opened};
 ghost use Rattle.solve_model.specs.declared.bound.Bound.{Bound};
+ghost use Rattle.written_model.specs.WrittenSteps.{steps_in, trees};
+ghost use Rattle.written_steps.specs.Drafts.{items_in};
 ghost use Rattle.leaf_names.specs.Named.{IsNamesOf};
 ghost use Rattle.leaf_names.specs.Tables.{read_leaves};
-ghost use Rattle.step_naming.specs.Named.{tree_of, formulas, HasSmallLeaves, AreNamed};
+ghost use Rattle.step_naming.specs.Named.{tree_of, formulas, HasSmallLeaves, AreSmallLeaves, AreNamed};
 
 use crate::renaming::renamed;
 use leaf_names::{Names, names_are_naming};
@@ -61,7 +63,7 @@ pub fn name_items(
 ) -> Result<List<DraftItem>, Memory>
     requires symbols { length db.now.contents.symbols ≤ 2 ^ 28 }
     requires read { length (read_leaves db.now.rows bound.now) ≤ 2 ^ 28 }
-    requires small { AllByRecursion HasSmallLeaves items }
+    requires small { AreSmallLeaves (trees (steps_in (items_in db.now items))) }
     ensures { IfOk result (AreNamed db.now bound.now items) }
 {
     names_are_naming();
