@@ -26,7 +26,7 @@ use Rattle.ref_search.specs.declared.wanted.Found.{Found}
 use Rattle.ref_search.specs.Matching.{valued_by}
 use Rattle.ref_search.specs.Completing.{lack_in, use_of}
 use Rattle.ref_search.specs.Placing.{trees_at, orders_of}
-use Rattle.ref_search.specs.Searching.{book, FitsAs, FitsLabel, IsFirstBelow, ForEachText}
+use Rattle.ref_search.specs.Searching.{book, FitsAs, FitsLabel, IsFirstBelow, ForEachText, HasFound, IsSoundBelow}
 use Rattle.ref_search.specs.Wholes.{IsWantedBy, IsAllowed, places_at, choice_of, IsFoundFor, IsAnswer}
 use Rattle.ref_search.proofs.Lists.{same_number}
 use Rattle.ref_search.proofs.PlaceLaws.{append_none, append_some, all_none, cons_head, cons_tail}
@@ -261,3 +261,15 @@ answer_of d place bound w allowed count first (Ok o) h = λ kinds text mode pair
     let both = first l (omega (arith, k, labels)) in
     (λ x. subst (λ (c : Contents). slice_index_or c.positions l 0 < place) opened.contents (both.0 x), λ x. both.1 (subst (λ (c : Contents). slice_index_or c.positions l 0 < place) (sym opened.contents) x)))
     o (h kinds text opened)
+
+-- ---- what is found is sound
+
+raised : (d : Opened) (bound n : ℕ) (o : Option Found) → bound ≤ n → HasFound (IsSoundBelow d bound) o → HasFound (IsSoundBelow d n) o
+raised d bound n None l h = tt
+raised d bound n (Some f) l h = let below = h.below in record { below = omega (arith, l, below); by = h.by }
+
+pub sound_of : (d : Opened) (place bound : ℕ) → bound ≡ labels_before d place → (o : Option Found) → HasFound (IsSoundBelow d bound) o → HasFound (IsSoundBelow d (length d.contents.labels)) o
+sound_of d place bound count o h =
+    let less = count_by-le-length (λ l. nat_lt (slice_index_or d.contents.positions l 0) place) (range_with_len 0 (length d.contents.labels)) in
+    let many = range_count 0 (length d.contents.labels) in
+    raised d bound (length d.contents.labels) o (omega (arith, count, less, many)) h

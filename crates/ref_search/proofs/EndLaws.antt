@@ -1,17 +1,17 @@
 -- Where the values of a frame's variables are taken, and where there are none.
-use Rattle.std.proofs.Common.{◌≡◌, Bool, true, false, List, Option, Some, None, option_map, is_some, refl, sym, ap, subst, ◌∙◌}
+use Rattle.std.proofs.Common.{◌≡◌, ℕ, suc, length, [], ◌∷◌, Bool, true, false, List, Option, Some, None, option_map, is_some, refl, sym, ap, subst, ◌∙◌}
 use Rattle.mm_base.specs.declared.symbols.Sym.{Sym}
 use Rattle.mm_base.specs.declared.symbols.Pair.{Pair}
 use Rattle.mm_base.specs.declared.tree.Tree.{Tree}
 use Rattle.mm_model.specs.declared.frames.Frame.{Frame}
-use Rattle.mm_model.specs.Productions.{typed_variables}
+use Rattle.mm_model.specs.Productions.{TypedVariable, typed_variables}
 use Rattle.mm_model.specs.Book.{Assertion}
 use Rattle.solve_laws.specs.PairSetLaws.{PairSetHoldsSame}
 use Rattle.written_model.specs.WrittenSteps.{Use}
 use Rattle.written_model.specs.Pairs.{clash_of}
 use Rattle.distinct_vars.specs.Uses.{IsUseOf}
 use Rattle.ref_search.specs.Matching.{Binding, AreBound}
-use Rattle.ref_search.specs.Completing.{values_for, lack_in, use_of, IsRule, Ends}
+use Rattle.ref_search.specs.Completing.{value_for, values_for, with_value, lack_in, use_of, IsRule, Ends}
 use Rattle.ref_search.proofs.ValueLaws.{values_exist, same_or_none, values_agree, value_codes}
 use Rattle.ref_search.proofs.PairLaws.{clash_none, lack_none}
 
@@ -70,3 +70,14 @@ module _ (a : Assertion) (given : Option (List Pair)) (bs : List Binding) (frame
 pub not_some : {X : Type 0} (o : Option X) → ((x : X) → o ≡ Some x → ⊥) → o ≡ None
 not_some None h = refl
 not_some (Some x) h = absurd (h x refl)
+
+-- ---- their number
+
+one_more : (o : Option Tree) (p : Option (List Tree)) (n : ℕ) (ts : List Tree) → ((us : List Tree) → p ≡ Some us → length us ≡ n) → with_value o p ≡ Some ts → length ts ≡ suc n
+one_more None p n ts h e = absurd (cc)
+one_more (Some t) None n ts h e = absurd (cc)
+one_more (Some t) (Some us) n ts h e = let same : t ∷ us ≡ ts = cc in ap length (sym same) ∙ ap (λ k. suc k) (h us refl)
+
+pub count_values : (bs : List Binding) (vs : List TypedVariable) (ts : List Tree) → values_for bs vs ≡ Some ts → length ts ≡ length vs
+count_values bs [] ts e = let same : [] ≡ ts = cc in ap length (sym same)
+count_values bs (v ∷ vs) ts e = one_more (value_for bs v) (values_for bs vs) (length vs) ts (λ us h. count_values bs vs us h) e

@@ -5,7 +5,8 @@ use Rattle.std.proofs.lemmas.List.{length-map}
 use Rattle.std.specs.List.{AllByRecursion, flat_map, range_with_len}
 use Rattle.std.specs.Option.{option_copied}
 use Rattle.std.specs.Borrow.{Bor}
-use Rattle.mm_frames.specs.Contents.{contents_of}
+use Rattle.mm_frames.specs.Contents.{Contents, contents_of, frame_at}
+use Rattle.mm_frames.proofs.Queries.{frame-is}
 use Rattle.mm_base.specs.declared.errors.Memory.{Memory}
 use Rattle.mm_base.specs.declared.kinds.Kinds.{Kinds}
 use Rattle.mm_base.specs.declared.symbols.Sym.{Sym}
@@ -34,8 +35,8 @@ use Rattle.ref_search.specs.declared.placing.Fit.{Fit}
 use Rattle.ref_search.specs.declared.wanted.Wanted.{Wanted}
 use Rattle.ref_search.specs.Matching.{valued_by, Becomes, NeverBecomes}
 use Rattle.ref_search.specs.Completing.{use_of, IsRule}
-use Rattle.ref_search.specs.Placing.{trees_at, orders_of, FitsWanted, CanFit, HasValues, IsFitOf}
-use Rattle.ref_search.specs.Searching.{book, FitsAs, FitsLabel, NoFit, IsLabelFit, ForEachText, head_of, layer_head}
+use Rattle.ref_search.specs.Placing.{trees_at, orders_of, FitsWanted, CanFit, HasAll, HasValues, IsFitOf}
+use Rattle.ref_search.specs.Searching.{book, FitsAs, FitsLabel, NoFit, IsLabelFit, IsSoundUse, ForEachText, head_of, layer_head}
 use Rattle.ref_search.proofs.Lists.{labels_part}
 use Rattle.ref_search.proofs.MatchLaws.{node_value}
 use Rattle.ref_search.proofs.PlaceLaws.{all_none, cons_head, cons_tail}
@@ -215,3 +216,17 @@ frame_some whole d given w l p kept f g some told vars tree hyps v t h (Err m) k
 frame_some whole d given w l p kept f g some told vars tree hyps v t h (Ok o) k = λ kinds text opened.
     let frame : frame_of (statements text) l ≡ Some g.now = sym (told text opened.contents) ∙ ap option_copied some in
     label_fit kinds text d opened given w l g.now p frame kept o (k (assertion_of l g.now p) (rule_of kinds text d opened given w l g.now p frame kept whole vars v) (sym t) (sym h))
+
+-- ---- the frame of a label, and the use that fits
+
+pub told : (d : Opened) (l : Label) (c : Contents) (f : Option Frame) → c ≡ d.contents → f ≡ frame_at c l → (text : List ℕ) → d.contents ≡ contents_of text → f ≡ frame_of (statements text) l
+told d l c f same is text e = is ∙ frame-is c l text (same ∙ e)
+
+pub label_sound : (d : Opened) (l : Label) (f : Frame) (p : Parsed) (o : Option Fit) → frame_at d.contents l ≡ Some f → parsed_at d.parsed l ≡ Some p → HasAll f o
+    → HasValues (λ (fit : Fit). IsSoundUse d l fit.trees) o
+label_sound d l f p None e k h = tt
+label_sound d l f p (Some fit) e k h = record {
+  assertion = assertion_of l f p;
+  is_usable = ap (usable_with d.parsed l) e ∙ usable_some d.parsed l f p k;
+  count = h;
+}

@@ -1,5 +1,5 @@
 -- The values of a frame's variables, where all of its trees became given ones.
-use Rattle.std.specs.Prelude.{◌≡◌, List, [], ◌∷◌, map, slice_get, if◌then◌else◌, Option, Some, None, option_map}
+use Rattle.std.specs.Prelude.{◌≡◌, ℕ, length, List, [], ◌∷◌, map, slice_get, if◌then◌else◌, Option, Some, None, option_map}
 use Rattle.mm_base.specs.declared.symbols.Sym.{Sym}
 use Rattle.mm_base.specs.declared.symbols.Pair.{Pair}
 use Rattle.mm_base.specs.declared.symbols.Typecode.{Typecode}
@@ -64,6 +64,11 @@ pub record Ends (a : Assertion) (given : Option (List Pair)) (bs : List Binding)
 pub record Completes (a : Assertion) (given : Option (List Pair)) (bs : List Binding) (hyps trees : List Tree) (values : List Tree) : Type 0 where
   pub ends : Ends a given bs values
   pub hyps_are : map (valued_by (value_of (use_of a values))) hyps ≡ trees
+
+-- so many values
+abbrev pub HasCount : ℕ → Option (List Tree) → Type 0
+HasCount n None = Unit {0}
+HasCount n (Some values) = length values ≡ n
 
 -- values that do, or that there are none
 abbrev pub IsEnd : Assertion → Option (List Pair) → List Binding → Option (List Tree) → Type 0

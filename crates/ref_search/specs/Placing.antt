@@ -5,6 +5,7 @@ use Rattle.mm_base.specs.declared.symbols.Sym.{Sym}
 use Rattle.mm_base.specs.declared.symbols.Pair.{Pair}
 use Rattle.mm_base.specs.declared.tree.Tree.{Tree}
 use Rattle.mm_model.specs.declared.frames.Frame.{Frame}
+use Rattle.mm_model.specs.Productions.{typed_variables}
 use Rattle.mm_model.specs.Book.{Assertion}
 use Rattle.solve_model.specs.Firsts.{picks, orders, IsFirstOrNone}
 use Rattle.written_model.specs.Found.{is_ground}
@@ -33,6 +34,10 @@ pub record FirstFrom {X : Type 0} (P : X → Type 0) (some all : List X) : Type 
 abbrev pub HasValues : (Fit → Type 0) → Option Fit → Type 0
 HasValues P None = Unit {0}
 HasValues P (Some fit) = P fit
+
+-- each variable of the frame has a value
+abbrev pub HasAll : Frame → Option Fit → Type 0
+HasAll frame o = HasValues (λ fit. length fit.trees ≡ length (typed_variables frame.hyps)) o
 
 -- it is the first order in which they do, with such values; or there is none
 pub record IsFirstFit (a : Assertion) (given : Option (List Pair)) (bs : List Binding) (hyps wanted : List Tree) (all : List (List ℕ)) (o : Option Fit) : Type 0 where

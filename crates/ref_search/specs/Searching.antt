@@ -8,8 +8,9 @@ use Rattle.mm_base.specs.declared.tree.Tree.{Tree, out-Tree}
 use Rattle.mm_base.specs.declared.tree.Tree.TheOpen.{Tree-F}
 use Rattle.mm_model.specs.Book.{Database, Assertion}
 use Rattle.solve_model.specs.Firsts.{IsFirstOrNone}
+use Rattle.mm_frames.specs.Contents.{frame_at}
 use Rattle.mm_database.specs.declared.assertions.Parsed.{Parsed}
-use Rattle.mm_database.specs.Books.{parsed_at, database_of}
+use Rattle.mm_database.specs.Books.{parsed_at, usable_with, database_of}
 use Rattle.mm_database.specs.Opened.{Opened, IsOpened}
 use Rattle.ref_search.specs.declared.placing.Fit.{Fit}
 use Rattle.ref_search.specs.declared.wanted.Wanted.{Wanted}
@@ -54,6 +55,17 @@ HasFound P (Some found) = P found
 abbrev pub upto : ℕ → Option Found → ℕ
 upto bound None = bound
 upto bound (Some found) = found.label.0
+
+-- the label is that of a usable assertion, and each of its variables has a value
+pub record IsSoundUse (d : Opened) (l : Label) (values : List Tree) : Type 0 where
+  pub assertion : Assertion
+  pub is_usable : usable_with d.parsed l (frame_at d.contents l) ≡ Some assertion
+  pub count : length values ≡ length assertion.vars
+
+-- and it is below a bound
+pub record IsSoundBelow (d : Opened) (bound : ℕ) (found : Found) : Type 0 where
+  pub below : found.label.0 < bound
+  pub by : IsSoundUse d found.label found.trees
 
 abbrev pub as_fit : Found → Fit
 as_fit found = record { order = found.order; trees = found.trees }

@@ -1,4 +1,4 @@
-ghost use Rattle.std.specs.Prelude.{◌≡◌, ◌∷◌, List, Option, map, option_map, is_some, IfOk};
+ghost use Rattle.std.specs.Prelude.{◌≡◌, ◌∷◌, List, Option, map, option_map, length, is_some, IfOk};
 ghost use Rattle.std.specs.Option.{option_copied};
 ghost use Rattle.mm_base.specs.Trees as base;
 ghost use Rattle.mm_model.specs.Book.{Assertion};
@@ -6,7 +6,7 @@ ghost use Rattle.mm_model.specs.Productions.{TypedVariable, typed_variables};
 ghost use Rattle.written_model.specs.WrittenSteps.{Use};
 ghost use Rattle.distinct_vars.specs.Uses.{IsUseOf};
 ghost use Rattle.ref_search.specs.Matching.{AreBound, bound_to};
-ghost use Rattle.ref_search.specs.Completing.{variable_of as float_of, coded, values_for, lack_in, IsRule, IsEnd};
+ghost use Rattle.ref_search.specs.Completing.{variable_of as float_of, coded, values_for, lack_in, IsRule, IsEnd, HasCount};
 
 use crate::matching::bound;
 use distinct_vars::{clash, lacking, needed};
@@ -102,8 +102,9 @@ pub fn complete(
     bindings: &[(Sym, &Tree)],
     given: Option<&List<Pair>>,
 ) -> Result<Option<List<Tree>>, Memory>
-    ensures { IfOk result (λ o. (a : Assertion) → IsRule a frame.now vars.now → AreBound vars.now bindings.now
+    ensures end { IfOk result (λ o. (a : Assertion) → IsRule a frame.now vars.now → AreBound vars.now bindings.now
         → IsEnd a (option_copied given.entry) bindings.now o) }
+    ensures count { IfOk result (HasCount (length (typed_variables frame.now.hyps))) }
 {
     pair_sets_are_sorted();
     let Some(trees) = values(alloc, frame.hyps.as_slice(), bindings)? else {

@@ -6,7 +6,7 @@ ghost use Rattle.mm_model.specs.Book.{Assertion};
 ghost use Rattle.solve_model.specs.Firsts.{orders};
 ghost use Rattle.ref_search.specs.Matching.{AreBound, AreGround, AllBecome, IsLonger, IsMatched};
 ghost use Rattle.ref_search.specs.Completing.{IsRule};
-ghost use Rattle.ref_search.specs.Placing.{IsClosed, IsFirstFit, IsFitOf};
+ghost use Rattle.ref_search.specs.Placing.{IsClosed, IsFirstFit, IsFitOf, HasAll};
 
 use crate::completing::complete;
 use crate::matching::matches;
@@ -53,8 +53,9 @@ fn end(
     bindings: &[(Sym, &Tree)],
     given: Option<&List<Pair>>,
 ) -> Result<Option<Fit>, Memory>
-    ensures { IfOk result (λ o. (a : Assertion) (wanted : ListOf TreeOf) → IsRule a frame.now vars.now → AreBound vars.now bindings.now
+    ensures first { IfOk result (λ o. (a : Assertion) (wanted : ListOf TreeOf) → IsRule a frame.now vars.now → AreBound vars.now bindings.now
         → IsFirstFit a (option_copied given.entry) bindings.now [] wanted ([] ∷ []) o) }
+    ensures count { IfOk result (HasAll frame.now) }
 {
     match complete(alloc, frame, vars, bindings, given)? {
         None => Ok(None),
@@ -83,6 +84,7 @@ pub fn place<'w>(
     ensures longer { OnOk result (IsLonger bindings.old.items bindings.new.items) }
     ensures first { IfOk result (λ o. (a : Assertion) → IsRule a frame.now vars.now → AreBound vars.now bindings.old.items
         → IsFirstFit a (option_copied given.entry) bindings.old.items hyps.now wanted.now (orders (length hyps.now) places.now) o) }
+    ensures count { IfOk result (HasAll frame.now) }
 {
     let Some((first, others)) = hyps.split_first() else {
         return end(alloc, frame, vars, bindings.as_slice(), given);
@@ -145,8 +147,9 @@ fn listed<'w>(
     requires closed { AreGround wanted.now }
     requires count { length hyps.now ≡ length wanted.now }
     requires places { places.now ≡ range_with_len 0 (length wanted.now) }
-    ensures { IfOk result (λ o. (a : Assertion) → IsRule a frame.now vars.now → AreBound vars.now bindings.old.items
+    ensures first { IfOk result (λ o. (a : Assertion) → IsRule a frame.now vars.now → AreBound vars.now bindings.old.items
         → IsFirstFit a (option_copied given.entry) bindings.old.items hyps.now wanted.now (places.now ∷ []) o) }
+    ensures count { IfOk result (HasAll frame.now) }
 {
     if !match_all(vars.as_slice(), hyps, wanted, bindings)? {
         return Ok(None);
@@ -176,8 +179,9 @@ pub fn fit_to(
     requires closed { IsClosed wanted.now }
     requires count { length hyps.now ≡ length wanted.now.hyps }
     requires places { places.now ≡ range_with_len 0 (length wanted.now.hyps) }
-    ensures { IfOk result (λ o. (a : Assertion) → IsRule a frame.now vars.now → a.tree ≡ tree.now → a.hyps ≡ hyps.now
+    ensures fit { IfOk result (λ o. (a : Assertion) → IsRule a frame.now vars.now → a.tree ≡ tree.now → a.hyps ≡ hyps.now
         → IsFitOf a (option_copied given.entry) wanted.now o) }
+    ensures count { IfOk result (HasAll frame.now) }
 {
     if !may_become(tree, &wanted.formula) {
         return Ok(None);

@@ -2,8 +2,10 @@ ghost use Rattle.std.specs.Prelude.{◌≡◌, ◌<◌, length, IfOk};
 ghost use Rattle.std.specs.List.{AllByRecursion, range_with_len};
 ghost use Rattle.std.specs.Option.{option_copied};
 ghost use Rattle.mm_database.specs.ByHead.{by_head};
-ghost use Rattle.ref_search.specs.Placing.{IsClosed};
-ghost use Rattle.ref_search.specs.Searching.{ForEachText, IsCandidate, IsFirstAmong, IsFirstBelow, IsLabelFit, RiseFrom, head_of, upto};
+ghost use Rattle.mm_frames.specs.Contents.{frame_at};
+ghost use Rattle.ref_search.specs.declared.placing.Fit.{Fit as FitOf};
+ghost use Rattle.ref_search.specs.Placing.{HasValues, IsClosed};
+ghost use Rattle.ref_search.specs.Searching.{ForEachText, IsCandidate, IsFirstAmong, IsFirstBelow, IsLabelFit, IsSoundBelow, IsSoundUse, HasFound, RiseFrom, head_of, upto};
 ghost use Rattle.ref_search.specs.Wholes.{IsAnswer};
 
 use crate::placing::{Fit, fit_to};
@@ -11,8 +13,20 @@ use crate::wanted::{Found, Wanted};
 use hyp_order::first_order;
 use mm_base::{Label, List, Memory, Pair, Tree};
 use mm_database::Database;
+use mm_frames::Frames;
+use mm_model::Frame;
 use model_laws::frames_are_whole;
 use std::alloc::Global;
+
+/// The frame of a label; none where it is no assertion's.
+fn frame_of(frames: &Frames, label: Label) -> Option<&Frame>
+    ensures { option_copied result ≡ frame_at frames.now label }
+{
+    match frames.frames().get(label.0 as usize) {
+        None => None,
+        Some(frame) => frame.as_ref(),
+    }
+}
 
 /// The first order in which the assertion of a label fits.
 pub(crate) fn fit_label(
@@ -26,10 +40,11 @@ pub(crate) fn fit_label(
     requires closed { IsClosed wanted.now }
     requires candidate { IsCandidate db.now.parsed (length wanted.now.hyps) label }
     requires places { places.now ≡ range_with_len 0 (length wanted.now.hyps) }
-    ensures { IfOk result (λ o. ForEachText db.now (λ d. IsLabelFit d (option_copied given.entry) wanted.now label o)) }
+    ensures first { IfOk result (λ o. ForEachText db.now (λ d. IsLabelFit d (option_copied given.entry) wanted.now label o)) }
+    ensures sound { IfOk result (HasValues (λ (fit : FitOf). IsSoundUse db.now label fit.trees)) }
 {
     frames_are_whole();
-    match db.frames().frame(label) {
+    match frame_of(db.frames(), label) {
         None => Ok(None),
         Some(frame) => fit_to(
             alloc,
@@ -69,7 +84,8 @@ fn first_among(
     requires candidates { AllByRecursion (IsCandidate db.now.parsed (length wanted.now.hyps)) labels.now }
     requires rise { RiseFrom 0 labels.now }
     requires places { places.now ≡ range_with_len 0 (length wanted.now.hyps) }
-    ensures { IfOk result (λ o. ForEachText db.now (λ d. IsFirstAmong d (option_copied given.entry) wanted.now labels.now bound o)) }
+    ensures first { IfOk result (λ o. ForEachText db.now (λ d. IsFirstAmong d (option_copied given.entry) wanted.now labels.now bound o)) }
+    ensures sound { IfOk result (HasFound (IsSoundBelow db.now bound)) }
 {
     for label in labels {
         if label.0 >= bound {
@@ -95,8 +111,9 @@ fn first_at(
 ) -> Result<Option<Found>, Memory>
     requires closed { IsClosed wanted.now }
     requires places { places.now ≡ range_with_len 0 (length wanted.now.hyps) }
-    ensures { IfOk result (λ o. ForEachText db.now (λ d. IsFirstAmong d (option_copied given.entry) wanted.now
+    ensures first { IfOk result (λ o. ForEachText db.now (λ d. IsFirstAmong d (option_copied given.entry) wanted.now
         (by_head db.now.parsed head (length wanted.now.hyps)) bound o)) }
+    ensures sound { IfOk result (HasFound (IsSoundBelow db.now bound)) }
 {
     let count = wanted.hyps.as_slice().len();
     if count > u32::MAX as usize {
@@ -139,7 +156,8 @@ fn first_below(
 ) -> Result<Option<Found>, Memory>
     requires closed { IsClosed wanted.now }
     requires places { places.now ≡ range_with_len 0 (length wanted.now.hyps) }
-    ensures { IfOk result (λ o. ForEachText db.now (λ d. IsFirstBelow d (option_copied given.entry) wanted.now bound o)) }
+    ensures first { IfOk result (λ o. ForEachText db.now (λ d. IsFirstBelow d (option_copied given.entry) wanted.now bound o)) }
+    ensures sound { IfOk result (HasFound (IsSoundBelow db.now bound)) }
 {
     let early = first_at(alloc, db, None, bound, wanted, places, given)?;
     let Some(label) = head(&wanted.formula) else {
@@ -168,7 +186,8 @@ pub fn first(
     allowed: Option<&List<Pair>>,
 ) -> Result<Option<Found>, Memory>
     requires { IsClosed wanted.now }
-    ensures { IfOk result (IsAnswer db.now place wanted.now (option_copied allowed.entry)) }
+    ensures answer { IfOk result (IsAnswer db.now place wanted.now (option_copied allowed.entry)) }
+    ensures sound { IfOk result (HasFound (IsSoundBelow db.now (length db.now.contents.labels))) }
 {
     let count = wanted.hyps.as_slice().len();
     if count > u32::MAX as usize {

@@ -2,3 +2,4 @@ pub mod PairLaws
 pub mod ReportLaws
 pub mod MarkLaws
 pub mod DoneLaws
+pub mod GivenLaws

@@ -87,7 +87,7 @@ pub set_ordered : (ps qs : List Pair) → AreOrdered qs → AreOrdered ps → Ar
 set_ordered [] qs h o = h
 set_ordered (p ∷ ps) qs h o = set_ordered ps (put_pair qs p) (put_ordered qs p h o.0) o.1
 
-map_ordered : (qs : List (Sym × Sym)) → AreOrdered (map (λ (q : Sym × Sym). ordered q.0 q.1) qs)
+pub map_ordered : (qs : List (Sym × Sym)) → AreOrdered (map (λ (q : Sym × Sym). ordered q.0 q.1) qs)
 map_ordered [] = tt
 map_ordered (q ∷ qs) = (ordered_is q.0 q.1, map_ordered qs)
 

@@ -1,21 +1,13 @@
 -- What is found for the steps of a draft is what is found for the steps that are written.
-use Rattle.std.specs.Prelude.{◌≡◌, ◌<◌, ◌+◌, ℕ, zero, suc, true, List, [], ◌∷◌, ◌++◌, length, map, zip, take, slice_get, slice_index_or, get_or, option_map, option_and_then, Option, Some, None, refl}
-use Rattle.std.specs.List.{AllByRecursion, AllZip, range_with_len}
+use Rattle.std.specs.Prelude.{◌≡◌, ◌<◌, ◌+◌, ℕ, zero, suc, true, List, [], ◌∷◌, ◌++◌, length, map, zip, take, slice_index_or, get_or, option_map, Option, Some, None, refl}
+use Rattle.std.specs.List.{AllByRecursion, AllZip}
 use Rattle.std.proofs.Common.{sym, ap, subst, ◌∙◌, arith, add-one}
-use Rattle.std.proofs.lemmas.List.{length-map}
-use Rattle.std.proofs.lemmas.List.FromFn.{length-range_with_len}
-use Rattle.std.proofs.lemmas.Option.{slice_get_within}
 use Rattle.mm_base.specs.declared.kinds.Kinds.{Kinds}
 use Rattle.mm_base.specs.declared.symbols.Label.{Label}
 use Rattle.mm_base.specs.declared.symbols.Pair.{Pair}
-use Rattle.mm_base.specs.Trees.{code_of}
-use Rattle.mm_model.specs.declared.frames.Frame.{Frame}
-use Rattle.mm_model.specs.Names.{Name, label}
-use Rattle.mm_model.specs.Statements.{statements, labels}
-use Rattle.mm_model.specs.Frames.{frame_of}
-use Rattle.mm_model.specs.Productions.{TypedVariable}
+use Rattle.mm_model.specs.Names.{Name}
 use Rattle.mm_model.specs.Book.{Assertion, label_name}
-use Rattle.mm_frames.specs.Contents.{Contents, frame_at}
+use Rattle.mm_frames.specs.Contents.{Contents}
 use Rattle.mm_frames.proofs.Queries.{frame-is}
 use Rattle.mm_database.specs.Books.{usable_with}
 use Rattle.mm_database.specs.Opened.{Opened, IsOpened}
@@ -30,7 +22,7 @@ use Rattle.written_steps.specs.declared.draft.DraftItem.TheVariants as draft
 use Rattle.written_steps.specs.Drafts.{AreSound, IsSoundUse, drafts_in, items_in, step_in, usable_in, use_in}
 use Rattle.ref_search.specs.declared.wanted.Found.{Found}
 use Rattle.ref_search.specs.Completing.{use_of}
-use Rattle.ref_search.specs.Searching.{book, HasFound}
+use Rattle.ref_search.specs.Searching.{book, HasFound, IsSoundBelow}
 use Rattle.ref_search.specs.Wholes.{IsFoundFor, places_at}
 use Rattle.step_searching.specs.Searched.{FindsItem, IsSearchOf, passed, searched, IsSoundFound, ItemIsSearched, with_found, pair_with}
 use Rattle.step_searching.proofs.ApplyLaws.{IsWithin}
@@ -40,39 +32,15 @@ some_is e = cc
 
 -- ---- what is found is sound
 
+pub all_sound : (d : Opened) (o : Option Found) → HasFound (IsSoundBelow d (length d.contents.labels)) o → HasFound (IsSoundFound d) o
+all_sound d None h = tt
+all_sound d (Some found) h = record { within = h.below; by = record { assertion = h.by.assertion; is_usable = h.by.is_usable; count = h.by.count } }
+
+-- ---- what is found, in a text
+
 module _ (kinds : Kinds) (text : List ℕ) (d : Opened) (opened : IsOpened kinds text d) where
   usable_same : (l : Label) → usable_in d l ≡ (book kinds text d).usable l
   usable_same l = ap (usable_with d.parsed l) (frame-is d.contents l text opened.contents)
-
-  as_many : length d.contents.frames ≡ length d.contents.labels
-  as_many =
-      ap (λ (c : Contents). length c.frames) opened.contents ∙ length-map (range_with_len 0 (length (labels (statements text)))) (λ k. frame_of (statements text) (label k))
-      ∙ length-range_with_len 0 (length (labels (statements text))) ∙ sym (ap (λ (c : Contents). length c.labels) opened.contents)
-
-  has_frame : (l : Label) (a : Assertion) (f : Option Frame) → frame_at d.contents l ≡ f → usable_with d.parsed l f ≡ Some a → l.0 < length d.contents.frames
-  has_frame l a None e h = absurd (cc)
-  has_frame l a (Some f) e h = by (slice_get d.contents.frames l.0) refl e
-    where
-      by : (o : Option (Option Frame)) → slice_get d.contents.frames l.0 ≡ o → option_and_then (λ (x : Option Frame). x) (slice_get d.contents.frames l.0) ≡ Some f → l.0 < length d.contents.frames
-      by None s t = let bad : None ≡ Some f = sym (ap (option_and_then (λ (x : Option Frame). x)) s) ∙ t in absurd (cc)
-      by (Some x) s t = slice_get_within d.contents.frames l.0 x s
-
-  found_sound : (found : Found) (a : Assertion) → (book kinds text d).usable found.label ≡ Some a → map code_of found.trees ≡ map (λ (v : TypedVariable). v.code) a.vars → IsSoundFound d found
-  found_sound found a u codes =
-      let usable : usable_in d found.label ≡ Some a = usable_same found.label ∙ u in
-      record {
-        within = subst (λ n. found.label.0 < n) as_many (has_frame found.label a (frame_at d.contents found.label) refl usable);
-        by = record {
-          assertion = a;
-          is_usable = usable;
-          count = sym (length-map found.trees code_of) ∙ ap length codes ∙ length-map a.vars (λ (v : TypedVariable). v.code);
-        };
-      }
-
-  pub all_sound : (place : ℕ) (mode : DvMode) (allowed : List Pair) (es : List WrittenStep) (e : WrittenStep) (o : Option Found) → IsFoundFor (book kinds text d) place mode allowed es e o
-      → HasFound (IsSoundFound d) o
-  all_sound place mode allowed es e None h = tt
-  all_sound place mode allowed es e (Some found) h = found_sound found h.values.0 h.values.1.is_usable h.values.1.codes
 
   -- ---- a step becomes the searched one
 

@@ -1,12 +1,11 @@
 -- The search for the references of the steps of a draft.
 use Rattle.std.specs.Prelude.{◌≡◌, ◌<◌, ℕ, Bool, true, false, not, ◌&&◌, List, [], length, map, filter_map, slice_get, slice_index_or, option_map, Option, Some, None, is_none}
 use Rattle.std.specs.List.{list_all}
-use Rattle.mm_base.specs.declared.kinds.Kinds.{Kinds}
 use Rattle.mm_base.specs.declared.symbols.Pair.{Pair}
 use Rattle.mm_base.specs.declared.tree.Tree.{Tree}
 use Rattle.mm_model.specs.Book.{Database}
 use Rattle.mm_frames.specs.Contents.{Contents}
-use Rattle.mm_database.specs.Opened.{Opened, IsOpened}
+use Rattle.mm_database.specs.Opened.{Opened}
 use Rattle.sheet_text.specs.declared.sheet.Given.{Given}
 use Rattle.sheet_text.specs.declared.sheet.Given.TheVariants as given
 use Rattle.written_model.specs.declared.options.DvMode.{DvMode}
@@ -20,12 +19,6 @@ use Rattle.written_steps.specs.Drafts.{IsSoundUse, step_in}
 use Rattle.ref_search.specs.declared.wanted.Wanted.{Wanted}
 use Rattle.ref_search.specs.declared.wanted.Found.{Found}
 use Rattle.ref_search.specs.Wholes.{IsFoundFor}
-
--- the database is opened from some text
-pub record IsFromText (d : Opened) : Type 0 where
-  pub kinds : Kinds
-  pub text : List ℕ
-  pub opened : IsOpened kinds text d
 
 -- ---- what is looked for
 

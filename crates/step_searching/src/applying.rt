@@ -134,8 +134,7 @@ pub fn search_items(
     given: &List<Pair>,
     items: List<DraftItem>,
 ) -> Result<List<DraftItem>, Memory>
-    requires opened { spec.IsFromText db.now }
-    requires sound { AreSound db.now items }
+    requires { AreSound db.now items }
     ensures sound { IfOk result (AreSound db.now) }
     ensures searched { IfOk result (λ found. ForEachText db.now (λ d.
         AllZip (spec.ItemIsSearched d place mode given.now (steps_in (items_in db.now items))) (items_in db.now items) (items_in db.now found))) }

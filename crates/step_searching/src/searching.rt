@@ -122,8 +122,7 @@ fn find(
     marks: &[bool],
     step: &DraftStep,
 ) -> Result<Option<Found>, Memory>
-    requires opened { spec.IsFromText db.now }
-    requires marks { marks.now ≡ map spec.is_ground_step (refs steps.now) }
+    requires { marks.now ≡ map spec.is_ground_step (refs steps.now) }
     ensures sound { IfOk result (HasFound (spec.IsSoundFound db.now)) }
     ensures searched { IfOk result (λ o. ForEachText db.now (λ d. spec.IsSearchOf d place mode given.now (map (step_in db.now) (refs steps.now)) (step_in db.now step.now) o)) }
 {
@@ -144,8 +143,7 @@ fn find_item(
     marks: &[bool],
     item: &DraftItem,
 ) -> Result<Option<Found>, Memory>
-    requires opened { spec.IsFromText db.now }
-    requires marks { marks.now ≡ map spec.is_ground_step (refs steps.now) }
+    requires { marks.now ≡ map spec.is_ground_step (refs steps.now) }
     ensures sound { IfOk result (HasFound (spec.IsSoundFound db.now)) }
     ensures searched { IfOk result (λ o. ForEachText db.now (λ d. spec.FindsItem d place mode given.now db.now (map (step_in db.now) (refs steps.now)) item.now o)) }
 {
@@ -165,8 +163,7 @@ fn find_each(
     marks: &[bool],
     items: &[DraftItem],
 ) -> Result<Vec<Option<Found>>, Memory>
-    requires opened { spec.IsFromText db.now }
-    requires marks { marks.now ≡ map spec.is_ground_step (refs steps.now) }
+    requires { marks.now ≡ map spec.is_ground_step (refs steps.now) }
     ensures sound { IfOk result (λ found. AllByRecursion (HasFound (spec.IsSoundFound db.now)) found.items) }
     ensures searched { IfOk result (λ found. ForEachText db.now (λ d. AllZip (spec.FindsItem d place mode given.now db.now (map (step_in db.now) (refs steps.now))) items.now found.items)) }
 {
@@ -186,7 +183,6 @@ pub fn find_all(
     given: &List<Pair>,
     items: &[DraftItem],
 ) -> Result<Vec<Option<Found>>, Memory>
-    requires { spec.IsFromText db.now }
     ensures sound { IfOk result (λ found. AllByRecursion (HasFound (spec.IsSoundFound db.now)) found.items) }
     ensures searched { IfOk result (λ found. ForEachText db.now (λ d. AllZip (spec.FindsItem d place mode given.now db.now (map (step_in db.now) (drafts_in items.now))) items.now found.items)) }
 {

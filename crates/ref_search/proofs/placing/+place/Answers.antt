@@ -11,7 +11,7 @@ use Rattle.ref_search.proofs.placing.+place.Goals as goal
 pub returns-in_default-clause-first : goal.returns-in_default-clause-first
 returns-in_default-clause-first t c =
     end_placed c.args.frame.now c.args.vars.now (option_copied c.args.given) c.args.bindings.now.items c.as_slice.result.now c.args.hyps.now c.args.wanted.now c.args.places.now c.end.result
-    c.in_default.ensures.cases c.as_slice.ensures.value c.end.ensures
+    c.in_default.ensures.cases c.as_slice.ensures.value c.end.ensures.first
 
 pub loop-i-preserved-then-not-branch : goal.loop-i-preserved-then-not-branch
 loop-i-preserved-then-not-branch t c =

@@ -7,13 +7,13 @@ use Rattle.ref_search.specs.Matching.{NeverBecomes}
 use Rattle.ref_search.proofs.FitLaws.{other_shape, refused_fit, taken_fit, in_range, few_orders, many_orders, range_count}
 use Rattle.ref_search.proofs.placing.fit_to.Goals as goal
 
-pub returns-then-not-may_become : goal.returns-then-not-may_become
-returns-then-not-may_become c a rule tree hyps =
+pub returns-then-not-may_become-clause-fit : goal.returns-then-not-may_become-clause-fit
+returns-then-not-may_become-clause-fit c a rule tree hyps =
     other_shape a (option_copied c.args.given) c.args.wanted.now
     (subst (λ t. NeverBecomes t c.args.wanted.now.formula) (sym tree) (OnFalse_at c.if-not-may_become.true c.may_become.ensures))
 
-pub returns-then-not-branch : goal.returns-then-not-branch
-returns-then-not-branch c a rule tree hyps =
+pub returns-then-not-branch-clause-fit : goal.returns-then-not-branch-clause-fit
+returns-then-not-branch-clause-fit c a rule tree hyps =
     refused_fit (option_copied c.args.given) c.args.frame.now c.args.vars.now c.as_slice.result.now c.new-bindings.result.items c.matches.new.bindings.items c.args.tree.now c.args.hyps.now
     c.args.wanted.now c.in_ok-matches.field-0 c.new-bindings.ensures.items c.as_slice.ensures (c.in_ok-matches.ensures c.requires.closed.formula) c.if-not-branch.true a rule tree
 
@@ -23,8 +23,8 @@ place-requires-clause-inside c =
     (subst (λ ts. AllByRecursion (λ k. k < length ts) (range_with_len 0 (length c.args.wanted.now.hyps))) (sym c.as_slice-trees.ensures)
     (subst (λ n. AllByRecursion (λ k. k < n) (range_with_len 0 (length c.args.wanted.now.hyps))) (omega arith) (in_range 0 (length c.args.wanted.now.hyps))))
 
-pub returns-then-places-le-MOST_ORDERED : goal.returns-then-places-le-MOST_ORDERED
-returns-then-places-le-MOST_ORDERED c =
+pub returns-then-places-le-MOST_ORDERED-clause-fit : goal.returns-then-places-le-MOST_ORDERED-clause-fit
+returns-then-places-le-MOST_ORDERED-clause-fit c =
     let n = length c.args.wanted.now.hyps in
     let count : length c.args.places.now ≡ n = ap length c.requires.places ∙ range_count 0 n in
     let many : length c.as_slice-patterns.result.now ≡ n = ap length c.as_slice-patterns.ensures ∙ c.requires.count in
@@ -35,11 +35,11 @@ returns-then-places-le-MOST_ORDERED c =
     (ap (λ k. orders k c.args.places.now) many ∙ ap (orders n) c.requires.places ∙ sym (few_orders n (omega (arith, count, c.if-places-le-MOST_ORDERED.true)))) c.place.result
     c.place.ensures.first
 
-pub returns : goal.returns
-returns c =
+pub returns-clause-fit : goal.returns-clause-fit
+returns-clause-fit c =
     let n = length c.args.wanted.now.hyps in
     let count : length c.args.places.now ≡ n = ap length c.requires.places ∙ range_count 0 n in
     taken_fit (option_copied c.args.given) c.args.frame.now c.args.vars.now c.as_slice.result.now c.new-bindings.result.items c.matches.new.bindings.items c.args.tree.now c.args.hyps.now
     c.args.wanted.now c.in_ok-matches.field-0 c.new-bindings.ensures.items c.as_slice.ensures (c.in_ok-matches.ensures c.requires.closed.formula) c.if-not-branch.false
     c.as_slice-patterns.result.now c.as_slice-trees.result.now c.args.places.now (c.args.places.now ∷ []) c.as_slice-patterns.ensures c.as_slice-trees.ensures
-    (ap (λ ps. ps ∷ []) c.requires.places ∙ sym (many_orders n (omega (arith, count, c.if-places-le-MOST_ORDERED.false)))) c.listed.result c.listed.ensures
+    (ap (λ ps. ps ∷ []) c.requires.places ∙ sym (many_orders n (omega (arith, count, c.if-places-le-MOST_ORDERED.false)))) c.listed.result c.listed.ensures.first

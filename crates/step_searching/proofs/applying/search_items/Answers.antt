@@ -6,7 +6,7 @@ pub returns-clause-sound : goal.returns-clause-sound
 returns-clause-sound c =
     IfOk-weaker c.with_found.result _ _
     (λ new h. new_sound c.args.db.now c.args.items new c.in_ok-found.found.items
-    (put_to c.args.db.now c.frames.result.now c.args.items c.into_vec.result.items new c.in_ok-found.found.items c.frames.ensures c.into_vec.ensures h) c.requires.sound c.in_ok-found.ensures.sound)
+    (put_to c.args.db.now c.frames.result.now c.args.items c.into_vec.result.items new c.in_ok-found.found.items c.frames.ensures c.into_vec.ensures h) c.requires c.in_ok-found.ensures.sound)
     c.with_found.ensures
 
 pub returns-clause-searched : goal.returns-clause-searched
