@@ -1,0 +1,73 @@
+-- Lines that are put together are those of the definitions.
+use Rattle.std.specs.Prelude.{◌≡◌, ℕ, List, [], ◌∷◌, ◌++◌, map, flat_map, decimal, Bool, Option, Some, None, refl, codes}
+use Rattle.std.specs.List.{join_with_byte}
+use Rattle.std.proofs.Common.{sym, ap, ◌∙◌, append_assoc, append-nil}
+use Rattle.std.proofs.lemmas.Grind.{flat_map-append}
+use Rattle.fault_lines.specs.Refusals.{Refusal, at_line, too_much, formula_too_long, written_two_trees, too_much_written, proof_too_long, too_large}
+use Rattle.fault_lines.specs.FaultLines.{fault_name, refusal_line, sheet_faults}
+use Rattle.mm_base.specs.declared.symbols.Sym.{Sym}
+use Rattle.mm_base.specs.declared.symbols.Pair.{Pair}
+use Rattle.mm_model.specs.Book.{Database}
+use Rattle.mm_model.specs.Faults.{fault}
+use Rattle.mm_model.specs.Names.{Name}
+use Rattle.sheet_text.specs.Layout.{spaced}
+use Rattle.written_model.specs.declared.report.ReportLine.{ReportLine}
+use Rattle.written_model.specs.Report.{clash_words, lack_words, report_line, verdict_words, reference_words}
+use Rattle.sheet_unify.specs.Lines.{behind, clash_in, lack_in, words_in, report_text, error_text, place_text, number_text, step_text, formula_text}
+
+pub joined : (x : Name) (xs : List Name) → spaced (x ∷ xs) ≡ x ++ behind xs
+joined x [] = sym (append-nil x)
+joined x (y ∷ ys) = ap (λ t. x ++ (32 ∷ t)) (joined y ys)
+
+clash_is : (db : Database) (o : Option Sym) → clash_words db o ≡ clash_in db.symbols o
+clash_is db None = refl
+clash_is db (Some v) = refl
+
+lack_is : (db : Database) (o : Option Pair) → lack_words db o ≡ lack_in db.symbols o
+lack_is db None = refl
+lack_is db (Some p) = refl
+
+-- a line of a report
+pub report_is : (db : Database) (r : ReportLine) → report_line db r ≡ report_text db.symbols r
+report_is db r =
+    joined r.name (((verdict_words r.verdict ++ reference_words r.verdict r.reference) ++ clash_words db r.clash) ++ lack_words db r.lack)
+    ∙ ap (λ xs. r.name ++ behind (((verdict_words r.verdict ++ reference_words r.verdict r.reference) ++ xs) ++ lack_words db r.lack)) (clash_is db r.clash)
+    ∙ ap (λ xs. r.name ++ behind (((verdict_words r.verdict ++ reference_words r.verdict r.reference) ++ clash_in db.symbols r.clash) ++ xs)) (lack_is db r.lack)
+
+pub reports_are : (db : Database) (rs : List ReportLine) → map (report_line db) rs ≡ map (report_text db.symbols) rs
+reports_are db [] = refl
+reports_are db (r ∷ rs) = ap (λ x. x ∷ map (report_line db) rs) (report_is db r) ∙ ap (λ xs. report_text db.symbols r ∷ xs) (reports_are db rs)
+
+behind-append : (xs ys : List Name) → behind (xs ++ ys) ≡ behind xs ++ behind ys
+behind-append xs ys = flat_map-append (λ (w : Name). 32 ∷ w) xs ys
+
+-- five parts, each put in behind the others
+pub parts_are : (symbols : List Name) (r : ReportLine) (a b c d e : List ℕ) → a ≡ r.name → b ≡ a ++ behind (verdict_words r.verdict) → c ≡ b ++ behind (reference_words r.verdict r.reference)
+    → d ≡ c ++ behind (clash_in symbols r.clash) → e ≡ d ++ behind (lack_in symbols r.lack) → e ≡ report_text symbols r
+parts_are symbols r a b c d e g h i j k = k ∙ ap (λ x. x ++ L) (j ∙ ap (λ x. x ++ C) (i ∙ ap (λ x. x ++ R) (h ∙ ap (λ x. x ++ V) g))) ∙ sym whole
+  where
+    V : List ℕ
+    V = behind (verdict_words r.verdict)
+    R : List ℕ
+    R = behind (reference_words r.verdict r.reference)
+    C : List ℕ
+    C = behind (clash_in symbols r.clash)
+    L : List ℕ
+    L = behind (lack_in symbols r.lack)
+    split : behind (words_in symbols r) ≡ ((V ++ R) ++ C) ++ L
+    split = behind-append ((verdict_words r.verdict ++ reference_words r.verdict r.reference) ++ clash_in symbols r.clash) (lack_in symbols r.lack)
+        ∙ ap (λ x. x ++ L) (behind-append (verdict_words r.verdict ++ reference_words r.verdict r.reference) (clash_in symbols r.clash)
+        ∙ ap (λ x. x ++ C) (behind-append (verdict_words r.verdict) (reference_words r.verdict r.reference)))
+    whole : report_text symbols r ≡ (((r.name ++ V) ++ R) ++ C) ++ L
+    whole = ap (λ x. r.name ++ x) split ∙ sym (append_assoc r.name ((V ++ R) ++ C) L ∙ ap (λ x. r.name ++ x) refl) ∙ ap (λ x. x ++ L) (sym (append_assoc r.name (V ++ R) C)) ∙ ap (λ x. (x ++ C) ++ L) (sym (append_assoc r.name V R))
+
+-- ---- faults
+
+pub place_is : (code place : ℕ) (words : List ℕ) → 32 ∷ words ≡ behind (decimal code ∷ fault_name sheet_faults code ∷ []) → refusal_line (at_line (fault place code)) ≡ place_text words place
+place_is code place words e = at (decimal code) (fault_name sheet_faults code) (decimal place) e
+  where
+    at : (c n p : List ℕ) → 32 ∷ words ≡ behind (c ∷ n ∷ []) → spaced (codes "sheet" ∷ codes "error" ∷ c ∷ n ∷ codes "at" ∷ codes "line" ∷ p ∷ []) ≡ ((codes "sheet error" ++ 32 ∷ words) ++ codes " at line") ++ 32 ∷ p
+    at c n p e = ap (λ x. codes "sheet error" ++ x) (lines c n p) ∙ ap (λ x. ((codes "sheet error" ++ x) ++ codes " at line") ++ 32 ∷ p) (sym e)
+      where
+        lines : (c n p : List ℕ) → 32 ∷ (c ++ 32 ∷ (n ++ (codes " at line " ++ p))) ≡ (behind (c ∷ n ∷ []) ++ codes " at line") ++ 32 ∷ p
+        lines c n p = simp (append_assoc, append-nil) refl

@@ -1,0 +1,48 @@
+-- Lines as they are put together: a first word, and each other one behind a space.
+use Rattle.std.specs.Prelude.{ℕ, List, [], ◌∷◌, ◌++◌, flat_map, slice_index_or, decimal, Option, Some, None, codes}
+use Rattle.mm_base.specs.declared.symbols.Sym.{Sym}
+use Rattle.mm_base.specs.declared.symbols.Pair.{Pair}
+use Rattle.mm_model.specs.Names.{Name}
+use Rattle.written_model.specs.declared.report.ReportLine.{ReportLine}
+use Rattle.written_model.specs.Report.{verdict_words, reference_words}
+
+abbrev pub behind : List Name → List ℕ
+behind words = flat_map (λ (w : Name). 32 ∷ w) words
+
+-- ---- reports, by the names of the symbols
+
+abbrev pub name_in : List Name → Sym → Name
+name_in symbols s = slice_index_or symbols s.0 []
+
+abbrev pub clash_in : List Name → Option Sym → List Name
+clash_in symbols None = []
+clash_in symbols (Some v) = codes "clash" ∷ name_in symbols v ∷ []
+
+abbrev pub lack_in : List Name → Option Pair → List Name
+lack_in symbols None = []
+lack_in symbols (Some p) = codes "needs" ∷ name_in symbols p.a ∷ name_in symbols p.b ∷ []
+
+-- the words of a report behind the step's name
+abbrev pub words_in : List Name → ReportLine → List Name
+words_in symbols r = ((verdict_words r.verdict ++ reference_words r.verdict r.reference) ++ clash_in symbols r.clash) ++ lack_in symbols r.lack
+
+abbrev pub report_text : List Name → ReportLine → List ℕ
+report_text symbols r = r.name ++ behind (words_in symbols r)
+
+-- ---- faults
+
+-- the line with these words
+abbrev pub error_text : List ℕ → List ℕ
+error_text words = codes "sheet error" ++ 32 ∷ words
+
+abbrev pub place_text : List ℕ → ℕ → List ℕ
+place_text words place = (error_text words ++ codes " at line") ++ 32 ∷ decimal place
+
+abbrev pub number_text : List ℕ → ℕ → List ℕ
+number_text words n = error_text words ++ 32 ∷ decimal n
+
+abbrev pub step_text : List ℕ → List ℕ → List ℕ
+step_text words name = error_text words ++ 32 ∷ name
+
+abbrev pub formula_text : List ℕ → ℕ → List ℕ
+formula_text name n = ((error_text (codes "75 FormulaTooLong step") ++ 32 ∷ name) ++ codes " tokens") ++ 32 ∷ decimal n
