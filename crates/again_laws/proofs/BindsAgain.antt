@@ -20,23 +20,23 @@ use Rattle.sheet_text.specs.Layout.{steps, step_names}
 use Rattle.sheet_text.specs.Spellable.{is_token, IsSpellable}
 use Rattle.solve_model.specs.Bound.{Binds, work_size}
 use Rattle.solve_model.specs.Binding.{is_qed}
-use Rattle.solve_model.specs.Formulas.{leaf_of}
+use Rattle.solve_model.specs.Formulas.{leaf_of, IsTreeOf}
 use Rattle.solve_model.specs.Trees.{Open, open_leaves}
 use Rattle.written_model.specs.declared.options.Options.{Options}
 use Rattle.written_model.specs.Opened.{IsOpened}
 use Rattle.written_model.specs.ReadBack.{ReadIsSpellable}
 use Rattle.written_model.specs.WrittenSteps.{WrittenStep, steps_in, trees}
-use Rattle.written_model.specs.Named.{work_variable, name_tree, new_works}
-use Rattle.written_model.specs.Written.{Writing, Writes, HasNoLateFault, LateFault, written_sheet, written_bound, bound_step, leaf_name, after_filling}
-use Rattle.again_laws.specs.Second.{WrittenIsWithin}
+use Rattle.written_model.specs.Named.{work_variable, name_tree, new_works, IsWrittenLeaf}
+use Rattle.written_model.specs.Written.{Writing, Writes, HasNoLateFault, LateFault, written_sheet, written_bound, bound_step, leaf_name, formula_tokens, after_filling}
+use Rattle.again_laws.specs.Second.{WrittenIsWithin, NumbersFit}
 use Rattle.again_laws.specs.Whole.{AssertionsAreWhole}
 use Rattle.again_laws.proofs.Accepted.{trees_named}
-use Rattle.again_laws.proofs.FreshRead.{logic_constant, new_least, fresh_read}
+use Rattle.again_laws.proofs.FreshRead.{logic_constant, new_at, new_least, fresh_read}
 use Rattle.again_laws.proofs.LeavesRead.{leaves_back}
 use Rattle.again_laws.proofs.Lists.{get_mapped}
 use Rattle.again_laws.proofs.NumberBound.{step_leaves, work_few, number_small}
 use Rattle.again_laws.proofs.SecondBinds.{second_binds}
-use Rattle.again_laws.proofs.SecondSteps.{IsWrittenOf, IsNewOf, woven_again}
+use Rattle.again_laws.proofs.SecondSteps.{IsWrittenOf, IsNewOf, woven_again, parses_again}
 use Rattle.again_laws.proofs.Setting.{Setting, setting, filling_of, step_there, spellable_at}
 use Rattle.again_laws.proofs.StepRules.{filled}
 use Rattle.again_laws.proofs.Unnumbered.{binds_same}
@@ -66,7 +66,7 @@ same_leaves db options w [] = refl
 same_leaves db options w (x ∷ xs) = ap (λ ys. open_leaves x.tree ++ ys) (same_leaves db options w xs)
 
 module _ (facts_law : HasDatabaseFacts) (whole_law : AssertionsAreWhole) (spellable_law : ReadIsSpellable) (places_law : HavePlaces) (symbols_law : HaveSymbols) (own_law : FramesHaveOwnExpressions)
-    (db : Database) (sheet : List ℕ) (options : Options) (w : Writing) (opened : IsOpened options.kinds db) (h : Writes db sheet options w) (late : HasNoLateFault db options w) where
+    (db : Database) (sheet : List ℕ) (options : Options) (w : Writing) (opened : IsOpened options.kinds db) (h : Writes db sheet options w) where
   abbrev numbers : List ℕ
   numbers = (filling_of w).numbers
 
@@ -143,19 +143,30 @@ module _ (facts_law : HasDatabaseFacts) (whole_law : AssertionsAreWhole) (spella
   logic_is : db.is_constant_at (logic_code db).0 db.statement_count ≡ true
   logic_is = let b = S.bound_steps q.at q.qed q.there in logic_constant db options w numbers ds S places symbols q.qed.formula b.0.tree qed_filled b.2.tree
 
-  written_few : length (flat_map open_leaves (map (name_tree w.names) (trees ds))) ≤ most_work_size
-  written_few =
-      let few = work_few db (written_bound db options w) (within db options w late) in
-      let same : flat_map step_leaves (written_bound db options w).steps ≡ flat_map open_leaves (map (name_tree w.names) (trees ds)) = same_leaves db options w es ∙ ap (flat_map open_leaves) (trees_named db options w numbers ds S) in
-      subst (λ (xs : List Open). length xs ≤ most_work_size) same few
+  back_by : ((c : Typecode) (m k : ℕ) → IsWrittenLeaf (trees ds) c m → w.names c m ≡ Some k → k < 2 ^ 32) → (i : ℕ) (t : Tree) → slice_get (trees es) i ≡ Some t → (x : Leaf) → Contains (text db.rows t) x
+      → leaf_of db w.bound.place (leaf_name db x) ≡ Some x
+  back_by small = leaves_back db options w numbers ds S places owns (fresh_read db options w numbers ds S places symbols logic_is small)
 
-  small : (c : Typecode) (k j : ℕ) → slice_get (new_works db w.bound (map (name_tree w.names) (trees ds))) j ≡ Some (work_variable c k) → k < 2 ^ 32
-  small c k j at =
-      number_small db w.bound (map (name_tree w.names) (trees ds)) c j k (new_least db options w numbers ds S places symbols logic_is c k j at)
-      symbols.few (work_few db w.bound h.within_limit) written_few
+  -- a written formula is read as its tree, where the numbers of new work variables are in range
+  pub trees_back : NumbersFit w.names → (i : ℕ) (t : Tree) → slice_get (trees es) i ≡ Some t → IsTreeOf db w.bound.place (formula_tokens db t) t
+  trees_back fit = parses_again db options w numbers ds S (back_by (λ c m k l is. fit c m k is))
 
-  pub back : (i : ℕ) (t : Tree) → slice_get (trees es) i ≡ Some t → (x : Leaf) → Contains (text db.rows t) x → leaf_of db w.bound.place (leaf_name db x) ≡ Some x
-  back = leaves_back db options w numbers ds S places owns (fresh_read db options w numbers ds S places symbols logic_is small)
+  -- ---- where no fault of what is written stands
 
-  pub binds_again : Binds db (written_sheet db options w) (written_bound db options w)
-  binds_again = second_binds db options w numbers ds S woven rd inked back q.at q.qed q.there q.is late
+  module _ (late : HasNoLateFault db options w) where
+    written_few : length (flat_map open_leaves (map (name_tree w.names) (trees ds))) ≤ most_work_size
+    written_few =
+        let few = work_few db (written_bound db options w) (within db options w late) in
+        let same : flat_map step_leaves (written_bound db options w).steps ≡ flat_map open_leaves (map (name_tree w.names) (trees ds)) = same_leaves db options w es ∙ ap (flat_map open_leaves) (trees_named db options w numbers ds S) in
+        subst (λ (xs : List Open). length xs ≤ most_work_size) same few
+
+    small : (c : Typecode) (k j : ℕ) → slice_get (new_works db w.bound (map (name_tree w.names) (trees ds))) j ≡ Some (work_variable c k) → k < 2 ^ 32
+    small c k j at =
+        number_small db w.bound (map (name_tree w.names) (trees ds)) c j k (new_least db options w numbers ds S places symbols logic_is c k j at)
+        symbols.few (work_few db w.bound h.within_limit) written_few
+
+    pub back : (i : ℕ) (t : Tree) → slice_get (trees es) i ≡ Some t → (x : Leaf) → Contains (text db.rows t) x → leaf_of db w.bound.place (leaf_name db x) ≡ Some x
+    back = back_by (λ c m k l is. let at = new_at db options w numbers ds S places symbols logic_is c m k l is in small c k at.0 at.1)
+
+    pub binds_again : Binds db (written_sheet db options w) (written_bound db options w)
+    binds_again = second_binds db options w numbers ds S woven rd inked back q.at q.qed q.there q.is late

@@ -260,9 +260,10 @@ module _ (db : Database) (options : Options) (w : Writing) (numbers : List ℕ) 
     new_least c k j at = S.naming.least j (work_variable c k) at
 
     -- a new work variable is read as itself
-    pub fresh_read : ((c : Typecode) (k j : ℕ) → slice_get news j ≡ Some (work_variable c k) → k < 2 ^ 32) → (c : Typecode) (m k : ℕ) → IsWrittenLeaf (trees ds) c m → w.names c m ≡ Some k → leaf_of db place (spelling (symbol_name db c.0) k) ≡ Some (leaf.Work c k)
+    pub fresh_read : ((c : Typecode) (m k : ℕ) → IsWrittenLeaf (trees ds) c m → w.names c m ≡ Some k → k < 2 ^ 32) → (c : Typecode) (m k : ℕ) → IsWrittenLeaf (trees ds) c m → w.names c m ≡ Some k
+        → leaf_of db place (spelling (symbol_name db c.0) k) ≡ Some (leaf.Work c k)
     fresh_read small c m k h is =
         let at = new_at c m k h is in
         let least = new_least c k at.0 at.1 in
         let code = fresh_code c m h in
-        work_read db S.facts place (λ d md kd. symbols.constants_within d.0 db.statement_count kd) c k least.from_one (small c k at.0 at.1) code.listed code.constant least.holds.not_declared
+        work_read db S.facts place (λ d md kd. symbols.constants_within d.0 db.statement_count kd) c k least.from_one (small c m k h is) code.listed code.constant least.holds.not_declared

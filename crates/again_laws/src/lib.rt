@@ -6,7 +6,7 @@ ghost use Rattle.mm_model.specs.Book.{Database};
 ghost use Rattle.written_model.specs.declared.options.Options.{Options};
 ghost use Rattle.written_model.specs.Written.{Writing};
 ghost use Rattle.written_model.specs.WrittenAgain.{ValuesStay, VerdictsStay};
-ghost use Rattle.again_laws.specs.Second.{WrittenSheetBinds, WrittenIsWithin, BindsWithoutLines};
+ghost use Rattle.again_laws.specs.Second.{WrittenSheetBinds, WrittenIsWithin, WrittenTreesReadBack, BindsWithoutLines};
 ghost use Rattle.again_laws.specs.Whole.{AssertionsAreWhole};
 
 use model_laws::{
@@ -49,6 +49,19 @@ pub fn verdicts_stay()
 pub fn written_sheet_binds()
     ensures binds { (db : Database) (text : List ℕ) (options : Options) (w : Writing) → WrittenSheetBinds db text options w }
     ensures within { (db : Database) (options : Options) (w : Writing) → WrittenIsWithin db options w }
+{
+    has_database_facts();
+    assertions_are_whole();
+    read_is_spellable();
+    databases_have_places();
+    databases_have_symbols();
+    frames_have_own_expressions();
+}
+
+/// Each written formula is read over the database as its tree, also where there is a fault of what is written, if the
+/// numbers of new work variables are in range.
+pub fn written_trees_read_back()
+    ensures { (db : Database) (text : List ℕ) (options : Options) (w : Writing) → WrittenTreesReadBack db text options w }
 {
     has_database_facts();
     assertions_are_whole();

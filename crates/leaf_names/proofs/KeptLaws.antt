@@ -23,6 +23,7 @@ module _ (symbols : List Name) (read : List FreshLeaf) (given : List NamedLeaf) 
     above = λ c n high. kept.above c n (subst (λ m. m < n) (same c) high);
     differ = kept.differ;
     small = kept.small;
+    in_range = kept.in_range;
   }
 
   module _ (x : FreshLeaf) (n : ℕ) (first : IsFirstUnused symbols read x.0 (last_number last x.0 + 1) n) where
@@ -83,9 +84,9 @@ module _ (symbols : List Name) (read : List FreshLeaf) (given : List NamedLeaf) 
     other c m d e = free_still c m e (rw d refl)
 
     -- what is kept after the leaf got its number
-    pub kept_on : (new : List ℕ) → ((c : ℕ) → last_number new c ≡ cond (c == x.0) n (last_number last c)) → IsDistinct same_leaf (map (λ (g : NamedLeaf). g.0) longer) → x.1 < 2 ^ 31
+    pub kept_on : (new : List ℕ) → ((c : ℕ) → last_number new c ≡ cond (c == x.0) n (last_number last c)) → IsDistinct same_leaf (map (λ (g : NamedLeaf). g.0) longer) → x.1 < 2 ^ 31 → n < 2 ^ 32
         → IsKept symbols read longer new
-    kept_on new put differ small = record {
+    kept_on new put differ small fits = record {
       covers = λ c m one low unused. elim (cases_Bool (c == x.0)) [
         | inl e ↦ below c m (eqb-true c x.0 e) one (subst (λ k. m ≤ k) (put c ∙ ap (λ b. cond b n (last_number last c)) e) low) unused
         | inr e ↦ taken_still c m (kept.covers c m one (subst (λ k. m ≤ k) (put c ∙ ap (λ b. cond b n (last_number last c)) e) low) unused)
@@ -96,4 +97,5 @@ module _ (symbols : List Name) (read : List FreshLeaf) (given : List NamedLeaf) 
       ];
       differ = differ;
       small = all_on (λ (g : NamedLeaf). g.0.1 < 2 ^ 31) given (named_leaf x n) kept.small small;
+      in_range = all_on (λ (g : NamedLeaf). g.1 < 2 ^ 32) given (named_leaf x n) kept.in_range fits;
     }

@@ -4,6 +4,7 @@ pub mod LeafLaws
 pub mod MarkLaws
 pub mod NamedLaws
 pub mod NamingLaws
+pub mod NumberLaws
 pub mod OpenedLaws
 pub mod ReadLaws
 pub mod RoomLaws

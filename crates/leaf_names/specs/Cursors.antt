@@ -9,12 +9,13 @@ use Rattle.leaf_names.specs.Tables.{NamedLeaf, same_leaf, is_unused, is_taken}
 abbrev pub last_number : List ℕ → ℕ → ℕ
 last_number last c = slice_index_or last c 0
 
--- up to the last number of a typecode none is free, and above it none is taken; the leaves differ, and their numbers are small
+-- up to the last number of a typecode none is free, and above it none is taken; the leaves differ, and the numbers are small
 pub record IsKept (symbols : List Name) (read : List (ℕ × ℕ)) (given : List NamedLeaf) (last : List ℕ) : Type 0 where
   pub covers : (c n : ℕ) → 1 ≤ n → n ≤ last_number last c → is_unused symbols read c n ≡ true → is_taken given c n ≡ true
   pub above : (c n : ℕ) → last_number last c < n → is_taken given c n ≡ false
   pub differ : IsDistinct same_leaf (map (λ (g : NamedLeaf). g.0) given)
   pub small : AllByRecursion (λ (g : NamedLeaf). g.0.1 < 2 ^ 31) given
+  pub in_range : AllByRecursion (λ (g : NamedLeaf). g.1 < 2 ^ 32) given
 
 -- the symbols and the work variables that were read are few beside the numbers that a work variable may have
 pub record AreFew (symbols : List Name) (read : List (ℕ × ℕ)) : Type 0 where

@@ -46,6 +46,7 @@ impl<'a> Names<'a> {
     ghost use Rattle.leaf_names.specs.Leaves.{fresh_leaves as leaves_of};
     ghost use Rattle.leaf_names.specs.Tables.{NamedLeaf, naming_of, read_leaves};
     ghost use Rattle.leaf_names.specs.Named.{AddsTo, IsNamesOf, with_more};
+    ghost use Rattle.again_laws.specs.Second.{NumbersFit};
 
     /// No names yet, over a worksheet as it was read. It takes the time to write the formulas of the worksheet, and
     /// memory for their work variables.
@@ -84,6 +85,13 @@ impl<'a> Names<'a> {
             &mut self.given,
             leaves.as_slice(),
         )
+    }
+
+    /// The numbers that leaves have are such as a token may have. It does nothing.
+    pub fn numbers_fit(&self)
+        ensures { NumbersFit (naming_of self.now.given) }
+    {
+        let _ = &self.given;
     }
 
     /// The tree with its fresh leaves named; a leaf that has no name stays as it is. It takes time and memory in

@@ -13,3 +13,4 @@ pub mod SizeLaws
 pub mod OpenLaws
 pub mod PlaceLaws
 pub mod CodeLaws
+pub mod ShownLaws

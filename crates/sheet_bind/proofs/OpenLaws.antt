@@ -1,7 +1,6 @@
 -- What is answered by what is kept of an opened database is what the definitions say of the database of its text.
-use Rattle.std.specs.Prelude.{◌≡◌, ◌<◌, ◌≤◌, ◌-◌, ◌^◌, ℕ, List, [], length, map, min, sum, Option, Some, None, refl}
+use Rattle.std.specs.Prelude.{◌≡◌, ◌<◌, ◌≤◌, ◌-◌, ◌^◌, ℕ, List, [], length, map, min, sum, Some, None, refl}
 use Rattle.std.proofs.Common.{arith, sym, ap, subst, ◌∙◌}
-use Rattle.std.proofs.lemmas.List.{length-map}
 use mathlib.Core.Path.{fun_ext}
 use Rattle.mm_base.specs.declared.kinds.Kinds.{Kinds}
 use Rattle.mm_base.specs.declared.symbols.Label.{Label}
@@ -9,15 +8,13 @@ use Rattle.mm_base.specs.declared.symbols.Pair.{Pair}
 use Rattle.mm_model.specs.declared.frames.Frame.{Frame}
 use Rattle.mm_model.specs.declared.frames.Hyp.{Hyp}
 use Rattle.mm_model.specs.Faults.{fault}
-use Rattle.mm_model.specs.Frames.{active_at, is_constant_at, place_after, float_codes}
 use Rattle.mm_model.specs.Names.{Name}
-use Rattle.mm_model.specs.Statements.{statements}
 use Rattle.mm_model.specs.Book.{Database}
 use Rattle.proof_model.specs.declared.theorem.Theorem.{Theorem}
-use Rattle.mm_frames.specs.Contents.{Contents, frame_at}
-use Rattle.mm_frames.proofs.Queries.{frame-is, constant-is}
+use Rattle.mm_frames.specs.Contents.{frame_at}
+use Rattle.mm_frames.proofs.Queries.{constant-is}
 use Rattle.mm_database.specs.declared.assertions.Parsed.{Parsed}
-use Rattle.mm_database.specs.Books.{database_of, parsed_at, usable_with}
+use Rattle.mm_database.specs.Books.{database_of, parsed_at}
 use Rattle.mm_database.specs.Opened.{Opened, IsOpened}
 use Rattle.sheet_text.specs.declared.sheet.Sheet.{Sheet}
 use Rattle.solve_model.specs.declared.bound.Bound.{Bound}
@@ -31,10 +28,11 @@ use Rattle.sheet_bind.specs.Found.{number_of}
 use Rattle.sheet_bind.specs.Judging.{scene, IsJudged}
 use Rattle.sheet_bind.specs.Places.{sheet_place}
 use Rattle.sheet_bind.specs.Results.{IsBound, IsRefused, IsBoundAt, IsRefusedAt, bound_in, pairs_in, size_of}
-use Rattle.sheet_bind.specs.Shown.{PlaceFacts, shown}
+use Rattle.sheet_bind.specs.Shown.{PlaceFacts}
 use Rattle.sheet_bind.specs.Theorems.{theorem_with}
 use Rattle.sheet_bind.proofs.BindLaws.{first_fault, steps_read}
 use Rattle.sheet_bind.proofs.RuleLaws.{base, frame, place, here, some_mapped}
+use Rattle.sheet_bind.proofs.ShownLaws.{facts_of, shown_is, has_frame}
 use Rattle.sheet_bind.proofs.SizeLaws.{size_is}
 use Rattle.sheet_bind.proofs.TheoremLaws.{pairs_put, hyps_grown, mandatory_is}
 use Rattle.sheet_bind.proofs.TokenLaws.{kept, SaysConstants}
@@ -105,39 +103,7 @@ module _ (kinds : Kinds) (facts : PlaceFacts) (d : Opened) (s : Sheet) (says : S
 
 -- ---- over the database of a text
 
-abbrev pub facts_of : List ℕ → PlaceFacts
-facts_of text = record { active_at = active_at (statements text); is_constant_at = is_constant_at (statements text); place_after = place_after (statements text); float_codes = float_codes (statements text) }
-
 module _ (kinds : Kinds) (text : List ℕ) (d : Opened) (opened : IsOpened kinds text d) (few : length d.contents.entries < 4294967296) where
-  build : List Name → List Name → List ℕ → ℕ → (Label → Option Frame) → Database
-  build symbols labels positions count frames = record {
-    provable = kinds.provable;
-    logic = kinds.logic;
-    symbols = symbols;
-    labels = labels;
-    positions = positions;
-    statement_count = count;
-    frame = frames;
-    active_at = active_at (statements text);
-    is_constant_at = is_constant_at (statements text);
-    place_after = place_after (statements text);
-    float_codes = float_codes (statements text);
-    rows = d.rows;
-    usable = λ l. usable_with d.parsed l (frames l);
-  }
-
-  built : (a b : List Name) (p q : List Name) (m n : List ℕ) (i k : ℕ) (f g : Label → Option Frame) → a ≡ b → p ≡ q → m ≡ n → i ≡ k → f ≡ g → build a p m i f ≡ build b q n k g
-  built a b p q m n i k f g e1 e2 e3 e4 e5 =
-      ap (λ (x : List Name). build x p m i f) e1 ∙ ap (λ (x : List Name). build b x m i f) e2 ∙ ap (λ (x : List ℕ). build b q x i f) e3 ∙ ap (λ (x : ℕ). build b q n x f) e4
-      ∙ ap (λ (x : Label → Option Frame). build b q n k x) e5
-
-  shown_is : shown kinds (facts_of text) d ≡ database_of kinds text d.rows d.parsed
-  unfolding build
-  shown_is =
-      let e = opened.contents in
-      built _ _ _ _ _ _ _ _ _ _ (ap (λ (c : Contents). c.symbols) e) (ap (λ (c : Contents). c.labels) e) (ap (λ (c : Contents). c.positions) e)
-      (ap (λ (c : Contents). length c.entries) e ∙ length-map (statements text) _) (fun_ext (λ l. frame-is d.contents l text e))
-
   module _ (s : Sheet) (p : Place) (p_is : p ≡ sheet_place text d.contents kinds.logic s) (within : p.setting.place ≤ length d.contents.entries) where
     says : SaysConstants kinds (facts_of text) d (place kinds (facts_of text) d s) (frame kinds (facts_of text) d s)
     says v at most = constant-is d.contents v at text opened.contents most few
@@ -145,13 +111,10 @@ module _ (kinds : Kinds) (text : List ℕ) (d : Opened) (opened : IsOpened kinds
     place_within : place kinds (facts_of text) d s ≤ length d.contents.entries
     place_within = subst (λ (q : Place). q.setting.place ≤ length d.contents.entries) p_is within
 
-    has_frame : (l : Label) (q : Parsed) → parsed_at d.parsed l ≡ Some q → (f : Frame) × (frame_at d.contents l ≡ Some f)
-    has_frame l q e = let k = opened.kept l q e in (k.frame, frame-is d.contents l text opened.contents ∙ k.frame_is)
-
     pub bound_is : (b : Bound) → IsBoundAt (scene d kinds.provable s.theorem p.setting) s p b → IsBound (database_of kinds text d.rows d.parsed) s b
-    bound_is b h = subst (λ (db : Database). IsBound db s b) shown_is
-        (is_bound kinds (facts_of text) d s says place_within has_frame b (subst (λ (q : Place). IsBoundAt (scene d kinds.provable s.theorem q.setting) s q b) p_is h))
+    bound_is b h = subst (λ (db : Database). IsBound db s b) (shown_is kinds text d opened)
+        (is_bound kinds (facts_of text) d s says place_within (has_frame kinds text d opened) b (subst (λ (q : Place). IsBoundAt (scene d kinds.provable s.theorem q.setting) s q b) p_is h))
 
     pub refused_is : (e : BindFault) → IsRefusedAt (scene d kinds.provable s.theorem p.setting) s p e → IsRefused (database_of kinds text d.rows d.parsed) s e
-    refused_is e h = subst (λ (db : Database). IsRefused db s e) shown_is
-        (is_refused kinds (facts_of text) d s says place_within has_frame e (subst (λ (q : Place). IsRefusedAt (scene d kinds.provable s.theorem q.setting) s q e) p_is h))
+    refused_is e h = subst (λ (db : Database). IsRefused db s e) (shown_is kinds text d opened)
+        (is_refused kinds (facts_of text) d s says place_within (has_frame kinds text d opened) e (subst (λ (q : Place). IsRefusedAt (scene d kinds.provable s.theorem q.setting) s q e) p_is h))

@@ -1,5 +1,5 @@
 -- The work size of a worksheet, by what is kept of usable assertions.
-use Rattle.std.specs.Prelude.{ℕ, ◌+◌, ◌&&◌, length, map, sum, nat_lt, nat_le, slice_index_or, if◌then◌else◌, Option, Some, None, is_some, option_and_then}
+use Rattle.std.specs.Prelude.{ℕ, Bool, ◌+◌, ◌&&◌, length, map, sum, nat_lt, nat_le, slice_index_or, if◌then◌else◌, Option, Some, None, is_some, option_and_then}
 use Rattle.std.specs.Option.{option_map_or}
 use Rattle.mm_base.specs.declared.symbols.Label.{Label}
 use Rattle.mm_model.specs.Names.{Name, label_named}
@@ -18,8 +18,8 @@ candidate_of d place None = None
 candidate_of d place (Some r) = option_and_then (usable_at d place) (label_named d.contents.labels r)
 
 -- the label of the candidate that a step names
-abbrev pub candidate_in : Opened → ℕ → BoundStep → Option Label
-candidate_in d place s = if s.hyp then None else candidate_of d place s.reference
+abbrev pub candidate_at : Opened → ℕ → Bool → Option Name → Option Label
+candidate_at d place hyp reference = if hyp then None else candidate_of d place reference
 
 abbrev pub parsed_size : ℕ → Option Parsed → ℕ
 parsed_size places None = 0
@@ -28,8 +28,12 @@ parsed_size places (Some p) = if nat_le places (length p.hyps) then nodes p.tree
 abbrev pub size_at : Opened → Label → ℕ → ℕ
 size_at d l places = parsed_size places (parsed_at d.parsed l)
 
+-- the nodes of the trees of the candidate of a step that has so many places
+abbrev pub standing_at : Opened → ℕ → Bool → Option Name → ℕ → ℕ
+standing_at d place hyp reference places = option_map_or (λ l. size_at d l places) (candidate_at d place hyp reference) 0
+
 abbrev pub standing_in : Opened → ℕ → BoundStep → ℕ
-standing_in d place s = option_map_or (λ l. size_at d l (length s.places)) (candidate_in d place s) 0
+standing_in d place s = standing_at d place s.hyp s.reference (length s.places)
 
 abbrev pub size_in : Opened → ℕ → BoundStep → ℕ
 size_in d place s = option_map_or nodes s.tree 1 + standing_in d place s

@@ -18,3 +18,4 @@ mod work_size;
 pub use binding::{bind_sheet, sheet_theorem};
 pub use faults::{BindCode, BindFault};
 pub use solve_model::{Bound, BoundStep};
+pub use work_size::standing_size;

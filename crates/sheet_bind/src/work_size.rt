@@ -2,10 +2,10 @@ ghost use Rattle.std.specs.Prelude.{◌≡◌, ◌-◌, ◌^◌, min, sum, map, 
 ghost use Rattle.std.specs.Option.{option_map_or};
 ghost use Rattle.mm_model.specs.Names.{label_named};
 ghost use Rattle.mm_model.specs.Sizes as spec;
-ghost use Rattle.sheet_bind.specs.Sizes.{candidate_in, usable_at, size_at, standing_in, size_in};
+ghost use Rattle.sheet_bind.specs.Sizes.{candidate_at, usable_at, size_at, standing_at, size_in};
 
 use formula_parse::nodes;
-use mm_base::{Label, Tree};
+use mm_base::{Label, Name, Tree};
 use mm_database::Database;
 use solve_model::BoundStep;
 
@@ -21,13 +21,13 @@ fn nodes_of(trees: &[Tree]) -> u64
 }
 
 /// The label of the candidate that a step names.
-fn candidate(db: &Database, place: u32, step: &BoundStep) -> Option<Label>
-    ensures { result ≡ candidate_in db.now place step.now }
+fn candidate(db: &Database, place: u32, hyp: bool, reference: &Option<Name>) -> Option<Label>
+    ensures { result ≡ candidate_at db.now place hyp reference.now }
 {
-    if step.hyp {
+    if hyp {
         return None;
     }
-    match &step.reference {
+    match reference {
         None => None,
         Some(name) => usable_before(db, place, name.as_slice()),
     }
@@ -75,12 +75,21 @@ fn candidate_size(db: &Database, label: Label, places: usize) -> u64
     nodes(db.tree(label)).saturating_add(nodes_of(hyps))
 }
 
-fn standing_size(db: &Database, place: u32, step: &BoundStep) -> u64
-    ensures { result ≡ min (standing_in db.now place step.now) (2 ^ 64 - 1) }
+/// The nodes of the trees of the assertion that a step names, or 2^64 - 1 where there are more: its formula's and those of
+/// its `$e`. 0 where it names none, or one that is not usable before the place, or has fewer `$e` than the step lists
+/// places.
+pub fn standing_size(
+    db: &Database,
+    place: u32,
+    hyp: bool,
+    reference: &Option<Name>,
+    places: usize,
+) -> u64
+    ensures { result ≡ min (standing_at db.now place hyp reference.now places) (2 ^ 64 - 1) }
 {
-    match candidate(db, place, step) {
+    match candidate(db, place, hyp, reference) {
         None => 0,
-        Some(label) => candidate_size(db, label, step.places.as_slice().len()),
+        Some(label) => candidate_size(db, label, places),
     }
 }
 
@@ -96,7 +105,9 @@ fn tree_size(tree: &Option<Tree>) -> u64
 fn step_size(db: &Database, place: u32, step: &BoundStep) -> u64
     ensures { result ≡ min (size_in db.now place step.now) (2 ^ 64 - 1) }
 {
-    tree_size(&step.tree).saturating_add(standing_size(db, place, step))
+    let places = step.places.as_slice().len();
+    let standing = standing_size(db, place, step.hyp, &step.reference, places);
+    tree_size(&step.tree).saturating_add(standing)
 }
 
 /// The work size of a worksheet, or 2^64 - 1 where it is larger.

@@ -1,9 +1,7 @@
 //! The names of the new work variables of a worksheet that is written.
 #![tactic(auto)]
 
-mod leaves;
 mod naming;
 mod renaming;
-mod taken;
 
-pub use renaming::name_items;
+pub use naming::name_items;

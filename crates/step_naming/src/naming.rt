@@ -1,43 +1,70 @@
-use free_numbers::FreeNumbers;
-use mm_base::{Memory, Typecode};
-use std::alloc::Global;
-use std::collections::BTreeMap;
+ghost use Rattle.std.specs.Prelude.{◌≡◌, ◌≤◌, ◌^◌, ◌++◌, List, length, map, option_to_list, IfOk, OnOk};
+ghost use Rattle.std.specs.List.{AllByRecursion};
+ghost use Rattle.mm_base.specs.declared.tree.Tree.{Tree};
+ghost use Rattle.mm_database.specs.Opened.{Opened};
+ghost use Rattle.solve_model.specs.declared.bound.Bound.{Bound};
+ghost use Rattle.leaf_names.specs.Named.{IsNamesOf};
+ghost use Rattle.leaf_names.specs.Tables.{read_leaves};
+ghost use Rattle.step_naming.specs.Named.{tree_of, formulas, HasSmallLeaves, AreNamed};
 
-/// The names of fresh leaves so far.
-#[derive(Drop)]
-pub struct Naming {
-    /// By typecode and node the number of the work variable.
-    names: BTreeMap<(u32, u32), u32>,
-    /// By typecode the numbers that are free.
-    numbers: FreeNumbers,
+use crate::renaming::named_items;
+use leaf_names::{Names, names_are_naming};
+use mm_base::{List, Memory};
+use mm_database::Database;
+use solve_model::Bound;
+use std::alloc::Global;
+use written_steps::DraftItem;
+
+/// Names the fresh leaves of a step's formula.
+fn add_item(names: &mut Names<'_>, item: &DraftItem) -> Result<(), Memory>
+    requires { HasSmallLeaves item.now }
+    ensures { (d : Opened) (bound : Bound) (ts : List Tree) → IsNamesOf d bound ts names.old → OnOk result (IsNamesOf d bound (ts ++ option_to_list (tree_of item.now)) names.new) }
+{
+    match item {
+        DraftItem::Comment(_) => Ok(()),
+        DraftItem::Step(step) => names.add(&step.tree),
+    }
 }
 
-impl Naming {
-    /// No leaf is named, and these numbers are free.
-    pub fn new(alloc: Global, numbers: FreeNumbers) -> Naming {
-        Naming {
-            names: BTreeMap::new(alloc),
-            numbers,
-        }
+/// The names of the fresh leaves of the formulas.
+fn names_of<'d>(
+    alloc: Global,
+    db: &'d Database,
+    bound: &Bound,
+    items: &[DraftItem],
+) -> Result<Names<'d>, Memory>
+    requires symbols { length db.now.contents.symbols ≤ 2 ^ 28 }
+    requires read { length (read_leaves db.now.rows bound.now) ≤ 2 ^ 28 }
+    requires small { AllByRecursion HasSmallLeaves items.now }
+    ensures { IfOk result (IsNamesOf db.now bound.now (formulas items.now)) }
+{
+    let mut names = Names::new(alloc, db, bound)?;
+    for item in items {
+        add_item(&mut names, item)?;
     }
+    Ok(names)
+}
 
-    /// Whether no leaf is named.
-    pub fn is_empty(&self) -> bool {
-        self.names.is_empty()
-    }
-
-    /// The number of the work variable that a leaf becomes.
-    pub fn name(&self, code: Typecode, node: u32) -> Option<u32> {
-        self.names.get(&(code.0.0, node)).copied()
-    }
-
-    /// Names a leaf, where it has no name yet.
-    pub fn add(&mut self, code: Typecode, node: u32) -> Result<(), Memory> {
-        if self.name(code, node).is_some() {
-            return Ok(());
-        }
-        let number = self.numbers.next(code.0.0)?;
-        self.names.insert((code.0.0, node), number)?;
-        Ok(())
-    }
+/// The comments and steps of a worksheet with its new work variables named: in the order in which they first stand in the
+/// formulas, each fresh leaf becomes the work variable of its typecode with the least number that the worksheet as it was
+/// read does not have, whose name the database does not declare, and that no other leaf became. The values of uses are
+/// named too, and all else stays. It takes time in proportion to the trees and to the formulas of the worksheet as it was
+/// read, and memory for the trees and for one name for each new work variable.
+///
+/// Fails where memory runs out.
+pub fn name_items(
+    alloc: Global,
+    db: &Database,
+    bound: &Bound,
+    items: List<DraftItem>,
+) -> Result<List<DraftItem>, Memory>
+    requires symbols { length db.now.contents.symbols ≤ 2 ^ 28 }
+    requires read { length (read_leaves db.now.rows bound.now) ≤ 2 ^ 28 }
+    requires small { AllByRecursion HasSmallLeaves items }
+    ensures { IfOk result (AreNamed db.now bound.now items) }
+{
+    names_are_naming();
+    let names = names_of(alloc, db, bound, items.as_slice())?;
+    names.numbers_fit();
+    named_items(alloc, &names, items.into_vec())
 }

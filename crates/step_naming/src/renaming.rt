@@ -1,51 +1,34 @@
-use crate::leaves::naming_of;
-use crate::naming::Naming;
-use mm_base::{List, Memory, Tree, Typecode};
-use mm_database::Database;
-use solve_model::Bound;
+ghost use Rattle.std.specs.Prelude.{◌≡◌, map, option_map, IfOk};
+ghost use Rattle.written_model.specs.Named.{name_tree};
+ghost use Rattle.leaf_names.specs.Tables.{naming_of};
+ghost use Rattle.step_naming.specs.Named.{rename_use, rename_step, rename_item};
+
+use leaf_names::Names;
+use mm_base::{List, Memory, Tree};
 use std::alloc::Global;
 use written_steps::{DraftItem, DraftStep, StepUse};
 
-fn named_leaf(naming: &Naming, code: Typecode, node: u32) -> Tree {
-    match naming.name(code, node) {
-        None => Tree::Fresh(code, node),
-        Some(number) => Tree::Work(code, number),
-    }
-}
-
-/// A tree with its fresh leaves named.
-fn named_tree(alloc: Global, naming: &Naming, tree: &Tree) -> Result<Tree, Memory> {
-    match tree {
-        Tree::Var(symbol, code) => Ok(Tree::Var(*symbol, *code)),
-        Tree::Work(code, number) => Ok(Tree::Work(*code, *number)),
-        Tree::Fresh(code, node) => Ok(named_leaf(naming, *code, *node)),
-        Tree::Node(label, code, children) => {
-            let mut named = Vec::new(alloc);
-            for child in children.as_slice() {
-                named.push(named_tree(alloc, naming, child)?)?;
-            }
-            Ok(Tree::Node(*label, *code, List::from_vec(named)))
-        }
-    }
-}
-
-fn named_trees(alloc: Global, naming: &Naming, trees: &[Tree]) -> Result<List<Tree>, Memory> {
+fn named_trees(alloc: Global, names: &Names<'_>, trees: &[Tree]) -> Result<List<Tree>, Memory>
+    ensures { IfOk result (λ named. named ≡ map (name_tree (naming_of names.now.given)) trees.now) }
+{
     let mut named = Vec::new(alloc);
     for tree in trees {
-        named.push(named_tree(alloc, naming, tree)?)?;
+        named.push(names.named(tree)?)?;
     }
     Ok(List::from_vec(named))
 }
 
 fn named_use(
     alloc: Global,
-    naming: &Naming,
+    names: &Names<'_>,
     by: &Option<StepUse>,
-) -> Result<Option<StepUse>, Memory> {
+) -> Result<Option<StepUse>, Memory>
+    ensures { IfOk result (λ named. named ≡ option_map (rename_use (naming_of names.now.given)) by.now) }
+{
     match by {
         None => Ok(None),
         Some(by) => {
-            let values = named_trees(alloc, naming, by.values.as_slice())?;
+            let values = named_trees(alloc, names, by.values.as_slice())?;
             Ok(Some(StepUse {
                 label: by.label,
                 values,
@@ -55,7 +38,9 @@ fn named_use(
 }
 
 /// A step with these in place of its formula and its use.
-fn with_trees(step: DraftStep, tree: Tree, by: Option<StepUse>) -> DraftStep {
+fn with_trees(step: DraftStep, tree: Tree, by: Option<StepUse>) -> DraftStep
+    ensures { result ≡ record step { tree = tree; by = by } }
+{
     let DraftStep {
         hyp,
         name,
@@ -76,45 +61,37 @@ fn with_trees(step: DraftStep, tree: Tree, by: Option<StepUse>) -> DraftStep {
     }
 }
 
-fn named_step(alloc: Global, naming: &Naming, step: DraftStep) -> Result<DraftStep, Memory> {
-    let tree = named_tree(alloc, naming, &step.tree)?;
-    let by = named_use(alloc, naming, &step.by)?;
+fn named_step(alloc: Global, names: &Names<'_>, step: DraftStep) -> Result<DraftStep, Memory>
+    ensures { IfOk result (λ named. named ≡ rename_step (naming_of names.now.given) step) }
+{
+    let tree = names.named(&step.tree)?;
+    let by = named_use(alloc, names, &step.by)?;
     Ok(with_trees(step, tree, by))
 }
 
-fn named_item(alloc: Global, naming: &Naming, item: DraftItem) -> Result<DraftItem, Memory> {
+fn named_item(alloc: Global, names: &Names<'_>, item: DraftItem) -> Result<DraftItem, Memory>
+    ensures { IfOk result (λ named. named ≡ rename_item (naming_of names.now.given) item) }
+{
     match item {
         DraftItem::Comment(lines) => Ok(DraftItem::Comment(lines)),
         DraftItem::Step(step) => {
-            let step = named_step(alloc, naming, step)?;
+            let step = named_step(alloc, names, step)?;
             Ok(DraftItem::Step(step))
         }
     }
 }
 
-fn named_items(
+/// The items with their leaves named, those that have a name.
+pub(crate) fn named_items(
     alloc: Global,
-    naming: &Naming,
+    names: &Names<'_>,
     items: Vec<DraftItem>,
-) -> Result<List<DraftItem>, Memory> {
+) -> Result<List<DraftItem>, Memory>
+    ensures { IfOk result (λ named. named ≡ map (rename_item (naming_of names.now.given)) items.items) }
+{
     let mut named = Vec::new(alloc);
     for item in items {
-        named.push(named_item(alloc, naming, item)?)?;
+        named.push(named_item(alloc, names, item)?)?;
     }
     Ok(List::from_vec(named))
-}
-
-/// The comments and steps of a worksheet with its new work variables named. It takes one pass over the symbols of the
-/// database and over the trees, and memory for one name for each new work variable. `Memory`: there is no room for them.
-pub fn name_items(
-    alloc: Global,
-    db: &Database,
-    bound: &Bound,
-    items: List<DraftItem>,
-) -> Result<List<DraftItem>, Memory> {
-    let naming = naming_of(alloc, db, bound, items.as_slice())?;
-    if naming.is_empty() {
-        return Ok(items);
-    }
-    named_items(alloc, &naming, items.into_vec())
 }

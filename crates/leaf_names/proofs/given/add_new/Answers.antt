@@ -1,4 +1,4 @@
-use Rattle.std.proofs.Common.{ap, subst, sym, ◌∙◌, List, ℕ, map, ◌+◌, ◌∷◌, [], ◌==◌, if◌then◌else◌}
+use Rattle.std.proofs.Common.{arith, ◌<◌, ◌^◌, ap, subst, sym, ◌∙◌, List, ℕ, map, ◌+◌, ◌∷◌, [], ◌==◌, if◌then◌else◌}
 use Rattle.std.specs.List.{IsDistinct}
 use Rattle.indexmap.proofs.CallerLemmas.{insert_entry-new}
 use Rattle.leaf_names.specs.Tables.{NamedLeaf, same_leaf, Adds}
@@ -15,10 +15,15 @@ returns-clause-kept c =
     let last = c.args.given.now.last.items in
     let is = c.in_ok-insert.ensures.entries ∙ insert_entry-new same_leaf old c.args.leaf c.in_ok-number.number c.requires.absent in
     let first = subst (λ (l : List ℕ). IsFirstUnused symbols read c.args.leaf.0 (last_number l c.args.leaf.0 + 1) c.in_ok-number.number) c.as_slice.ensures.value c.in_ok-number.ensures in
+    let room = c.requires.room in
+    let above = room.above in
+    let under = first.first room.number (omega (arith, above)) room.unused in
+    let in_range = room.in_range in
+    let fits : c.in_ok-number.number < 2 ^ 32 = omega (arith, under, in_range) in
     let put = λ (d : ℕ). c.set_last.ensures d ∙ ap (λ v. if d == c.args.leaf.0 then c.in_ok-number.number else v) (c.grow.ensures.kept d) in
     subst (λ (gs : List NamedLeaf). IsKept symbols read gs c.set_last.new.last.items) (sym is)
     (kept_on symbols read old.entries last c.requires.kept c.args.leaf c.in_ok-number.number first c.set_last.new.last.items put
-    (subst (λ (gs : List NamedLeaf). IsDistinct same_leaf (map (λ (g : NamedLeaf). g.0) gs)) is c.insert.ensures.unique) c.requires.small)
+    (subst (λ (gs : List NamedLeaf). IsDistinct same_leaf (map (λ (g : NamedLeaf). g.0) gs)) is c.insert.ensures.unique) c.requires.small fits)
 
 pub returns-clause-added : goal.returns-clause-added
 returns-clause-added c =
