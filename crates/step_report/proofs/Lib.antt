@@ -1,0 +1,4 @@
+pub mod PairLaws
+pub mod ReportLaws
+pub mod MarkLaws
+pub mod DoneLaws

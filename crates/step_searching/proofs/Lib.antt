@@ -1,0 +1,3 @@
+pub mod ApplyLaws
+pub mod WantedLaws
+pub mod FindLaws
