@@ -1,19 +1,25 @@
 -- Lines that are put together are those of the definitions.
-use Rattle.std.specs.Prelude.{◌≡◌, ℕ, List, [], ◌∷◌, ◌++◌, map, flat_map, decimal, Bool, Option, Some, None, refl, codes}
+use Rattle.std.specs.Prelude.{◌≡◌, ℕ, List, [], ◌∷◌, ◌++◌, map, flat_map, decimal, Bool, true, false, Option, Some, None, refl, codes}
 use Rattle.std.specs.List.{join_with_byte}
 use Rattle.std.proofs.Common.{sym, ap, ◌∙◌, append_assoc, append-nil}
 use Rattle.std.proofs.lemmas.Grind.{flat_map-append}
 use Rattle.fault_lines.specs.Refusals.{Refusal, at_line, too_much, formula_too_long, written_two_trees, too_much_written, proof_too_long, too_large}
 use Rattle.fault_lines.specs.FaultLines.{fault_name, refusal_line, sheet_faults}
+use Rattle.mm_base.specs.declared.kinds.Kinds.{Kinds}
 use Rattle.mm_base.specs.declared.symbols.Sym.{Sym}
 use Rattle.mm_base.specs.declared.symbols.Pair.{Pair}
+use Rattle.mm_database.specs.Books.{database_of}
+use Rattle.mm_database.specs.Opened.{Opened, IsOpened}
+use Rattle.mm_frames.specs.Contents.{Contents}
 use Rattle.mm_model.specs.Book.{Database}
 use Rattle.mm_model.specs.Faults.{fault}
 use Rattle.mm_model.specs.Names.{Name}
 use Rattle.sheet_text.specs.Layout.{spaced}
 use Rattle.written_model.specs.declared.report.ReportLine.{ReportLine}
-use Rattle.written_model.specs.Report.{clash_words, lack_words, report_line, verdict_words, reference_words}
-use Rattle.sheet_unify.specs.Lines.{behind, clash_in, lack_in, words_in, report_text, error_text, place_text, number_text, step_text, formula_text}
+use Rattle.written_model.specs.declared.report.ReportVerdict.{ReportVerdict}
+use Rattle.written_model.specs.declared.report.ReportVerdict.TheVariants as report
+use Rattle.written_model.specs.Report.{clash_words, lack_words, last_line, report_line, report_lines, verdict_words, reference_words}
+use Rattle.sheet_unify.specs.Lines.{shows, behind, clash_in, lack_in, words_in, report_text, error_text, place_text, number_text, step_text, formula_text}
 
 pub joined : (x : Name) (xs : List Name) → spaced (x ∷ xs) ≡ x ++ behind xs
 joined x [] = sym (append-nil x)
@@ -40,6 +46,41 @@ reports_are db (r ∷ rs) = ap (λ x. x ∷ map (report_line db) rs) (report_is 
 
 behind-append : (xs ys : List Name) → behind (xs ++ ys) ≡ behind xs ++ behind ys
 behind-append xs ys = flat_map-append (λ (w : Name). 32 ∷ w) xs ys
+
+-- ---- references
+
+not_both : (b : Bool) → b ≡ true → b ≡ false → ⊥
+not_both b e h = let impossible : true ≡ false = sym e ∙ h in cc
+
+pub hidden : (v : ReportVerdict) (o : Option Name) (b : Bool) (xs : List ℕ) → b ≡ shows v → b ≡ false → xs ≡ xs ++ behind (reference_words v o)
+hidden report.Hyp o b xs e h = sym (append-nil xs)
+hidden report.NoRef o b xs e h = sym (append-nil xs)
+hidden report.Fits o b xs e h = absurd (not_both b e h)
+hidden report.Found o b xs e h = absurd (not_both b e h)
+hidden report.NoFit o b xs e h = absurd (not_both b e h)
+hidden report.UnknownRef o b xs e h = absurd (not_both b e h)
+hidden report.NotUsable o b xs e h = absurd (not_both b e h)
+hidden report.TooManyHyps o b xs e h = absurd (not_both b e h)
+
+one_behind : (r : Name) (xs : List ℕ) → xs ++ 32 ∷ r ≡ xs ++ behind (r ∷ [])
+one_behind r xs = ap (λ t. xs ++ 32 ∷ t) (sym (append-nil r))
+
+pub shown_some : (v : ReportVerdict) (r : Name) (b : Bool) (xs : List ℕ) → b ≡ shows v → b ≡ true → xs ++ 32 ∷ r ≡ xs ++ behind (reference_words v (Some r))
+shown_some report.Hyp r b xs e h = absurd (not_both b h e)
+shown_some report.NoRef r b xs e h = absurd (not_both b h e)
+shown_some report.Fits r b xs e h = one_behind r xs
+shown_some report.Found r b xs e h = one_behind r xs
+shown_some report.NoFit r b xs e h = one_behind r xs
+shown_some report.UnknownRef r b xs e h = one_behind r xs
+shown_some report.NotUsable r b xs e h = one_behind r xs
+shown_some report.TooManyHyps r b xs e h = one_behind r xs
+
+-- all lines
+pub lines_are : (kinds : Kinds) (text : List ℕ) (d : Opened) (rs : List ReportLine) (finished : Bool) (lines : List (List ℕ)) → IsOpened kinds text d
+    → lines ≡ map (report_text d.contents.symbols) rs ++ last_line finished ∷ [] → lines ≡ report_lines (database_of kinds text d.rows d.parsed) rs finished
+lines_are kinds text d rs finished lines opened e =
+    e ∙ ap (λ (c : Contents). map (report_text c.symbols) rs ++ last_line finished ∷ []) opened.contents
+    ∙ ap (λ xs. xs ++ last_line finished ∷ []) (sym (reports_are (database_of kinds text d.rows d.parsed) rs))
 
 -- five parts, each put in behind the others
 pub parts_are : (symbols : List Name) (r : ReportLine) (a b c d e : List ℕ) → a ≡ r.name → b ≡ a ++ behind (verdict_words r.verdict) → c ≡ b ++ behind (reference_words r.verdict r.reference)
@@ -70,4 +111,12 @@ place_is code place words e = at (decimal code) (fault_name sheet_faults code) (
     at c n p e = ap (λ x. codes "sheet error" ++ x) (lines c n p) ∙ ap (λ x. ((codes "sheet error" ++ x) ++ codes " at line") ++ 32 ∷ p) (sym e)
       where
         lines : (c n p : List ℕ) → 32 ∷ (c ++ 32 ∷ (n ++ (codes " at line " ++ p))) ≡ (behind (c ∷ n ∷ []) ++ codes " at line") ++ 32 ∷ p
-        lines c n p = simp (append_assoc, append-nil) refl
+        lines c n p =
+            sym (append_assoc (behind (c ∷ n ∷ [])) (codes " at line") (32 ∷ p) ∙ append_assoc (32 ∷ c) ((32 ∷ n) ++ []) (codes " at line " ++ p)
+            ∙ ap (λ t. (32 ∷ c) ++ t) (append_assoc (32 ∷ n) [] (codes " at line " ++ p)))
+
+pub formula_is : (name : Name) (n : ℕ) → refusal_line (formula_too_long name n) ≡ formula_text name n
+formula_is name n = at name (decimal n)
+  where
+    at : (a b : List ℕ) → codes "sheet error 75 FormulaTooLong step " ++ (a ++ (codes " tokens " ++ b)) ≡ ((codes "sheet error 75 FormulaTooLong step" ++ 32 ∷ a) ++ codes " tokens") ++ 32 ∷ b
+    at a b = sym (append_assoc (codes "sheet error 75 FormulaTooLong step " ++ a) (codes " tokens") (32 ∷ b) ∙ append_assoc (codes "sheet error 75 FormulaTooLong step ") a (codes " tokens " ++ b))

@@ -1,13 +1,26 @@
 -- Lines as they are put together: a first word, and each other one behind a space.
-use Rattle.std.specs.Prelude.{ℕ, List, [], ◌∷◌, ◌++◌, flat_map, slice_index_or, decimal, Option, Some, None, codes}
+use Rattle.std.specs.Prelude.{ℕ, Bool, true, false, List, [], ◌∷◌, ◌++◌, flat_map, slice_index_or, decimal, Option, Some, None, codes}
 use Rattle.mm_base.specs.declared.symbols.Sym.{Sym}
 use Rattle.mm_base.specs.declared.symbols.Pair.{Pair}
 use Rattle.mm_model.specs.Names.{Name}
 use Rattle.written_model.specs.declared.report.ReportLine.{ReportLine}
+use Rattle.written_model.specs.declared.report.ReportVerdict.{ReportVerdict}
+use Rattle.written_model.specs.declared.report.ReportVerdict.TheVariants as report
 use Rattle.written_model.specs.Report.{verdict_words, reference_words}
 
 abbrev pub behind : List Name → List ℕ
 behind words = flat_map (λ (w : Name). 32 ∷ w) words
+
+-- the reference is shown beside the verdict
+abbrev pub shows : ReportVerdict → Bool
+shows report.Hyp = false
+shows report.NoRef = false
+shows report.Fits = true
+shows report.Found = true
+shows report.NoFit = true
+shows report.UnknownRef = true
+shows report.NotUsable = true
+shows report.TooManyHyps = true
 
 -- ---- reports, by the names of the symbols
 

@@ -3,7 +3,7 @@ ghost use Rattle.mm_base.specs.declared.kinds.Kinds.{Kinds};
 ghost use Rattle.mm_database.specs.Books.{database_of};
 ghost use Rattle.mm_database.specs.Opened.{IsOpened};
 ghost use Rattle.written_model.specs.Report as lines;
-ghost use Rattle.sheet_unify.specs.Lines.{behind, clash_in, lack_in, report_text};
+ghost use Rattle.sheet_unify.specs.Lines.{behind, clash_in, lack_in, report_text, shows};
 
 use crate::words::put_word;
 use mm_base::{Bytes, List, Memory, Name, Pair, Sym};
@@ -30,11 +30,17 @@ fn verdict_words(verdict: ReportVerdict) -> &'static [u8]
 }
 
 /// Whether a line with a verdict shows the step's reference.
-fn shows_reference(verdict: ReportVerdict) -> bool {
+fn shows_reference(verdict: ReportVerdict) -> bool
+    ensures { result ≡ shows verdict }
+{
     match verdict {
-        ReportVerdict::Hyp => false,
-        ReportVerdict::NoRef => false,
-        _ => true,
+        ReportVerdict::Hyp | ReportVerdict::NoRef => false,
+        ReportVerdict::Fits
+        | ReportVerdict::Found
+        | ReportVerdict::NoFit
+        | ReportVerdict::UnknownRef
+        | ReportVerdict::NotUsable
+        | ReportVerdict::TooManyHyps => true,
     }
 }
 
