@@ -1,6 +1,7 @@
 -- Lines that are put together are those of the definitions.
-use Rattle.std.specs.Prelude.{◌≡◌, ℕ, List, [], ◌∷◌, ◌++◌, map, flat_map, decimal, Bool, true, false, Option, Some, None, refl, codes}
+use Rattle.std.specs.Prelude.{◌≡◌, ℕ, List, [], ◌∷◌, ◌++◌, map, flat_map, decimal, Bool, true, false, Option, Some, None, refl, codes, option_map}
 use Rattle.std.specs.List.{join_with_byte}
+use Rattle.std.specs.Fmt.{digits}
 use Rattle.std.proofs.Common.{sym, ap, ◌∙◌, append_assoc, append-nil}
 use Rattle.std.proofs.lemmas.Grind.{flat_map-append}
 use Rattle.fault_lines.specs.Refusals.{Refusal, at_line, too_much, formula_too_long, written_two_trees, too_much_written, proof_too_long, too_large}
@@ -14,12 +15,21 @@ use Rattle.mm_frames.specs.Contents.{Contents}
 use Rattle.mm_model.specs.Book.{Database}
 use Rattle.mm_model.specs.Faults.{fault}
 use Rattle.mm_model.specs.Names.{Name}
+use Rattle.sheet_bind.specs.declared.faults.BindCode.{BindCode}
+use Rattle.sheet_bind.specs.declared.faults.BindCode.TheVariants as bind
+use Rattle.sheet_bind.specs.Found.{number_of}
+use Rattle.sheet_read.specs.declared.fault.SheetCode.{SheetCode}
+use Rattle.sheet_read.specs.declared.fault.SheetCode.TheVariants as sheet
+use Rattle.sheet_read.specs.Faults.{code_of}
 use Rattle.sheet_text.specs.Layout.{spaced}
 use Rattle.written_model.specs.declared.report.ReportLine.{ReportLine}
 use Rattle.written_model.specs.declared.report.ReportVerdict.{ReportVerdict}
 use Rattle.written_model.specs.declared.report.ReportVerdict.TheVariants as report
 use Rattle.written_model.specs.Report.{clash_words, lack_words, last_line, report_line, report_lines, verdict_words, reference_words}
-use Rattle.sheet_unify.specs.Lines.{shows, behind, clash_in, lack_in, words_in, report_text, error_text, place_text, number_text, step_text, formula_text}
+use Rattle.sheet_unify.specs.Answered.{refusal_of}
+use Rattle.sheet_unify.specs.declared.faults.UnifyFault.{UnifyFault}
+use Rattle.sheet_unify.specs.declared.faults.UnifyFault.TheVariants as faults
+use Rattle.sheet_unify.specs.Lines.{sheet_words_of, bind_words_of, shows, behind, clash_in, lack_in, words_in, report_text, error_text, place_text, number_text, step_text, formula_text}
 
 pub joined : (x : Name) (xs : List Name) → spaced (x ∷ xs) ≡ x ++ behind xs
 joined x [] = sym (append-nil x)
@@ -120,3 +130,50 @@ formula_is name n = at name (decimal n)
   where
     at : (a b : List ℕ) → codes "sheet error 75 FormulaTooLong step " ++ (a ++ (codes " tokens " ++ b)) ≡ ((codes "sheet error 75 FormulaTooLong step" ++ 32 ∷ a) ++ codes " tokens") ++ 32 ∷ b
     at a b = sym (append_assoc (codes "sheet error 75 FormulaTooLong step " ++ a) (codes " tokens") (32 ∷ b) ∙ append_assoc (codes "sheet error 75 FormulaTooLong step ") a (codes " tokens " ++ b))
+
+sheet_words_are : (code : SheetCode) → 32 ∷ sheet_words_of code ≡ behind (decimal (code_of code) ∷ fault_name sheet_faults (code_of code) ∷ [])
+unfolding digits
+sheet_words_are sheet.NoHeader = refl
+sheet_words_are sheet.BadHeader = refl
+sheet_words_are sheet.NoFooter = refl
+sheet_words_are sheet.TextAfterFooter = refl
+sheet_words_are sheet.BadStep = refl
+sheet_words_are sheet.NameTwice = refl
+sheet_words_are sheet.HypUnknown = refl
+sheet_words_are sheet.QedPlace = refl
+sheet_words_are sheet.ProofUnended = refl
+sheet_words_are sheet.BadDistinct = refl
+
+bind_words_are : (code : BindCode) → 32 ∷ bind_words_of code ≡ behind (decimal (number_of code) ∷ fault_name sheet_faults (number_of code) ∷ [])
+unfolding digits
+bind_words_are bind.LocUnknown = refl
+bind_words_are bind.TheoremTaken = refl
+bind_words_are bind.HypsDiffer = refl
+bind_words_are bind.HypLabelTaken = refl
+bind_words_are bind.HypWithHyps = refl
+bind_words_are bind.NotProvable = refl
+bind_words_are bind.UnknownSymbol = refl
+bind_words_are bind.NoTree = refl
+bind_words_are bind.TwoTrees = refl
+bind_words_are bind.Blank = refl
+bind_words_are bind.NotVariable = refl
+bind_words_are bind.FormulaLong = refl
+bind_words_are bind.HypLabelTwice = refl
+bind_words_are bind.TheoremName = refl
+
+pub sheet_line_is : (f : UnifyFault) (code : SheetCode) (place : ℕ) (words line : List ℕ) → f ≡ faults.Sheet code place → words ≡ sheet_words_of code → line ≡ place_text words place
+    → option_map refusal_line (refusal_of f) ≡ Some line
+sheet_line_is f code place words line h e g =
+    ap (λ x. option_map refusal_line (refusal_of x)) h ∙ ap Some (place_is (code_of code) place words (ap (λ w. 32 ∷ w) e ∙ sheet_words_are code) ∙ sym g)
+
+pub bind_line_is : (f : UnifyFault) (code : BindCode) (place : ℕ) (words line : List ℕ) → f ≡ faults.Bind code place → words ≡ bind_words_of code → line ≡ place_text words place
+    → option_map refusal_line (refusal_of f) ≡ Some line
+bind_line_is f code place words line h e g =
+    ap (λ x. option_map refusal_line (refusal_of x)) h ∙ ap Some (place_is (number_of code) place words (ap (λ w. 32 ∷ w) e ∙ bind_words_are code) ∙ sym g)
+
+too_big_is : (line : List ℕ) → line ≡ place_text (codes "50 TooBig") 1 → refusal_line (at_line (fault 1 50)) ≡ line
+unfolding digits
+too_big_is line g = sym g
+
+pub big_line_is : (f : UnifyFault) (line : List ℕ) → f ≡ faults.TooBig → line ≡ place_text (codes "50 TooBig") 1 → option_map refusal_line (refusal_of f) ≡ Some line
+big_line_is f line h g = ap (λ x. option_map refusal_line (refusal_of x)) h ∙ ap Some (too_big_is line g)

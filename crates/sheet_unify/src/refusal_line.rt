@@ -1,9 +1,7 @@
-ghost use Rattle.std.specs.Prelude.{◌≡◌, ◌++◌, ◌∷◌, [], Some, option_map, decimal, IfOk, IsSome, OnOk};
-ghost use Rattle.fault_lines.specs.FaultLines.{fault_name, refusal_line, sheet_faults};
-ghost use Rattle.sheet_bind.specs.Found.{number_of};
-ghost use Rattle.sheet_read.specs.Faults.{code_of};
+ghost use Rattle.std.specs.Prelude.{◌≡◌, ◌++◌, ◌∷◌, Some, option_map, decimal, IfOk, IsSome, OnOk};
+ghost use Rattle.fault_lines.specs.FaultLines.{refusal_line};
 ghost use Rattle.sheet_unify.specs.Answered.{refusal_of};
-ghost use Rattle.sheet_unify.specs.Lines.{behind, error_text, formula_text, number_text, place_text, step_text};
+ghost use Rattle.sheet_unify.specs.Lines.{bind_words_of, error_text, formula_text, number_text, place_text, sheet_words_of, step_text};
 
 use crate::faults::UnifyFault;
 use crate::words::put_word;
@@ -15,7 +13,7 @@ use std::alloc::Global;
 
 /// The code and the name of a fault of a text.
 fn sheet_words(code: SheetCode) -> &'static [u8]
-    ensures { 32 ∷ result.now ≡ behind (decimal (code_of code) ∷ fault_name sheet_faults (code_of code) ∷ []) }
+    ensures { result.now ≡ sheet_words_of code }
 {
     match code {
         SheetCode::NoHeader => b"40 NoHeader",
@@ -33,7 +31,7 @@ fn sheet_words(code: SheetCode) -> &'static [u8]
 
 /// The code and the name of a fault against the database.
 fn bind_words(code: BindCode) -> &'static [u8]
-    ensures { 32 ∷ result.now ≡ behind (decimal (number_of code) ∷ fault_name sheet_faults (number_of code) ∷ []) }
+    ensures { result.now ≡ bind_words_of code }
 {
     match code {
         BindCode::LocUnknown => b"60 LocUnknown",
