@@ -1,6 +1,7 @@
 ghost use Rattle.std.specs.Prelude.{◌≡◌, ◌≤◌, ◌<◌, ◌-◌, ◌^◌, ℕ, List, length, min, None, IfOk, IfErr};
 ghost use Rattle.mm_database.specs.Books.{database_of};
 ghost use Rattle.mm_database.specs.Opened.{IsOpened};
+ghost use Rattle.solve_model.specs.Binding as spec;
 ghost use Rattle.sheet_bind.specs.Judging.{scene, IsJudged};
 ghost use Rattle.sheet_bind.specs.Results.{IsBound, IsRefused, IsBoundAt, IsRefusedAt, IsOver, bound_in, proved_in, size_of};
 
@@ -145,14 +146,27 @@ pub fn bind_sheet(
 }
 
 /// The theorem of a worksheet over the database that was opened with these kinds. It takes one pass over the statements of
-/// the database.
+/// the database. `Memory`: there is no room for it.
 pub fn sheet_theorem(
     alloc: Global,
     db: &Database,
     kinds: &Kinds,
     sheet: &Sheet,
-) -> Result<Theorem, Memory> {
-    let place = place_of(alloc, db.frames(), kinds, sheet)?;
+) -> Result<Theorem, Memory>
+    ensures { (text : List ℕ) → IsOpened kinds.now text db.now → IfOk result (λ t. t ≡ spec.theorem_of (database_of kinds.now text db.now.rows db.now.parsed) sheet.now) }
+{
+    let frames = db.frames();
+    has_few_statements(frames);
+    match place_of(alloc, frames, kinds, sheet) {
+        Err(_) => Err(Memory),
+        Ok(place) => theorem_at(alloc, db, sheet, place),
+    }
+}
+
+/// The theorem of a worksheet at its place.
+fn theorem_at(alloc: Global, db: &Database, sheet: &Sheet, place: Place) -> Result<Theorem, Memory>
+    ensures { IfOk result (λ t. t ≡ (proved_in db.now sheet.now place).theorem) }
+{
     match proved_of(alloc, db, sheet, place) {
         Err(_) => Err(Memory),
         Ok(

@@ -1,3 +1,10 @@
+ghost use Rattle.std.specs.Prelude.{◌≡◌, ◌++◌, ◌∷◌, ℕ, List, [], map, IfOk, OnOk};
+ghost use Rattle.mm_base.specs.declared.kinds.Kinds.{Kinds};
+ghost use Rattle.mm_database.specs.Books.{database_of};
+ghost use Rattle.mm_database.specs.Opened.{IsOpened};
+ghost use Rattle.written_model.specs.Report as lines;
+ghost use Rattle.sheet_unify.specs.Lines.{behind, clash_in, lack_in, report_text, shows};
+
 use crate::words::put_word;
 use mm_base::{Bytes, List, Memory, Name, Pair, Sym};
 use mm_database::Database;
@@ -7,7 +14,9 @@ use written_model::{ReportLine, ReportVerdict};
 use written_steps::symbol_name;
 
 /// The words of a verdict.
-fn verdict_words(verdict: ReportVerdict) -> &'static [u8] {
+fn verdict_words(verdict: ReportVerdict) -> &'static [u8]
+    ensures { 32 ∷ result.now ≡ behind (lines.verdict_words verdict) }
+{
     match verdict {
         ReportVerdict::Hyp => b"hyp",
         ReportVerdict::Fits => b"fits",
@@ -21,11 +30,17 @@ fn verdict_words(verdict: ReportVerdict) -> &'static [u8] {
 }
 
 /// Whether a line with a verdict shows the step's reference.
-fn shows_reference(verdict: ReportVerdict) -> bool {
+fn shows_reference(verdict: ReportVerdict) -> bool
+    ensures { result ≡ shows verdict }
+{
     match verdict {
-        ReportVerdict::Hyp => false,
-        ReportVerdict::NoRef => false,
-        _ => true,
+        ReportVerdict::Hyp | ReportVerdict::NoRef => false,
+        ReportVerdict::Fits
+        | ReportVerdict::Found
+        | ReportVerdict::NoFit
+        | ReportVerdict::UnknownRef
+        | ReportVerdict::NotUsable
+        | ReportVerdict::TooManyHyps => true,
     }
 }
 
@@ -33,7 +48,9 @@ fn put_reference(
     line: &mut Vec<u8>,
     verdict: ReportVerdict,
     reference: &Option<Name>,
-) -> Result<(), Memory> {
+) -> Result<(), Memory>
+    ensures { OnOk result (line.new.items ≡ line.old.items ++ behind (lines.reference_words verdict reference.now)) }
+{
     if !shows_reference(verdict) {
         return Ok(());
     }
@@ -43,7 +60,9 @@ fn put_reference(
     }
 }
 
-fn put_clash(line: &mut Vec<u8>, frames: &Frames, clash: Option<Sym>) -> Result<(), Memory> {
+fn put_clash(line: &mut Vec<u8>, frames: &Frames, clash: Option<Sym>) -> Result<(), Memory>
+    ensures { OnOk result (line.new.items ≡ line.old.items ++ behind (clash_in frames.now.symbols clash)) }
+{
     match clash {
         None => Ok(()),
         Some(shared) => {
@@ -53,7 +72,9 @@ fn put_clash(line: &mut Vec<u8>, frames: &Frames, clash: Option<Sym>) -> Result<
     }
 }
 
-fn put_lack(line: &mut Vec<u8>, frames: &Frames, lack: Option<Pair>) -> Result<(), Memory> {
+fn put_lack(line: &mut Vec<u8>, frames: &Frames, lack: Option<Pair>) -> Result<(), Memory>
+    ensures { OnOk result (line.new.items ≡ line.old.items ++ behind (lack_in frames.now.symbols lack)) }
+{
     match lack {
         None => Ok(()),
         Some(pair) => {
@@ -65,7 +86,9 @@ fn put_lack(line: &mut Vec<u8>, frames: &Frames, lack: Option<Pair>) -> Result<(
 }
 
 /// The line on a step.
-fn report_line(alloc: Global, frames: &Frames, report: &ReportLine) -> Result<Bytes, Memory> {
+fn report_line(alloc: Global, frames: &Frames, report: &ReportLine) -> Result<Bytes, Memory>
+    ensures { IfOk result (λ line. line ≡ report_text frames.now.symbols report.now) }
+{
     let mut line = Vec::from_slice(alloc, report.name.as_slice())?;
     put_word(&mut line, verdict_words(report.verdict))?;
     put_reference(&mut line, report.verdict, &report.reference)?;
@@ -74,7 +97,9 @@ fn report_line(alloc: Global, frames: &Frames, report: &ReportLine) -> Result<By
     Ok(List::from_vec(line))
 }
 
-fn last_line(finished: bool) -> &'static [u8] {
+fn last_line(finished: bool) -> &'static [u8]
+    ensures { result.now ≡ lines.last_line finished }
+{
     if finished {
         b"finished"
     } else {
@@ -89,7 +114,10 @@ pub fn report_lines(
     db: &Database,
     report: &List<ReportLine>,
     finished: bool,
-) -> Result<List<Bytes>, Memory> {
+) -> Result<List<Bytes>, Memory>
+    ensures { (kinds : Kinds) (text : List ℕ) → IsOpened kinds text db.now
+        → IfOk result (λ all. all ≡ lines.report_lines (database_of kinds text db.now.rows db.now.parsed) report.now finished) }
+{
     let mut lines = Vec::new(alloc);
     for line in report.as_slice() {
         lines.push(report_line(alloc, db.frames(), line)?)?;
