@@ -1,5 +1,5 @@
 -- The lines of a block, from their pieces.
-use Rattle.std.proofs.Common.{◌≡◌, ◌≢◌, ◌==◌, ◌≤◌, ◌+◌, ◌-◌, ℕ, zero, suc, List, [], ◌∷◌, ◌++◌, cond, Bool, true, false, refl, sym, ◌∙◌, ap, append_assoc, codes, arith, add-one, add-zero}
+use Rattle.std.proofs.Common.{◌≡◌, ◌≢◌, ◌==◌, ◌+◌, ◌-◌, ℕ, zero, suc, List, [], ◌∷◌, ◌++◌, cond, Bool, true, false, refl, sym, ◌∙◌, ap, append_assoc, codes, arith, add-one, add-zero}
 use Rattle.std.proofs.lemmas.Bool.Decides.{nat_tests}
 use Rattle.std.proofs.lemmas.List.{append-nil}
 use Rattle.std.specs.List.{flat_map, range_with_len}
@@ -79,17 +79,13 @@ whole_sheet count =
 abbrev head : List ℕ
 head = codes "$( <MM> <PROOF_ASST> THEOREM=trial LOC_AFTER=?\n"
 
-pub one_more_block : (old new : List ℕ) (count k : ℕ) → 1 ≤ k → old ≡ head ++ blocks_text count (k - 1) → new ≡ old ++ flat_map ended (block_lines count k) → new ≡ head ++ blocks_text count (k + 1 - 1)
-one_more_block old new count k h e f =
-    let here : k ≡ 1 + (k - 1) = omega arith in
-    let there : (k - 1) + 1 ≡ k + 1 - 1 = omega arith in
-    f ∙ ap (λ (t : List ℕ). t ++ flat_map ended (block_lines count k)) e
-    ∙ append_assoc head (blocks_text count (k - 1)) (flat_map ended (block_lines count k))
-    ∙ ap (λ (m : ℕ). head ++ (blocks_text count (k - 1) ++ flat_map ended (block_lines count m))) here
-    ∙ ap (λ (t : List ℕ). head ++ t) (next_block count (k - 1))
-    ∙ ap (λ (m : ℕ). head ++ blocks_text count m) there
+pub one_more_block : (old new : List ℕ) (count k : ℕ) → old ≡ head ++ blocks_text count k → new ≡ old ++ flat_map ended (block_lines count (k + 1)) → new ≡ head ++ blocks_text count (k + 1)
+one_more_block old new count k e f =
+    let here : k + 1 ≡ 1 + k = omega arith in
+    f ∙ ap (λ (t : List ℕ). t ++ flat_map ended (block_lines count (k + 1))) e
+    ∙ append_assoc head (blocks_text count k) (flat_map ended (block_lines count (k + 1)))
+    ∙ ap (λ (m : ℕ). head ++ (blocks_text count k ++ flat_map ended (block_lines count m))) here
+    ∙ ap (λ (t : List ℕ). head ++ t) (next_block count k)
 
-pub all_blocks : (old new : List ℕ) (count k : ℕ) → k ≡ count + 1 → old ≡ head ++ blocks_text count (k - 1) → new ≡ old ++ codes "$)\n" → new ≡ trial_sheet count
-all_blocks old new count k h e f =
-    let all : k - 1 ≡ count = omega (arith, h) in
-    f ∙ ap (λ (t : List ℕ). t ++ codes "$)\n") (e ∙ ap (λ (m : ℕ). head ++ blocks_text count m) all) ∙ whole_sheet count
+pub all_blocks : (old new : List ℕ) (count k : ℕ) → k ≡ count → old ≡ head ++ blocks_text count k → new ≡ old ++ codes "$)\n" → new ≡ trial_sheet count
+all_blocks old new count k h e f = f ∙ ap (λ (t : List ℕ). t ++ codes "$)\n") (e ∙ ap (λ (m : ℕ). head ++ blocks_text count m) h) ∙ whole_sheet count

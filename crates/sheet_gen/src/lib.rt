@@ -6,4 +6,4 @@ mod lines;
 mod pieces;
 mod texts;
 
-pub use texts::{MOST_BLOCKS, database, sheet};
+pub use texts::{database, sheet};

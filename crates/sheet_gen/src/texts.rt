@@ -1,15 +1,12 @@
 //! The two texts.
 
-ghost use Rattle.std.specs.Prelude.{◌≡◌, ◌≤◌, IfOk};
+ghost use Rattle.std.specs.Prelude.{◌≡◌, IfOk};
 ghost use Rattle.trial_texts.specs.TrialTexts.{trial_database, trial_sheet};
 
 use crate::blocks::put_block;
 use crate::pieces::put;
 use mm_base::{Bytes, List, Memory};
 use std::alloc::Global;
-
-/// The most blocks that a worksheet is made of.
-pub const MOST_BLOCKS: u32 = 1000;
 
 const DATABASE: &str = "\
 $c ( ) -> -. wff |- $.\n\
@@ -35,15 +32,14 @@ pub fn database(alloc: Global) -> Result<Bytes, Memory>
     Ok(List::from_vec(Vec::from_slice(alloc, DATABASE.as_bytes())?))
 }
 
-/// The worksheet of so many blocks. It has about 200 bytes a block.
+/// The worksheet of so many blocks. It has some hundred bytes a block.
 pub fn sheet(alloc: Global, blocks: u32) -> Result<Bytes, Memory>
-    requires most { blocks ≤ 1000 }
     ensures { IfOk result (λ text. text ≡ trial_sheet blocks) }
 {
     let mut text = Vec::new(alloc);
     put(&mut text, b"$( <MM> <PROOF_ASST> THEOREM=trial LOC_AFTER=?\n")?;
-    for block in 1..blocks + 1 {
-        put_block(&mut text, blocks, block)?;
+    for before in 0..blocks {
+        put_block(&mut text, blocks, before + 1)?;
     }
     put(&mut text, b"$)\n")?;
     Ok(List::from_vec(text))
