@@ -5,6 +5,7 @@ ghost use Rattle.std.specs.List.{after_first, flat_map};
 ghost use Rattle.std.specs.Str.{bytes_eq};
 ghost use Rattle.call_answers.specs.Endings.{status_of as status_of_end};
 ghost use Rattle.call_answers.specs.Trial.{IsTried, is_fits, letters_in, letter_count, proof_line, trial_options, trial_report};
+ghost use Rattle.mm_database.specs.Faults.{IsDbFault, IsTold};
 ghost use Rattle.mm_database.specs.Opened.{IsOpened};
 ghost use Rattle.mm_frames.specs.Contents.{contents_of};
 ghost use Rattle.mm_model.specs.Statements.{database_fault};
@@ -126,16 +127,58 @@ fn try_over(
 }
 
 // Opens the database from its statements, and tries a worksheet over it.
-fn try_frames(alloc: Global, text: &[u8], frames: Frames, blocks: u32) -> Result<Ending, Memory>
+fn try_frames(
+    alloc: Global,
+    text: &[u8],
+    frames: Frames,
+    options: &Options,
+    blocks: u32,
+) -> Result<Ending, Memory>
     requires text { text.now ≡ trial_database }
+    requires options { options.now ≡ trial_options }
     requires contents { frames ≡ contents_of text.now }
     requires no_fault { database_fault text.now ≡ None }
     ensures answer { IfOk result (IsTried blocks) }
     ensures ending { IfOk result IsTextEnding }
 {
-    let options = make_options(alloc, USUAL)?;
     match open_frames(alloc, text, frames, &options.kinds) {
-        Ok(db) => try_over(alloc, &db, &options, blocks),
+        Ok(db) => try_over(alloc, &db, options, blocks),
+        Err(_) => Err(Memory),
+    }
+}
+
+// The one fault of the database's text, which has no other.
+fn want_of(fault: DbFault) -> Memory
+    requires no_other { IsDbFault fault None }
+    requires told { IsTold fault }
+{
+    match fault {
+        DbFault::Memory => Memory,
+        _ => unreachable!(),
+    }
+}
+
+// Reads the database, which has no fault, and tries a worksheet over it.
+fn try_text(alloc: Global, text: &[u8], options: &Options, blocks: u32) -> Result<Ending, Memory>
+    requires text { text.now ≡ trial_database }
+    requires options { options.now ≡ trial_options }
+    ensures answer { IfOk result (IsTried blocks) }
+    ensures ending { IfOk result IsTextEnding }
+{
+    match read_frames(alloc, text) {
+        Ok(frames) => try_frames(alloc, text, frames, options, blocks),
+        Err(fault) => Err(want_of(fault)),
+    }
+}
+
+// Tries a worksheet with these options.
+fn try_with(alloc: Global, options: &Options, blocks: u32) -> Result<Ending, Memory>
+    requires { options.now ≡ trial_options }
+    ensures answer { IfOk result (IsTried blocks) }
+    ensures ending { IfOk result IsTextEnding }
+{
+    match database(alloc) {
+        Ok(text) => try_text(alloc, text.as_slice(), options, blocks),
         Err(_) => Err(Memory),
     }
 }
@@ -145,10 +188,8 @@ pub fn end_trial(alloc: Global, blocks: u32) -> Result<Ending, Memory>
     ensures answer { IfOk result (IsTried blocks) }
     ensures ending { IfOk result IsTextEnding }
 {
-    let text = database(alloc)?;
-    match read_frames(alloc, text.as_slice()) {
-        Ok(frames) => try_frames(alloc, text.as_slice(), frames, blocks),
-        Err(DbFault::Memory) => Err(Memory),
-        Err(_) => unreachable!(),
+    match make_options(alloc, USUAL) {
+        Ok(options) => try_with(alloc, &options, blocks),
+        Err(_) => Err(Memory),
     }
 }
