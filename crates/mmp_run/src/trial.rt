@@ -77,15 +77,25 @@ fn count_letters(alloc: Global, text: &[u8]) -> Result<usize, Memory>
 fn count_fitting(report: &[ReportLine]) -> usize
     ensures { result ≡ count_by (λ line. is_fits line.verdict) report.now }
 {
-    report.iter().filter(|line| matches!(line.verdict, ReportVerdict::Fits)).count()
+    report
+        .iter()
+        .filter(|line| matches!(line.verdict, ReportVerdict::Fits))
+        .count()
 }
 
 // The four lines.
-fn report_text(alloc: Global, steps: usize, fits: usize, letters: usize, finished: bool) -> Result<Bytes, Memory>
+fn report_text(
+    alloc: Global,
+    steps: usize,
+    fits: usize,
+    letters: usize,
+    finished: bool,
+) -> Result<Bytes, Memory>
     ensures { IfOk result (λ text. text ≡ flat_map ended (trial_report steps fits letters finished)) }
 {
     let end = if finished { "finished" } else { "not finished" };
-    let Ok(text) = format!(in alloc; "steps {steps}\nfits {fits}\nletters {letters}\n{end}\n") else {
+    let Ok(text) = format!(in alloc; "steps {steps}\nfits {fits}\nletters {letters}\n{end}\n")
+    else {
         return Err(Memory);
     };
     Ok(List::from_vec(text.into_bytes()))
@@ -99,7 +109,13 @@ fn end_outcome(alloc: Global, outcome: &Outcome) -> Result<Ending, Memory>
 {
     let letters = count_letters(alloc, outcome.text.as_slice())?;
     let report = outcome.report.as_slice();
-    let out = report_text(alloc, report.len(), count_fitting(report), letters, outcome.finished)?;
+    let out = report_text(
+        alloc,
+        report.len(),
+        count_fitting(report),
+        letters,
+        outcome.finished,
+    )?;
     Ok(Ending {
         out,
         log: List::from_vec(Vec::new(alloc)),
@@ -108,12 +124,7 @@ fn end_outcome(alloc: Global, outcome: &Outcome) -> Result<Ending, Memory>
 }
 
 // Tries a worksheet of so many blocks over the opened database.
-fn try_over(
-    alloc: Global,
-    db: &Database,
-    options: &Options,
-    blocks: u32,
-) -> Result<Ending, Memory>
+fn try_over(alloc: Global, db: &Database, options: &Options, blocks: u32) -> Result<Ending, Memory>
     requires options { options.now ≡ trial_options }
     requires opened { IsOpened trial_options.kinds trial_database db.now }
     ensures answer { IfOk result (IsTried blocks) }

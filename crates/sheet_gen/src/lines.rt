@@ -17,7 +17,12 @@ fn put_name(text: &mut Vec<u8>, letter: &[u8], block: u32) -> Result<(), Memory>
 }
 
 /// The line of a step without places and without a formula.
-pub fn put_bare(text: &mut Vec<u8>, letter: &[u8], block: u32, reference: &[u8]) -> Result<(), Memory>
+pub fn put_bare(
+    text: &mut Vec<u8>,
+    letter: &[u8],
+    block: u32,
+    reference: &[u8],
+) -> Result<(), Memory>
     ensures { OnOk result (text.new.items ≡ text.old.items ++ ended (step_line (in_block letter.now block) [] reference.now [])) }
 {
     put_name(text, letter, block)?;

@@ -37,7 +37,10 @@ pub fn sheet(alloc: Global, blocks: u32) -> Result<Bytes, Memory>
     ensures { IfOk result (λ text. text ≡ trial_sheet blocks) }
 {
     let mut text = Vec::new(alloc);
-    put(&mut text, b"$( <MM> <PROOF_ASST> THEOREM=trial LOC_AFTER=?\n")?;
+    put(
+        &mut text,
+        b"$( <MM> <PROOF_ASST> THEOREM=trial LOC_AFTER=?\n",
+    )?;
     for before in 0..blocks {
         put_block(&mut text, blocks, before + 1)?;
     }
