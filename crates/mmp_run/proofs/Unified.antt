@@ -50,7 +50,7 @@ outcome_unifies law options database text d outcome (Ok end) is is_outcome shows
       db = book options database d;
       is_database = is.database;
       unifies = law (book options database d) text options (wrote is_outcome.writing) end
-        (record { text = database; sound = is.no_fault; is_database = is.database }) is_outcome.answers (shows is_outcome.writing is_outcome.written);
+          (record { text = database; sound = is.no_fault; is_database = is.database }) is_outcome.answers (shows is_outcome.writing is_outcome.written);
     }
 
 -- the first fault of the worksheet, and the line that tells it
@@ -62,7 +62,7 @@ told_refusal law options database text d (Some r) end is some answers says =
       db = book options database d;
       is_database = is.database;
       unifies = law (book options database d) text options (refused r) end
-        (record { text = database; sound = is.no_fault; is_database = is.database }) answers (refuses end status.Sheet (refusal_line r) says);
+          (record { text = database; sound = is.no_fault; is_database = is.database }) answers (refuses end status.Sheet (refusal_line r) says);
     }
 
 pub fault_unifies : AllUnify → (options : Options) (database text : List ℕ) (d : opened.Opened) (fault : UnifyFault) (end : Result Ending memory.Memory) → opened.IsOpened options.kinds database d

@@ -7,5 +7,6 @@ pub mod Refusals
 pub mod Refused
 pub mod Shown
 pub mod Theorems
+pub mod Tried
 pub mod Verdicts
 pub mod Verify

@@ -91,7 +91,11 @@ fn read_files<'a>(choice: Choice<'a>, words: &'a [String]) -> Option<Command<'a>
 {
     match two_names(words) {
         None => None,
-        Some((database, sheet)) => Some(Command::Unify { choice, database, sheet }),
+        Some((database, sheet)) => Some(Command::Unify {
+            choice,
+            database,
+            sheet,
+        }),
     }
 }
 

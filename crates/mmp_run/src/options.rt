@@ -141,7 +141,13 @@ fn style_in(options: &[String]) -> ProofStyle
 {
     match find_value(options, b"--proof") {
         None => ProofStyle::Compressed,
-        Some(value) => { if value == b"normal".as_slice() { ProofStyle::Normal } else { ProofStyle::Compressed } }
+        Some(value) => {
+            if value == b"normal".as_slice() {
+                ProofStyle::Normal
+            } else {
+                ProofStyle::Compressed
+            }
+        }
     }
 }
 
@@ -151,7 +157,13 @@ fn dv_in(options: &[String]) -> DvMode
 {
     match find_value(options, b"--dv") {
         None => DvMode::Add,
-        Some(value) => { if value == b"given".as_slice() { DvMode::Given } else { DvMode::Add } }
+        Some(value) => {
+            if value == b"given".as_slice() {
+                DvMode::Given
+            } else {
+                DvMode::Add
+            }
+        }
     }
 }
 

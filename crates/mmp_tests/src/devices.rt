@@ -4,7 +4,8 @@ use crate::calls::{Outside, P, Want, check, honest, refused};
 use mm_base::Status;
 use std::test::Fail;
 
-const GOOD: &str = "$c |- wff $. $v ph $. wph $f wff ph $. any $a |- ph $. good $p |- ph $= ( any ) AB $.\n";
+const GOOD: &str =
+    "$c |- wff $. $v ph $. wph $f wff ph $. any $a |- ph $. good $p |- ph $= ( any ) AB $.\n";
 
 const ACCEPTED: Want<'static> = Want {
     status: Status::Finished,
@@ -27,12 +28,48 @@ fn reads_fail(rt: HostRuntime) -> Result<(), Fail> {
     let no_database = refused(Status::Read, "read fault P.mm\n");
     let no_sheet = refused(Status::Read, "read fault r.mmp\n");
     let no_file = refused(Status::Read, "read fault Q.mm\n");
-    check(&rt, rt.alloc(), &["unify", "P.mm", "r.mmp"], first, no_database)?;
-    check(&rt, rt.alloc(), &["unify", "--in-place", "P.mm", "r.mmp"], first, no_database)?;
-    check(&rt, rt.alloc(), &["verify", "P.mm", "th"], first, no_database)?;
-    check(&rt, rt.alloc(), &["unify", "P.mm", "r.mmp"], second, no_sheet)?;
-    check(&rt, rt.alloc(), &["unify", "--in-place", "P.mm", "r.mmp"], second, no_sheet)?;
-    check(&rt, rt.alloc(), &["unify", "Q.mm", "r.mmp"], honest, no_file)?;
+    check(
+        &rt,
+        rt.alloc(),
+        &["unify", "P.mm", "r.mmp"],
+        first,
+        no_database,
+    )?;
+    check(
+        &rt,
+        rt.alloc(),
+        &["unify", "--in-place", "P.mm", "r.mmp"],
+        first,
+        no_database,
+    )?;
+    check(
+        &rt,
+        rt.alloc(),
+        &["verify", "P.mm", "th"],
+        first,
+        no_database,
+    )?;
+    check(
+        &rt,
+        rt.alloc(),
+        &["unify", "P.mm", "r.mmp"],
+        second,
+        no_sheet,
+    )?;
+    check(
+        &rt,
+        rt.alloc(),
+        &["unify", "--in-place", "P.mm", "r.mmp"],
+        second,
+        no_sheet,
+    )?;
+    check(
+        &rt,
+        rt.alloc(),
+        &["unify", "Q.mm", "r.mmp"],
+        honest,
+        no_file,
+    )?;
     check(&rt, rt.alloc(), &["verify", "Q.mm", "th"], honest, no_file)
 }
 
@@ -40,7 +77,13 @@ fn reads_fail(rt: HostRuntime) -> Result<(), Fail> {
 #[test]
 fn writes_fail(rt: HostRuntime) -> Result<(), Fail> {
     let honest = honest(GOOD.as_bytes(), b"");
-    check(&rt, rt.alloc(), &["verify", "P.mm", "good"], honest, ACCEPTED)?;
+    check(
+        &rt,
+        rt.alloc(),
+        &["verify", "P.mm", "good"],
+        honest,
+        ACCEPTED,
+    )?;
     let room = Outside {
         out_room: 4,
         ..honest
@@ -57,6 +100,12 @@ fn writes_fail(rt: HostRuntime) -> Result<(), Fail> {
     };
     // nothing is written to the log
     check(&rt, rt.alloc(), &["verify", "P.mm", "good"], log, ACCEPTED)?;
-    check(&rt, rt.alloc(), &["verify", "P.mm", "bad"], log, refused(Status::Write, ""))?;
+    check(
+        &rt,
+        rt.alloc(),
+        &["verify", "P.mm", "bad"],
+        log,
+        refused(Status::Write, ""),
+    )?;
     check(&rt, rt.alloc(), &["check"], log, refused(Status::Write, ""))
 }

@@ -97,7 +97,13 @@ fn databases_are_refused(rt: HostRuntime) -> Result<(), Fail> {
         };
         let want = refused(Status::Database, row.line);
         check(&rt, rt.alloc(), &["unify", "P.mm", "r.mmp"], outside, want)?;
-        check(&rt, rt.alloc(), &["unify", "--in-place", "P.mm", "r.mmp"], outside, want)?;
+        check(
+            &rt,
+            rt.alloc(),
+            &["unify", "--in-place", "P.mm", "r.mmp"],
+            outside,
+            want,
+        )?;
         check(&rt, rt.alloc(), &["verify", "P.mm", "th"], outside, want)?;
     }
     Ok(())

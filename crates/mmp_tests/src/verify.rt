@@ -128,12 +128,24 @@ fn proofs_are_checked(rt: HostRuntime) -> Result<(), Fail> {
             out: row.out.as_bytes(),
             log: row.log,
         };
-        check(&rt, rt.alloc(), &["verify", "P.mm", row.theorem], outside, want)?;
+        check(
+            &rt,
+            rt.alloc(),
+            &["verify", "P.mm", row.theorem],
+            outside,
+            want,
+        )?;
     }
     let want = Want {
         status: Status::Finished,
         out: b"th1 accepted\n",
         log: "",
     };
-    check(&rt, rt.alloc(), &["verify", "P.mm", "th1"], honest(DEMO0.as_bytes(), b""), want)
+    check(
+        &rt,
+        rt.alloc(),
+        &["verify", "P.mm", "th1"],
+        honest(DEMO0.as_bytes(), b""),
+        want,
+    )
 }

@@ -4,7 +4,8 @@ use crate::calls::{Outside, P, check, honest, refused};
 use mm_base::Status;
 use std::test::Fail;
 
-const USAGE: &str = "usage: mmp unify [--proof=normal|compressed] [--in-place] [--dv=add|given] [--provable=T] [--logic=T] DB SHEET | \
+const USAGE: &str =
+    "usage: mmp unify [--proof=normal|compressed] [--in-place] [--dv=add|given] [--provable=T] [--logic=T] DB SHEET | \
 mmp verify DB LABEL | mmp trial N\n";
 
 const WRONG: [&[&str]; 30] = [
@@ -14,7 +15,13 @@ const WRONG: [&[&str]; 30] = [
     &["unify", "P.mm"],
     &["unify", "P.mm", "r.mmp", "s.mmp"],
     &["unify", "--proof=normal", "--proof=normal", "P.mm", "r.mmp"],
-    &["unify", "--proof=normal", "--proof=compressed", "P.mm", "r.mmp"],
+    &[
+        "unify",
+        "--proof=normal",
+        "--proof=compressed",
+        "P.mm",
+        "r.mmp",
+    ],
     &["unify", "--in-place", "--in-place", "P.mm", "r.mmp"],
     &["unify", "--in-place=yes", "P.mm", "r.mmp"],
     &["unify", "--dv=add", "--dv=given", "P.mm", "r.mmp"],
@@ -46,7 +53,16 @@ const RIGHT: [&[&str]; 6] = [
     &["unify", "--proof=normal", "P.mm", "r.mmp"],
     &["unify", "--in-place", "--proof=compressed", "P.mm", "r.mmp"],
     &["unify", "--dv=given", "--in-place", "P.mm", "r.mmp"],
-    &["unify", "--logic=form", "--dv=add", "--provable=T=U", "--proof=normal", "--in-place", "P.mm", "r.mmp"],
+    &[
+        "unify",
+        "--logic=form",
+        "--dv=add",
+        "--provable=T=U",
+        "--proof=normal",
+        "--in-place",
+        "P.mm",
+        "r.mmp",
+    ],
     &["unify", "--provable=wff", "--logic=|-", "P.mm", "r.mmp"],
 ];
 
@@ -58,10 +74,19 @@ fn wrong_words_are_refused(rt: HostRuntime) -> Result<(), Fail> {
             out_fails: &[1],
             ..honest(P.as_bytes(), b"")
         };
-        check(&rt, rt.alloc(), words, outside, refused(Status::Words, USAGE))?;
+        check(
+            &rt,
+            rt.alloc(),
+            words,
+            outside,
+            refused(Status::Words, USAGE),
+        )?;
     }
     for words in RIGHT {
-        let want = refused(Status::Database, "database error 26 EmptyFormula at byte 3\n");
+        let want = refused(
+            Status::Database,
+            "database error 26 EmptyFormula at byte 3\n",
+        );
         check(&rt, rt.alloc(), words, honest(b"$c $.", b""), want)?;
     }
     Ok(())
