@@ -45,35 +45,32 @@ use Rattle.chain_laws.proofs.Agreement.{over_Var, over_Fresh, over_Work, solve_s
 
 -- ---- the nodes of the unknowns
 
-module _ (db : Database) (bound : Bound) (asked : List Asked) where
-  abbrev On : Unknown → Type 0
+module _ (db : Database) (bound : Bound) (asked : List Asked) (once : OnceEach (unknowns bound asked)) where
+  abbrev pub On : Unknown → Type 0
   On u = IsUnknown bound asked u
 
-  once : OnceEach (unknowns bound asked)
-  once = once_each (unknowns bound asked)
-
-  abbrev listed : List Unknown
+  abbrev pub listed : List Unknown
   listed = once.list
 
-  listed_all : (u : Unknown) → On u → Contains listed u
+  pub listed_all : (u : Unknown) → On u → Contains listed u
   listed_all u on = once.all u (all_unknowns bound asked u on)
 
-  listed_only : (u : Unknown) → Contains listed u → On u
+  pub listed_only : (u : Unknown) → Contains listed u → On u
   listed_only u h = only_unknowns bound asked u (once.only u h)
 
-  abbrev free_node : Unknown → Term
+  abbrev pub free_node : Unknown → Term
   free_node u = Free (unknown_code db u)
 
-  abbrev base : List Term
+  abbrev pub base : List Term
   base = map free_node listed
 
-  abbrev works_of : List Unknown → List WorkNode
+  abbrev pub works_of : List Unknown → List WorkNode
   works_of [] = []
   works_of (named c n ∷ us) = record { code = c; number = n; node = place_in listed (named c n) } ∷ works_of us
   works_of (blank i ∷ us) = works_of us
   works_of (copy i s c ∷ us) = works_of us
 
-  abbrev lay : Layout
+  abbrev pub lay : Layout
   lay = record { node_of = place_in listed; unknown_at = λ i. get_or listed i (blank 0); works = works_of listed }
 
   all_works : (us : List Unknown) (c : Typecode) (n : ℕ) → Contains us (named c n) → Contains (works_of us) (work_node lay c n)
@@ -108,7 +105,7 @@ module _ (db : Database) (bound : Bound) (asked : List Asked) where
   base_length : length base ≡ length listed
   base_length = length-map listed free_node
 
-  abbrev Grows : List Term → Type 0
+  abbrev pub Grows : List Term → Type 0
   Grows nodes = Grown db.rows bound.place base nodes
 
   module _ (nodes : List Term) (g : Grows nodes) where
@@ -119,12 +116,12 @@ module _ (db : Database) (bound : Bound) (asked : List Asked) where
     longer : length listed ≤ length nodes
     longer = let same : length nodes ≡ length (base ++ g.added) = ap length g.extends in omega (arith, same, length-append base g.added, base_length)
 
-    node_of : (u : Unknown) → On u → HasNode db nodes lay u
+    pub node_of : (u : Unknown) → On u → HasNode db nodes lay u
     node_of u on =
         let at = place_is (blank 0) listed u (listed_all u on) in
         record { within = omega (arith, at.0, longer); free = old_term (place_in listed u) at.0 ∙ ap free_node at.1; own = at.1 }
 
-    laid_out : IsLaidOut db bound.place On nodes lay
+    pub laid_out : IsLaidOut db bound.place On nodes lay
     laid_out = record {
       unknowns = node_of;
       free = λ i c h is. elim (cases_lt i (length listed)) [
@@ -141,10 +138,10 @@ module _ (db : Database) (bound : Bound) (asked : List Asked) where
         element (x ∷ xs) zero h = refl
         element (x ∷ xs) (suc k) h = element xs k (omega (arith, h))
 
-    bare : IsStore nodes []
+    pub bare : IsStore nodes []
     bare = record { children = g.children; in_order = tt; codes = tt }
 
-  grown_base : Grows base
+  pub grown_base : Grows base
   grown_base = record {
     added = [];
     extends = sym (none base);
@@ -168,20 +165,20 @@ module _ (db : Database) (bound : Bound) (asked : List Asked) where
 
   -- ---- formulas
 
-  abbrev OpenOk : Open → Type 0
+  abbrev pub OpenOk : Open → Type 0
   OpenOk (work c n) = On (named c n)
   OpenOk (fresh c n) = ⊥
 
-  abbrev FormulaOk : Tree → Type 0
+  abbrev pub FormulaOk : Tree → Type 0
   FormulaOk t = (x : Open) → Occurs x t → OpenOk x
 
-  leaf_occurs_fresh : (c : Typecode) (n : ℕ) → Occurs (fresh c n) (tree.Fresh c n)
+  pub leaf_occurs_fresh : (c : Typecode) (n : ℕ) → Occurs (fresh c n) (tree.Fresh c n)
   leaf_occurs_fresh c n = subst (λ (xs : List Open). Contains xs (fresh c n)) (sym (open_leaves-Fresh c n)) (first (fresh c n) [])
 
-  leaf_occurs_work : (c : Typecode) (n : ℕ) → Occurs (work c n) (tree.Work c n)
+  pub leaf_occurs_work : (c : Typecode) (n : ℕ) → Occurs (work c n) (tree.Work c n)
   leaf_occurs_work c n = subst (λ (xs : List Open). Contains xs (work c n)) (sym (open_leaves-Work c n)) (first (work c n) [])
 
-  each_ok : (ts : List Tree) → ((x : Open) → Contains (flatten (map open_leaves ts)) x → OpenOk x) → Each FormulaOk ts
+  pub each_ok : (ts : List Tree) → ((x : Open) → Contains (flatten (map open_leaves ts)) x → OpenOk x) → Each FormulaOk ts
   each_ok [] h = tt
   each_ok (t ∷ ts) h = (λ x o. h x (Contains-append_left (open_leaves t) (flatten (map open_leaves ts)) x o), each_ok ts (λ x o. h x (Contains-append_right (open_leaves t) (flatten (map open_leaves ts)) x o)))
 
@@ -373,14 +370,17 @@ all_sound db bound [] h = tt
 all_sound db bound (x ∷ xs) h = (h.0.sound, all_sound db bound xs h.1)
 
 module _ (db : Database) (bound : Bound) (accepted : List Asked) (ready : IsReadyBound db bound) (asked_ready : AllByRecursion (IsReadyAsked db bound) accepted) (fits : Solvable db bound accepted) where
+  once : OnceEach (unknowns bound accepted)
+  once = once_each (unknowns bound accepted)
+
   abbrev lay' : Layout
-  lay' = lay db bound accepted
+  lay' = lay db bound accepted once
 
   steps_there : (i : ℕ) (s : BoundStep) → slice_get bound.steps i ≡ Some s → slice_get bound.steps (0 + i) ≡ Some s
   steps_there i s e = let number : i ≡ 0 + i = omega arith in subst (λ (j : ℕ). slice_get bound.steps j ≡ Some s) number e
 
-  made_formulas : Formulas db bound accepted (base db bound accepted) 0 bound.steps
-  made_formulas = formulas_of db bound accepted 0 bound.steps steps_there ready (base db bound accepted) (grown_base db bound accepted)
+  made_formulas : Formulas db bound accepted once (base db bound accepted once) 0 bound.steps
+  made_formulas = formulas_of db bound accepted once 0 bound.steps steps_there ready (base db bound accepted once) (grown_base db bound accepted once)
 
   abbrev formula_at : ℕ → ℕ
   formula_at i = get_or made_formulas.roots i 0
@@ -391,20 +391,20 @@ module _ (db : Database) (bound : Bound) (accepted : List Asked) (ready : IsRead
       let number : 0 + i ≡ i = omega arith in
       record { within = told.0; is_formula = λ us f. told.1 us f ∙ ap (λ (j : ℕ). formula_value (valuation_of lay' us) j (slice_index_or bound.steps i no_step).tree) number }
 
-  made_pairs : Paired db bound accepted made_formulas.next formula_at accepted
-  made_pairs = paired db bound accepted formula_at accepted (λ x h. h) asked_ready made_formulas.next made_formulas.grown are_formulas
+  made_pairs : Paired db bound accepted once made_formulas.next formula_at accepted
+  made_pairs = paired db bound accepted once formula_at accepted (λ x h. h) asked_ready made_formulas.next made_formulas.grown are_formulas
 
   abbrev nodes : List Term
   nodes = made_pairs.next
 
   bare_store : IsStore nodes []
-  bare_store = bare db bound accepted nodes made_pairs.grown
+  bare_store = bare db bound accepted once nodes made_pairs.grown
 
   bare_chained : IsChained db bound accepted [] nodes [] lay'
   bare_chained = record {
     store = bare_store;
     solved = record { closed = λ i h. agrees_refl [] (term_at nodes i); solution = start_solution nodes [] bare_store };
-    laid_out = laid_out db bound accepted nodes made_pairs.grown;
+    laid_out = laid_out db bound accepted once nodes made_pairs.grown;
     exact = record { solves = λ us s. tt; holds = λ us s all. s };
     among = λ x h. absurd (nothing x h);
     sound = tt;
@@ -423,7 +423,7 @@ module _ (db : Database) (bound : Bound) (accepted : List Asked) (ready : IsRead
   chained = record {
     store = joined.store;
     solved = record { closed = joined.closed; solution = (found.0, joined.back found.0 found.1 (made_pairs.told found.0 (fit_of nodes [] found.0 found.1) found_solves)) };
-    laid_out = laid_out db bound accepted nodes made_pairs.grown;
+    laid_out = laid_out db bound accepted once nodes made_pairs.grown;
     exact = record {
       solves = λ us s. made_pairs.solve us (fit_of nodes joined.links us s) (rooms bound fits.value accepted fits.solves) (joined.there us s);
       holds = λ us s all. joined.back us s (made_pairs.told us (fit_of nodes [] us s) all);

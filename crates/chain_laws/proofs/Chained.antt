@@ -35,7 +35,8 @@ use Rattle.chain_laws.specs.declared.leaves.WorkNode.{WorkNode}
 use Rattle.chain_laws.specs.Leaves.{least_at, named_leaf, leaf_at}
 use Rattle.chain_laws.specs.Layout.{Layout, HasNode, HasUnknown, IsLaidOut, IsWorkNode, work_node, valuation_of, IsSoundAsked, IsExact, IsChained}
 use Rattle.chain_laws.proofs.LeastLeaves.{IsAnswerAt, IsLeastAt, NoneAt, least_at_answers}
-use Rattle.chain_laws.proofs.Reading.{read, made, AreMade, trees_made}
+use Rattle.chain_laws.specs.Reading.{read, made, value_of_store}
+use Rattle.chain_laws.proofs.Reading.{AreMade, trees_made}
 use Rattle.chain_laws.proofs.General.{HasCodes, IsLeafOf, at_same, at_code, at_typed, general_trees, tree_is, general_solves, own_leaves, refined}
 use Rattle.chain_laws.proofs.Agreement.{solve_same}
 
@@ -130,6 +131,10 @@ module _ (db : Database) (bound : Bound) (asked accepted : List Asked) (nodes : 
   -- the valuation that is read off the store
   pub the_value : Valuation
   the_value = valuation_of lay trees
+
+  pub value_is_read : the_value ≡ value_of_store nodes links lay
+  unfolding the_value general_trees
+  value_is_read = refl
 
   value_is : (u : Unknown) → On u → the_value u ≡ at (lay.node_of u)
   unfolding the_value

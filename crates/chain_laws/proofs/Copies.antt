@@ -41,14 +41,14 @@ both : (a b : Bool) → (a && b) ≡ true → (a ≡ true) × (b ≡ true)
 both true b e = (refl, e)
 both false b e = absurd (cc)
 
-same_variable : (s : Sym) (c : Typecode) (v : VariableNode) → is_variable s c v ≡ true → variable_with v.sym v.code ≡ variable_with s c
+pub same_variable : (s : Sym) (c : Typecode) (v : VariableNode) → is_variable s c v ≡ true → variable_with v.sym v.code ≡ variable_with s c
 same_variable s c v e =
     let parts = both (v.sym.0 == s.0) (v.code.0.0 == c.0.0) e in
     let one : v.sym.0 ≡ s.0 = grind (arith, nat_tests, parts.0) in
     let two : v.code.0.0 ≡ c.0.0 = grind (arith, nat_tests, parts.1) in
     ap (λ (n : ℕ). variable_with (sym_with n) v.code) one ∙ ap (λ (n : ℕ). variable_with s (code_with n)) two
 
-self_variable : (s : Sym) (c : Typecode) (n : ℕ) → is_variable s c (record { sym = s; code = c; node = n }) ≡ true
+pub self_variable : (s : Sym) (c : Typecode) (n : ℕ) → is_variable s c (record { sym = s; code = c; node = n }) ≡ true
 self_variable s c n =
     let one : (s.0 == s.0) ≡ true = grind (arith, nat_tests) in
     let two : (c.0.0 == c.0.0) ≡ true = grind (arith, nat_tests) in

@@ -29,7 +29,8 @@ use Rattle.term_model.proofs.CycleLaws.{code_of_end, respects_targets}
 use Rattle.term_model.proofs.SolutionLaws.{respects_end}
 use Rattle.chain_laws.specs.Layout.{IsTypedTerm}
 use Rattle.chain_laws.proofs.LeastLeaves.{nothing}
-use Rattle.chain_laws.proofs.Reading.{made, AreMade, by_rank, child_below, end_inside}
+use Rattle.chain_laws.specs.Reading.{made}
+use Rattle.chain_laws.proofs.Reading.{AreMade, by_rank, child_below, end_inside}
 
 -- a leaf has the typecode of its free node
 pub record HasCodes (nodes : List Term) (links : List Link) (leaf : ℕ → Typecode → Tree) : Type 0 where
@@ -115,7 +116,7 @@ module _ (nodes : List Term) (links : List Link) (leaf : ℕ → Typecode → Tr
     asked i (Node l c k xs) h e a =
         is.each i h ∙ node_asked (end i) l c k xs (term_at nodes (end i)) (subst (λ (z : Term). AllByRecursion (λ (id : Id). id.0 < length nodes) (children_of z)) e (kids_inside i h)) (kids_inside (end i) (inside i h)) a
 
-    pub general_trees : List Tree
+    unfoldable pub general_trees : List Tree
     general_trees = map at (range_with_len 0 (length nodes))
 
     pub tree_is : (i : ℕ) → i < length nodes → tree_at general_trees i ≡ at i

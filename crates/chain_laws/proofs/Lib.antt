@@ -13,3 +13,4 @@ pub mod Growth
 pub mod Copies
 pub mod Added
 pub mod Prepared
+pub mod ReadValues

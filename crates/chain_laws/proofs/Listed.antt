@@ -151,7 +151,7 @@ module _ (d : Unknown) where
 
 -- ---- the unknowns of formulas
 
-abbrev works_in : List Open → List Unknown
+abbrev pub works_in : List Open → List Unknown
 works_in [] = []
 works_in (work c n ∷ xs) = named c n ∷ works_in xs
 works_in (fresh c n ∷ xs) = works_in xs
@@ -181,11 +181,11 @@ only_works (work d m ∷ xs) u h = elim (parted u (named d m) (works_in xs) h) [
 ]
 only_works (fresh d m ∷ xs) u h = let told = only_works xs u h in record { code = told.code; number = told.number; occurs = later (work told.code told.number) (fresh d m) xs told.occurs; is = told.is }
 
-abbrev of_formula : ℕ → Option Tree → List Unknown
+abbrev pub of_formula : ℕ → Option Tree → List Unknown
 of_formula i None = blank i ∷ []
 of_formula i (Some t) = works_in (open_leaves t)
 
-abbrev of_steps : ℕ → List BoundStep → List Unknown
+abbrev pub of_steps : ℕ → List BoundStep → List Unknown
 of_steps i [] = []
 of_steps i (s ∷ ss) = of_formula i s.tree ++ of_steps (i + 1) ss
 
@@ -294,3 +294,13 @@ module _ (bound : Bound) (asked : List Asked) where
       let number : i ≡ 0 + i = omega arith in
       Contains-append_left (of_steps 0 bound.steps) (of_candidates asked) u (all_of_steps 0 i bound.steps s u at (subst (λ (j : ℕ). Contains (of_formula j s.tree) u) number (subst (λ (o' : Option Tree). Contains (of_formula i o') u) (sym is) (first (blank i) []))))
   all_unknowns u (in_frame x v c h) = Contains-append_right (of_steps 0 bound.steps) (of_candidates asked) u (all_of_candidates asked x v c h)
+
+-- of a worksheet without candidates: those of its steps
+module _ (bound : Bound) (us : List Unknown) where
+  pub all_of_worksheet : ((u : Unknown) → Contains (of_steps 0 bound.steps) u → Contains us u) → (u : Unknown) → Contains (unknowns bound []) u → Contains us u
+  unfolding unknowns
+  all_of_worksheet all u h = elim (Contains-append_cases (of_steps 0 bound.steps) [] u h) [ inl here ↦ all u here | inr off ↦ absurd (nothing u off) ]
+
+  pub only_of_worksheet : ((u : Unknown) → Contains us u → Contains (of_steps 0 bound.steps) u) → (u : Unknown) → Contains us u → Contains (unknowns bound []) u
+  unfolding unknowns
+  only_of_worksheet only u h = Contains-append_left (of_steps 0 bound.steps) [] u (only u h)

@@ -20,17 +20,7 @@ use Rattle.term_model.proofs.TreeLaws.{code_of-Var, code_of-Node}
 use Rattle.term_model.proofs.LinkLaws.{end_below, end_unbound, end_of_unbound, target_ends}
 use Rattle.term_model.proofs.CycleLaws.{code_of_end, respects_targets}
 use Rattle.term_model.proofs.RankLaws.{numbered}
-
--- the tree of a term, by its leaf and the trees of its children
-abbrev pub made : (ℕ → Typecode → Tree) → ℕ → (ℕ → Tree) → Term → Tree
-made leaf e below (Var s c) = tree.Var s c
-made leaf e below (Free c) = leaf e c
-made leaf e below (Node l c k kids) = tree.Node l c (map (λ (id : Id). below id.0) kids)
-
--- the tree of a node that is less deep than this
-pub read : List Term → List Link → (ℕ → Typecode → Tree) → ℕ → ℕ → Tree
-read nodes links leaf zero i = tree.Fresh no_code 0
-read nodes links leaf (suc depth) i = made leaf (end_of links i) (read nodes links leaf depth) (term_at nodes (end_of links i))
+use Rattle.chain_laws.specs.Reading.{made, read}
 
 -- the children are one by one the same
 same_below : (f g : ℕ → Tree) (kids : List Id) → ((k : ℕ) (child : Id) → slice_get kids k ≡ Some child → f child.0 ≡ g child.0) → map (λ (id : Id). f id.0) kids ≡ map (λ (id : Id). g id.0) kids

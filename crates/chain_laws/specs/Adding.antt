@@ -51,7 +51,7 @@ there_or None e nodes = put e nodes
 there_or (Some i) e nodes = record { nodes = nodes; root = i }
 
 abbrev pub is_work : Typecode → ℕ → WorkNode → Bool
-is_work c n w = w.code.0.0 == c.0.0 && w.number == n
+is_work c n w = c.0.0 == w.code.0.0 && n == w.number
 
 abbrev pub work_at : List WorkNode → Typecode → ℕ → Option ℕ
 work_at works c n = option_map (λ (w : WorkNode). w.node) (find (is_work c n) works)

@@ -1,4 +1,5 @@
 pub mod Layout
 pub mod Leaves
+pub mod Reading
 pub mod Adding
 pub mod Laws

@@ -1,0 +1,13 @@
+use Rattle.std.proofs.Common.{map, take, length}
+use Rattle.chain_laws.specs.Adding.{added, run}
+use Rattle.step_chain.specs.Grown.{IsGrown, AreListed, AreWorksIn, AreVariablesIn, AreIdsIn}
+use Rattle.step_chain.proofs.adding.+add_tree.Given as goal
+
+abbrev pub invariant-loop-child : goal.invariant-loop-child
+invariant-loop-child l = record {
+  listed : AreListed (run (map (added l.grammar l.works l.variables) (take l.child-index l.child-items)) l.fn.arena.nodes) l.arena.nodes l.ids.items;
+  grown : IsGrown l.fn.arena l.arena;
+  works_in : AreWorksIn (length l.arena.nodes) l.works;
+  variables_in : AreVariablesIn (length l.arena.nodes) l.variables;
+  inside : AreIdsIn (length l.arena.nodes) l.ids.items;
+}
