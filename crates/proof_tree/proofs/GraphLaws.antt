@@ -1,6 +1,6 @@
 -- The proofs of a graph's nodes, and how many labels they have.
-use Rattle.std.proofs.Common.{◌≡◌, ℕ, zero, suc, ◌+◌, ◌-◌, ◌^◌, ◌<◌, ◌≤◌, min, List, [], ◌∷◌, ◌++◌, length, map, take, fold, get_or, refl, sym, ap, subst, ◌∙◌, add-one, arith, lit≤}
-use Rattle.std.proofs.lemmas.List.{length-append, length-map, get_or-map}
+use Rattle.std.proofs.Common.{◌≡◌, ℕ, zero, suc, ◌+◌, ◌-◌, ◌^◌, ◌<◌, ◌≤◌, min, List, [], ◌∷◌, ◌++◌, length, map, take, fold, reverse, get_or, refl, sym, ap, subst, ◌∙◌, add-one, arith, lit≤}
+use Rattle.std.proofs.lemmas.List.{length-append, length-map, get_or-map, reverse-append}
 use Rattle.std.specs.List.{AllByRecursion}
 use Rattle.proof_model.specs.Proofs.{Proof, by, proofs, postorder, postorders}
 use Rattle.proof_tree.specs.declared.graph.ProofNode.{ProofNode}
@@ -8,7 +8,7 @@ use Rattle.proof_tree.specs.Graphs.{NameEarlier, no_proof, proof_at, node_proof,
 
 -- ---- lists
 
-get_left : {X : Type 0} (xs ys : List X) (j : ℕ) (d : X) → j < length xs → get_or (xs ++ ys) j d ≡ get_or xs j d
+pub get_left : {X : Type 0} (xs ys : List X) (j : ℕ) (d : X) → j < length xs → get_or (xs ++ ys) j d ≡ get_or xs j d
 get_left [] ys j d h = absurd (omega arith)
 get_left (x ∷ xs) ys zero d h = refl
 get_left (x ∷ xs) ys (suc j) d h = get_left xs ys j d (omega arith)
@@ -22,17 +22,17 @@ all_at P [] i d h l = absurd (omega arith)
 all_at P (x ∷ xs) zero d h l = h.0
 all_at P (x ∷ xs) (suc i) d h l = all_at P xs i d h.1 (omega arith)
 
-map_where : {X : Type 0} (P : ℕ → Type 0) (f g : ℕ → X) → ((k : ℕ) → P k → f k ≡ g k) → (ks : List ℕ) → AllByRecursion P ks → map f ks ≡ map g ks
+pub map_where : {X : Type 0} (P : ℕ → Type 0) (f g : ℕ → X) → ((k : ℕ) → P k → f k ≡ g k) → (ks : List ℕ) → AllByRecursion P ks → map f ks ≡ map g ks
 map_where P f g e [] h = refl
 map_where P f g e (k ∷ ks) h = ap (λ x. x ∷ map f ks) (e k h.0) ∙ ap (λ xs. g k ∷ xs) (map_where P f g e ks h.1)
 
-one_longer : {X : Type 0} (xs : List X) (y : X) → length (xs ++ y ∷ []) ≡ length xs + 1
+pub one_longer : {X : Type 0} (xs : List X) (y : X) → length (xs ++ y ∷ []) ≡ length xs + 1
 one_longer [] y = refl
 one_longer (x ∷ xs) y = let rest = one_longer xs y in omega (arith, rest)
 
 -- ---- the proofs of nodes
 
-stable : (ns : List ProofNode) (acc : List Proof) (j : ℕ) → j < length acc → proof_at (fold with_node acc ns) j ≡ proof_at acc j
+pub stable : (ns : List ProofNode) (acc : List Proof) (j : ℕ) → j < length acc → proof_at (fold with_node acc ns) j ≡ proof_at acc j
 stable [] acc j h = refl
 stable (n ∷ ns) acc j h =
     let longer = one_longer acc (node_proof acc n) in
@@ -71,15 +71,15 @@ abbrev pub labels_of : List Proof → List (List ℕ)
 labels_of [] = []
 labels_of (p ∷ ps) = postorder p ++ labels_of ps
 
-labels_below : (ps : List Proof) → postorders (proofs ps) ≡ labels_of ps
+pub labels_below : (ps : List Proof) → postorders (proofs ps) ≡ labels_of ps
 labels_below [] = refl
 labels_below (p ∷ ps) = ap (λ ls. postorder p ++ ls) (labels_below ps)
 
-append_twice : {X : Type 0} (xs ys zs : List X) → (xs ++ ys) ++ zs ≡ xs ++ (ys ++ zs)
+pub append_twice : {X : Type 0} (xs ys zs : List X) → (xs ++ ys) ++ zs ≡ xs ++ (ys ++ zs)
 append_twice [] ys zs = refl
 append_twice (x ∷ xs) ys zs = ap (λ l. x ∷ l) (append_twice xs ys zs)
 
-append_none : {X : Type 0} (xs : List X) → xs ++ [] ≡ xs
+pub append_none : {X : Type 0} (xs : List X) → xs ++ [] ≡ xs
 append_none [] = refl
 append_none (x ∷ xs) = ap (λ l. x ∷ l) (append_none xs)
 
@@ -87,7 +87,7 @@ labels_append : (ps : List Proof) (p : Proof) → labels_of (ps ++ p ∷ []) ≡
 labels_append [] p = append_none (postorder p)
 labels_append (q ∷ ps) p = ap (λ ls. postorder q ++ ls) (labels_append ps p) ∙ sym (append_twice (postorder q) (labels_of ps) (postorder p))
 
-take_more : {X : Type 0} (xs : List X) (i : ℕ) (d : X) → i < length xs → take (i + 1) xs ≡ take i xs ++ get_or xs i d ∷ []
+pub take_more : {X : Type 0} (xs : List X) (i : ℕ) (d : X) → i < length xs → take (i + 1) xs ≡ take i xs ++ get_or xs i d ∷ []
 take_more xs i d h = rw add-one (by xs i h)
   where
     by : (xs : List _) (i : ℕ) → i < length xs → take (suc i) xs ≡ take i xs ++ get_or xs i d ∷ []
@@ -95,13 +95,13 @@ take_more xs i d h = rw add-one (by xs i h)
     by (x ∷ xs) zero h = refl
     by (x ∷ xs) (suc i) h = ap (λ l. x ∷ l) (by xs i (omega arith))
 
-take_whole : {X : Type 0} (xs : List X) (i : ℕ) → length xs ≤ i → take i xs ≡ xs
+pub take_whole : {X : Type 0} (xs : List X) (i : ℕ) → length xs ≤ i → take i xs ≡ xs
 take_whole [] zero h = refl
 take_whole [] (suc i) h = refl
 take_whole (x ∷ xs) zero h = absurd (omega arith)
 take_whole (x ∷ xs) (suc i) h = ap (λ l. x ∷ l) (take_whole xs i (omega arith))
 
-map_push : {X Y : Type 0} (f : X → Y) (xs : List X) (y : X) → map f (xs ++ y ∷ []) ≡ map f xs ++ f y ∷ []
+pub map_push : {X Y : Type 0} (f : X → Y) (xs : List X) (y : X) → map f (xs ++ y ∷ []) ≡ map f xs ++ f y ∷ []
 map_push f [] y = refl
 map_push f (x ∷ xs) y = ap (λ l. f x ∷ l) (map_push f xs y)
 
@@ -149,7 +149,7 @@ count_is earlier n h =
     swapped : (m t : ℕ) → t ≡ m + 1 → 1 + m ≡ t
     swapped m t e = omega (arith, e)
 
-fold_append : {A B : Type 0} (f : B → A → B) (b : B) (xs : List A) (y : A) → fold f b (xs ++ y ∷ []) ≡ f (fold f b xs) y
+pub fold_append : {A B : Type 0} (f : B → A → B) (b : B) (xs : List A) (y : A) → fold f b (xs ++ y ∷ []) ≡ f (fold f b xs) y
 fold_append f b [] y = refl
 fold_append f b (x ∷ xs) y = fold_append f (f b x) xs y
 
@@ -203,3 +203,92 @@ few_labels labels p n is count most = small (length labels) (length (postorder p
   where
     small : (l m n top : ℕ) → l ≡ m → n ≡ min top m → n ≤ 2 ^ 20 → 2 ^ 20 + 1 ≤ top → l ≤ 2 ^ 20
     small l m n top e f h k = omega (arith, e, f, h, k)
+
+-- ---- labels from the last one to the first
+
+labels_of_append : (ps qs : List Proof) → labels_of (ps ++ qs) ≡ labels_of ps ++ labels_of qs
+labels_of_append [] qs = refl
+labels_of_append (p ∷ ps) qs = ap (λ ls. postorder p ++ ls) (labels_of_append ps qs) ∙ sym (append_twice (postorder p) (labels_of ps) (labels_of qs))
+
+pub map_append : {X Y : Type 0} (f : X → Y) (xs ys : List X) → map f (xs ++ ys) ≡ map f xs ++ map f ys
+map_append f [] ys = refl
+map_append f (x ∷ xs) ys = ap (λ l. f x ∷ l) (map_append f xs ys)
+
+pub all_append : {X : Type 0} (P : X → Type 0) (xs ys : List X) → AllByRecursion P xs → AllByRecursion P ys → AllByRecursion P (xs ++ ys)
+all_append P [] ys h k = k
+all_append P (x ∷ xs) ys h k = (h.0, all_append P xs ys h.1 k)
+
+pub all_front : {X : Type 0} (P : X → Type 0) (xs ys : List X) → AllByRecursion P (xs ++ ys) → AllByRecursion P xs
+all_front P [] ys h = tt
+all_front P (x ∷ xs) ys h = (h.0, all_front P xs ys h.1)
+
+pub all_back : {X : Type 0} (P : X → Type 0) (xs ys : List X) → AllByRecursion P (xs ++ ys) → AllByRecursion P ys
+all_back P [] ys h = h
+all_back P (x ∷ xs) ys h = all_back P xs ys h.1
+
+pub all_weaker : {X : Type 0} (P Q : X → Type 0) → ((x : X) → P x → Q x) → (xs : List X) → AllByRecursion P xs → AllByRecursion Q xs
+all_weaker P Q e [] h = tt
+all_weaker P Q e (x ∷ xs) h = (e x h.0, all_weaker P Q e xs h.1)
+
+reverse_push : {X : Type 0} (xs : List X) (y : X) → reverse (xs ++ y ∷ []) ≡ y ∷ reverse xs
+reverse_push xs y = reverse-append xs (y ∷ [])
+
+abbrev pub pending_labels : List ProofNode → List ℕ → List (List ℕ)
+pending_labels nodes pending = labels_of (map (proof_at (node_proofs nodes)) pending)
+
+-- the nodes that are pending are nodes, and their labels and those that were put out are all
+pub record IsBackwards (nodes : List ProofNode) (pending : List ℕ) (labels : List (List ℕ)) : Type 0 where
+  pub inside : AllByRecursion (λ k. k < length nodes) pending
+  pub whole : pending_labels nodes pending ++ reverse labels ≡ postorder (proof_at (node_proofs nodes) (length nodes - 1))
+
+pub below_inside : (nodes : List ProofNode) (i : ℕ) (d : ProofNode) → i < length nodes → NameEarlier 0 nodes → AllByRecursion (λ k. k < length nodes) (get_or nodes i d).below
+below_inside nodes i d h e = all_weaker (λ k. k < 0 + i) (λ k. k < length nodes) (λ k l. omega (arith, l, h)) (get_or nodes i d).below (below_at nodes 0 i d h e)
+
+pub last_inside : (nodes : List ProofNode) (pending rest : List ℕ) (n : ℕ) → pending ≡ rest ++ n ∷ [] → AllByRecursion (λ k. k < length nodes) pending → n < length nodes
+last_inside nodes pending rest n e h = (all_back (λ k. k < length nodes) rest (n ∷ []) (subst (AllByRecursion (λ k. k < length nodes)) e h)).0
+
+-- the labels of a node's proof, by those of its hypotheses
+pub node_labels : (nodes : List ProofNode) (i : ℕ) (d : ProofNode) → i < length nodes → NameEarlier 0 nodes
+    → postorder (proof_at (node_proofs nodes) i) ≡ pending_labels nodes (get_or nodes i d).below ++ (get_or nodes i d).label ∷ []
+node_labels nodes i d h e =
+    ap postorder (node_at nodes i d h e) ∙ ap (λ ls. ls ++ (get_or nodes i d).label ∷ []) (labels_below (map (proof_at (node_proofs nodes)) (get_or nodes i d).below))
+
+pending_last : (nodes : List ProofNode) (rest : List ℕ) (n : ℕ) (d : ProofNode) → n < length nodes → NameEarlier 0 nodes
+    → pending_labels nodes (rest ++ n ∷ []) ≡ pending_labels nodes (rest ++ (get_or nodes n d).below) ++ (get_or nodes n d).label ∷ []
+pending_last nodes rest n d h e =
+    let all = map (proof_at (node_proofs nodes)) in
+    let bs = (get_or nodes n d).below in
+    let l = (get_or nodes n d).label in
+    ap labels_of (map_append (proof_at (node_proofs nodes)) rest (n ∷ [])) ∙ labels_append (all rest) (proof_at (node_proofs nodes) n)
+    ∙ ap (λ ls. labels_of (all rest) ++ ls) (node_labels nodes n d h e) ∙ sym (append_twice (labels_of (all rest)) (labels_of (all bs)) (l ∷ []))
+    ∙ ap (λ ls. ls ++ l ∷ []) (sym (labels_of_append (all rest) (all bs)) ∙ ap labels_of (sym (map_append (proof_at (node_proofs nodes)) rest bs)))
+
+pub fewer_pending : (nodes : List ProofNode) (pending rest now bs : List ℕ) (n : ℕ) (d : ProofNode) → pending ≡ rest ++ n ∷ [] → n < length nodes → NameEarlier 0 nodes → bs ≡ (get_or nodes n d).below
+    → now ≡ rest ++ bs → length (pending_labels nodes now) < length (pending_labels nodes pending)
+fewer_pending nodes pending rest now bs n d e h k b is =
+    let more = ap length (ap (pending_labels nodes) e ∙ pending_last nodes rest n d h k) in
+    let one = one_longer (pending_labels nodes (rest ++ (get_or nodes n d).below)) (get_or nodes n d).label in
+    let same = ap (λ ns. length (pending_labels nodes ns)) (is ∙ ap (λ l. rest ++ l) b) in
+    omega (arith, more, one, same)
+
+pub backwards_more : (nodes : List ProofNode) (pending rest now bs : List ℕ) (labels put : List (List ℕ)) (label : List ℕ) (n : ℕ) (d : ProofNode) → pending ≡ rest ++ n ∷ [] → n < length nodes → NameEarlier 0 nodes
+    → bs ≡ (get_or nodes n d).below → label ≡ (get_or nodes n d).label → now ≡ rest ++ bs → put ≡ labels ++ label ∷ [] → IsBackwards nodes pending labels → IsBackwards nodes now put
+backwards_more nodes pending rest now bs labels put label n d e h k b l is more old = record {
+  inside = subst (AllByRecursion (λ k. k < length nodes)) (sym (is ∙ ap (λ l. rest ++ l) b))
+      (all_append (λ k. k < length nodes) rest (get_or nodes n d).below (all_front (λ k. k < length nodes) rest (n ∷ []) (subst (AllByRecursion (λ k. k < length nodes)) e old.inside)) (below_inside nodes n d h k));
+  whole =
+      ap (λ ns. pending_labels nodes ns ++ reverse put) (is ∙ ap (λ l. rest ++ l) b)
+      ∙ ap (λ ls. pending_labels nodes (rest ++ (get_or nodes n d).below) ++ ls) (ap reverse more ∙ reverse_push labels label ∙ ap (λ x. x ∷ reverse labels) l)
+      ∙ sym (append_twice (pending_labels nodes (rest ++ (get_or nodes n d).below)) ((get_or nodes n d).label ∷ []) (reverse labels))
+      ∙ ap (λ ls. ls ++ reverse labels) (sym (pending_last nodes rest n d h k) ∙ ap (pending_labels nodes) (sym e))
+      ∙ old.whole;
+}
+
+pub backwards_done : (nodes : List ProofNode) (pending : List ℕ) (labels : List (List ℕ)) → pending ≡ [] → IsBackwards nodes pending labels → reverse labels ≡ postorder (proof_at (node_proofs nodes) (length nodes - 1))
+backwards_done nodes pending labels e h = ap (λ ns. pending_labels nodes ns ++ reverse labels) (sym e) ∙ h.whole
+
+pub backwards_begun : (nodes : List ProofNode) (pending : List ℕ) (n : ℕ) → 0 < length nodes → pending ≡ n ∷ [] → n ≡ length nodes - 1 → IsBackwards nodes pending []
+backwards_begun nodes pending n h e is = record {
+  inside = subst (AllByRecursion (λ k. k < length nodes)) (sym e) (omega (arith, h, is), tt);
+  whole = ap (λ ns. pending_labels nodes ns ++ []) e ∙ append_none (pending_labels nodes (n ∷ [])) ∙ append_none (postorder (proof_at (node_proofs nodes) n)) ∙ ap (λ k. postorder (proof_at (node_proofs nodes) k)) is;
+}

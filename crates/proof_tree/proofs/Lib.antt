@@ -1,1 +1,14 @@
 pub mod GraphLaws
+pub mod AddLaws
+pub mod KeyLaws
+pub mod FloatLaws
+pub mod BuildLaws
+pub mod StandLaws
+pub mod SameLaws
+pub mod PartLaws
+pub mod SeenLaws
+pub mod OrderLaws
+pub mod UseLaws
+pub mod NameLaws
+pub mod CodeLaws
+pub mod StepLaws

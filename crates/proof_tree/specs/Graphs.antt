@@ -11,6 +11,22 @@ abbrev pub NameEarlier : ℕ → List ProofNode → Type 0
 NameEarlier at [] = Unit {0}
 NameEarlier at (n ∷ ns) = AllByRecursion (λ k. k < at) n.below × NameEarlier (at + 1) ns
 
+abbrev pub no_node : ProofNode
+no_node = record { label = []; below = [] }
+
+abbrev pub node_in : List ProofNode → ℕ → ProofNode
+node_in nodes k = slice_index_or nodes k no_node
+
+-- no two nodes are equal
+abbrev pub NodesDiffer : List ProofNode → Type 0
+NodesDiffer nodes = (i j : ℕ) → i < length nodes → j < length nodes → node_in nodes i ≡ node_in nodes j → i ≡ j
+
+pub record IsGraph (nodes : List ProofNode) : Type 0 where
+  pub earlier : NameEarlier 0 nodes
+  pub some : 0 < length nodes
+  pub few : length nodes < 2 ^ 32
+  pub differ : NodesDiffer nodes
+
 abbrev pub no_proof : Proof
 no_proof = by [] none
 

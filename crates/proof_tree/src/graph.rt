@@ -8,31 +8,32 @@ pub struct ProofNode {
     pub below: List<u32>,
 }
 
-/// Proofs as nodes. Each stands behind those that it names, and the last one is the root.
+/// Proofs as nodes, no two of them equal. Each stands behind those that it names, and the last one is the root.
 #[derive(Drop)]
 pub struct ProofGraph {
-    nodes: Vec<ProofNode>,
+    pub(crate) nodes: Vec<ProofNode>,
 }
 
 impl Model for ProofGraph {
-    ghost use Rattle.std.specs.Prelude.{◌<◌, List, length};
+    ghost use Rattle.std.specs.Prelude.{List};
     ghost use Rattle.proof_tree.specs.declared.graph.ProofNode.{ProofNode};
-    ghost use Rattle.proof_tree.specs.Graphs.{NameEarlier};
+    ghost use Rattle.proof_tree.specs.Graphs.{IsGraph};
 
     ghost Value = { List ProofNode };
 
     ghost view = { λ g. g.nodes.items };
 
-    ghost invariant = { λ g. NameEarlier 0 g.nodes.items × (0 < length g.nodes.items) };
+    ghost invariant = { λ g. IsGraph g.nodes.items };
 }
 
 impl ProofGraph {
-    ghost use Rattle.std.specs.Prelude.{◌≡◌, ◌<◌, length};
-    ghost use Rattle.proof_tree.specs.Graphs.{NameEarlier};
+    ghost use Rattle.std.specs.Prelude.{◌≡◌, ◌<◌, ◌^◌, length};
+    ghost use Rattle.proof_tree.specs.Graphs.{IsGraph, NameEarlier, NodesDiffer};
 
     /// Its nodes.
     pub fn nodes(&self) -> &[ProofNode]
         ensures nodes { result.now ≡ self.now }
+        ensures graph { IsGraph result.now }
         ensures earlier { NameEarlier 0 result.now }
         ensures root { 0 < length result.now }
     {

@@ -1,4 +1,4 @@
-ghost use Rattle.std.specs.Prelude.{◌≡◌, ◌++◌, ◌+◌, ◌<◌, ◌≤◌, ◌^◌, ◌-◌, ℕ, length, map, fold, min, slice_index_or, IfOk, IfErr, OnOk, IsErr};
+ghost use Rattle.std.specs.Prelude.{◌≡◌, ◌++◌, ◌+◌, ◌<◌, ◌≤◌, ◌^◌, ◌-◌, ℕ, length, map, fold, min, slice_index_or, reverse, IfOk, IfErr};
 ghost use Rattle.std.specs.List.{AllByRecursion};
 ghost use Rattle.proof_model.specs.Proofs.{postorder};
 ghost use Rattle.proof_tree.specs.declared.graph.ProofNode.{ProofNode as NodeOf};
@@ -42,36 +42,41 @@ fn counts(alloc: Global, nodes: &[ProofNode]) -> Result<Vec<u64>, Memory>
     Ok(counts)
 }
 
-fn name_copied(alloc: Global, name: &[u8]) -> Result<Name, Memory>
+pub(crate) fn name_copied(alloc: Global, name: &[u8]) -> Result<Name, Memory>
     ensures { IfOk result (λ copy. copy ≡ name.now) }
 {
     Ok(List::from_vec(name.to_vec(alloc)?))
 }
 
-/// Appends the labels of the proof of a node, each behind those of the proofs of its hypotheses.
-fn write(alloc: Global, nodes: &[ProofNode], number: u32, out: &mut Vec<Name>) -> Result<(), Memory>
+/// The labels of the last node's proof from the last one to the first: a proof's label, and then the labels of the proofs
+/// of its hypotheses, those of the last one first.
+fn backwards(alloc: Global, nodes: &[ProofNode]) -> Result<Vec<Name>, Memory>
     requires earlier { NameEarlier 0 nodes.now }
-    requires inside { number < length nodes.now }
-    ensures { OnOk result (out.new.items ≡ out.old.items ++ postorder (proof_at (node_proofs nodes.now) number)) }
+    requires root { 0 < length nodes.now }
+    requires few { length nodes.now < 2 ^ 32 }
+    ensures { IfOk result (λ labels. reverse labels.items ≡ postorder (root_proof nodes.now)) }
 {
-    let node = &nodes[number as usize];
-    for below in node.below.as_slice() {
-        write(alloc, nodes, *below, out)?;
+    let mut labels = Vec::new(alloc);
+    let mut pending = Vec::new(alloc);
+    pending.push((nodes.len() - 1) as u32)?;
+    while let Some(number) = pending.pop() {
+        let node = &nodes[number as usize];
+        labels.push(name_copied(alloc, node.label.as_slice())?)?;
+        pending.extend_from_slice(node.below.as_slice())?;
     }
-    out.push(name_copied(alloc, node.label.as_slice())?)?;
-    Ok(())
+    Ok(labels)
 }
 
-/// The labels of the whole proof, where there are so few.
+/// The labels of the last node's proof.
 fn listed(alloc: Global, nodes: &[ProofNode]) -> Result<List<Name>, Memory>
     requires earlier { NameEarlier 0 nodes.now }
     requires root { 0 < length nodes.now }
-    requires few { length nodes.now ≤ 2 ^ 32 }
+    requires few { length nodes.now < 2 ^ 32 }
     ensures { IfOk result (λ labels. labels ≡ postorder (root_proof nodes.now)) }
 {
-    let mut out = Vec::new(alloc);
-    write(alloc, nodes, (nodes.len() - 1) as u32, &mut out)?;
-    Ok(List::from_vec(out))
+    let mut labels = backwards(alloc, nodes)?;
+    labels.reverse();
+    Ok(List::from_vec(labels))
 }
 
 /// The normal proof of a graph's root: its labels, each behind those of the proofs of its hypotheses.
@@ -90,9 +95,6 @@ pub fn normal(alloc: Global, graph: &ProofGraph) -> Result<List<Name>, NormalFau
     let number = counts[nodes.len() - 1];
     if number > MOST_PROOF_LABELS {
         return Err(NormalFault::TooLong(number));
-    }
-    if nodes.len() > u32::MAX as usize {
-        return Err(NormalFault::Memory);
     }
     match listed(alloc, nodes) {
         Ok(labels) => Ok(labels),
