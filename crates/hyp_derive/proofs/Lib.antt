@@ -1,2 +1,5 @@
 pub mod FillLaws
+pub mod HashLaws
+pub mod IndexLaws
 pub mod NameLaws
+pub mod NewNameLaws

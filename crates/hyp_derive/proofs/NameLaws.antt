@@ -31,7 +31,7 @@ name_test n m name h k e = elim (cases_Bool (n == m)) [
     no_test true h = absurd (h refl)
     no_test false h = refl
 
-other_test : (n : ℕ) (name : Name) → (name ≡ numbered_name n → ⊥) → bytes_eq (numbered_name n) name ≡ false
+pub other_test : (n : ℕ) (name : Name) → (name ≡ numbered_name n → ⊥) → bytes_eq (numbered_name n) name ≡ false
 other_test n name h = no_test (bytes_eq (numbered_name n) name) (λ t. h (sym ((bytes_eq-Decides (numbered_name n) name).0 t)))
   where
     no_test : (b : Bool) → (b ≡ true → ⊥) → b ≡ false
@@ -45,7 +45,7 @@ or_false false = refl
 used_more : (xs : List ℕ) (m n : ℕ) → is_used (xs ++ m ∷ []) n ≡ (is_used xs n || (n == m))
 used_more xs m n = list_any-append (λ k. n == k) xs (m ∷ []) ∙ ap (λ b. is_used xs n || b) (or_false (n == m))
 
-contains_more : (xs : List Name) (name d : Name) → contains (xs ++ name ∷ []) d ≡ (contains xs d || bytes_eq d name)
+pub contains_more : (xs : List Name) (name d : Name) → contains (xs ++ name ∷ []) d ≡ (contains xs d || bytes_eq d name)
 contains_more xs name d = list_any-append (bytes_eq d) xs (name ∷ []) ∙ ap (λ b. contains xs d || b) (or_false (bytes_eq d name))
 
 put_number : (xs : List Name) (numbers : List ℕ) (name : Name) (m : ℕ) → AreNumbersOf xs numbers → m < 2 ^ 64 → name ≡ numbered_name m → AreNumbersOf (xs ++ name ∷ []) (numbers ++ m ∷ [])
@@ -80,7 +80,7 @@ numbers_same used numbers i name slice h is s are none =
 
 -- ---- the least number whose name is not used
 
-find_first : (used : List Name) (n a k : ℕ) → a ≤ k → k < a + n → contains used (numbered_name k) ≡ false → ((j : ℕ) → a ≤ j → j < k → contains used (numbered_name j) ≡ true)
+pub find_first : (used : List Name) (n a k : ℕ) → a ≤ k → k < a + n → contains used (numbered_name k) ≡ false → ((j : ℕ) → a ≤ j → j < k → contains used (numbered_name j) ≡ true)
     → find (λ name. not (contains used name)) (map numbered_name (range_with_len a n)) ≡ Some (numbered_name k)
 find_first used zero a k h l free below = absurd (omega arith)
 find_first used (suc n) a k h l free below = elim (eq-or-lt_of_le h) [

@@ -1,2 +1,5 @@
 pub mod Filling
+pub mod Hashing
+pub mod Indexing
 pub mod Naming
+pub mod Places

@@ -45,7 +45,7 @@ fn add(earlier: &[Tree], made: &mut Vec<Tree>, tree: &Tree) -> Result<u32, Memor
 }
 
 /// The place as a number; more than 2^32 trees are more than memory is meant for.
-fn numbered(place: usize) -> Result<u32, Memory>
+pub fn numbered(place: usize) -> Result<u32, Memory>
     ensures { IfOk result (λ number. number ≡ place) }
 {
     match u32::try_from(place) {

@@ -2,8 +2,16 @@
 #![tactic(auto)]
 
 mod filling;
+mod hash;
+mod indexed;
 mod naming;
+mod places;
+mod step_names;
+mod tree_index;
 
 pub use filling::fill;
+pub use indexed::fill_from;
 pub use naming::step_name;
+pub use step_names::StepNames;
+pub use tree_index::TreeIndex;
 pub use written_model::Filled;

@@ -28,7 +28,8 @@ fn derived_numbers(alloc: Global, used: &[Name]) -> Result<Vec<u64>, Memory>
     Ok(numbers)
 }
 
-fn derived(alloc: Global, number: u64) -> Result<Name, Memory>
+/// The name that is `d` and a number.
+pub fn derived(alloc: Global, number: u64) -> Result<Name, Memory>
     ensures { IfOk result (λ name. name ≡ numbered_name number) }
 {
     let mut buffer = Buffer::new();
