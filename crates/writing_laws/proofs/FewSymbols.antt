@@ -115,8 +115,8 @@ no_fault false x o e = refl
 text_long : (text : List ℕ) → database_fault text ≡ None → length text ≤ 2 ^ 28
 text_long text e = ltb-false (2 ^ 28) (length text) (no_fault (nat_lt (2 ^ 28) (length text)) (fault (2 ^ 28) 30) (or_else (token_fault text) (statement_fault text)) e)
 
-pub few_symbols : (kinds : Kinds) (db : Database) → IsOpened kinds db → HasFewSymbols db
-few_symbols kinds db o =
+pub symbols_below : (kinds : Kinds) (db : Database) → IsOpened kinds db → length db.symbols ≤ 2 ^ 28
+symbols_below kinds db o =
     let small = text_long o.text o.sound in
     let ss = statements o.text in
     let declared = has_one_of (codes "$c" ∷ codes "$v" ∷ []) in
@@ -129,5 +129,8 @@ few_symbols kinds db o =
     chained : (a b c : ℕ) → a ≤ b → b ≤ c → a ≤ c
     chained a b c l m = omega (arith, l, m)
 
-    bounded : (a b c d : ℕ) → a ≡ b → b ≤ c → c ≤ d → d ≤ 2 ^ 28 → a < 2 ^ 64
+    bounded : (a b c d : ℕ) → a ≡ b → b ≤ c → c ≤ d → d ≤ 2 ^ 28 → a ≤ 2 ^ 28
     bounded a b c d e l m s = omega (arith, e, l, m, s)
+
+pub few_symbols : (kinds : Kinds) (db : Database) → IsOpened kinds db → HasFewSymbols db
+few_symbols kinds db o = let below = symbols_below kinds db o in omega (arith, below)

@@ -21,12 +21,12 @@ use Rattle.writing_laws.specs.HasNames.{IsWritable, HasFewSymbols}
 use Rattle.writing_laws.proofs.Naming.{new_kept, new_from, name_in, name_new, has_name, name_stands, name_once, numbers, numbers_least, apart_numbers, Kind, plain, was_read, is_new, all_walked}
 
 -- a fresh leaf, as a work variable of its number
-abbrev fresh_part : Mark → Option WorkVariable
+abbrev pub fresh_part : Mark → Option WorkVariable
 fresh_part (variable s c) = None
 fresh_part (open_leaf (work c n)) = None
 fresh_part (open_leaf (fresh c n)) = Some (work_variable c n)
 
-fresh_is : (m : Mark) (v : WorkVariable) → fresh_part m ≡ Some v → m ≡ open_leaf (fresh v.code v.number)
+pub fresh_is : (m : Mark) (v : WorkVariable) → fresh_part m ≡ Some v → m ≡ open_leaf (fresh v.code v.number)
 fresh_is (variable s c) v e = absurd (cc)
 fresh_is (open_leaf (work c n)) v e = absurd (cc)
 fresh_is (open_leaf (fresh c n)) v e =
@@ -35,14 +35,14 @@ fresh_is (open_leaf (fresh c n)) v e =
 
 module _ (db : Database) (few : HasFewSymbols db) (bound : Bound) (before : ℕ) (grammar : IsGrammar db.rows) (ts : List Tree)
     (writable : (t : Tree) → Contains ts t → IsWritable db bound before t) where
-  abbrev M : List Mark
+  abbrev pub M : List Mark
   M = flat_map (marks db.rows) ts
 
   -- the fresh leaves, each where it first stands
-  abbrev D : List WorkVariable
+  abbrev pub D : List WorkVariable
   D = not_seen [] (filter_map fresh_part M)
 
-  abbrev names : Naming
+  abbrev pub names : Naming
   names c n = name_in db few bound [] D (work_variable c n)
 
   in_list : (t : Tree) (x : Open) → Contains ts t → Occurs x t → Contains M (open_leaf x)
@@ -90,7 +90,7 @@ module _ (db : Database) (few : HasFewSymbols db) (bound : Bound) (before : ℕ)
       ∙ all_walked db few bound D (by_names names) fresh_part M (all_contained IsKind M kind_of)
       ∙ apart_numbers db few bound (filter_map fresh_part M)
 
-  naming : IsNaming db bound ts names
+  pub naming : IsNaming db bound ts names
   naming = record {
     named = λ c n w.
         let k = has_name db few bound [] D (work_variable c n) (stands c n (in_list w.0 (fresh c n) w.1 w.2)) in

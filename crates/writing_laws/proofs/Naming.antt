@@ -89,12 +89,12 @@ module _ (db : Database) (few : length db.symbols < 2 ^ 64) (bound : Bound) wher
   pub least_number : List WorkVariable → Typecode → ℕ
   least_number taken c = (least_unused db few bound taken c).0
 
-  number_least : (taken : List WorkVariable) (c : Typecode) → IsLeast (λ m. IsUnused db bound taken (work_variable c m)) (least_number taken c)
+  pub number_least : (taken : List WorkVariable) (c : Typecode) → IsLeast (λ m. IsUnused db bound taken (work_variable c m)) (least_number taken c)
   unfolding least_number
   number_least taken c = (least_unused db few bound taken c).1
 
   -- a leaf with the least number that is unused
-  abbrev numbered : List WorkVariable → WorkVariable → WorkVariable
+  abbrev pub numbered : List WorkVariable → WorkVariable → WorkVariable
   numbered taken x = work_variable x.code (least_number taken x.code)
 
   abbrev pub numbers : List WorkVariable → List WorkVariable → List WorkVariable

@@ -166,6 +166,10 @@ items_are bs (item.Slot k ∷ is) =
     let more : count_by is_constant (item.Slot k ∷ is) ≡ 0 + count_by is_constant is = sum_by-cons (λ i. if is_constant i then 1 else 0) (item.Slot k) is in
     omega (arith, rest, more)
 
+-- what an item counts is what its constants and its slots count, where each slot stands once
+pub items_sum : (bs : List ℕ) (is : List Item) → EachOnce (length bs) (slot_order is) → items_count bs is ≡ count_by is_constant is + sum bs
+items_sum bs is once = items_are bs is ∙ ap (λ n. count_by is_constant is + n) (order_sum bs (slot_order is) once)
+
 module _ (rows : List Production) (constants : Label → ℕ) (before : ℕ) (grammar : IsGrammar rows) (are : AreRowConstants rows constants) where
   tokens-Var : (s : Sym) (c : Typecode) → tokens constants (Var s c) ≡ 1
   unfolding tokens
@@ -201,8 +205,7 @@ module _ (rows : List Production) (constants : Label → ℕ) (before : ℕ) (gr
       count-Node rows l c ts
       ∙ ap (λ o. row_count (map (token_count rows) ts) o) here.1
       ∙ ap (λ ns. items_count ns r.items) (all_same ts h (typed_held rows before l c ts p))
-      ∙ items_are (map (tokens constants) ts) r.items
-      ∙ ap (λ n. count_by is_constant r.items + n) (order_sum (map (tokens constants) ts) (slot_order r.items) once)
+      ∙ items_sum (map (tokens constants) ts) r.items once
       ∙ ap (λ n. n + sum (map (tokens constants) ts)) (sym (are l r here.1))
       ∙ sym (tokens-Node l c ts)
 

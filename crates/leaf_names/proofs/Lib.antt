@@ -1,0 +1,10 @@
+pub mod FewLaws
+pub mod KeptLaws
+pub mod LeafLaws
+pub mod MarkLaws
+pub mod NamedLaws
+pub mod NamingLaws
+pub mod OpenedLaws
+pub mod ReadLaws
+pub mod RoomLaws
+pub mod TableLaws

@@ -1,0 +1,5 @@
+pub mod Cursors
+pub mod Few
+pub mod Leaves
+pub mod Named
+pub mod Tables
