@@ -78,6 +78,7 @@ ORDER = [
         ("Named", "names of new work variables", "FORMAT, How a worksheet is unified"),
         ("Pairs", "needed pairs and clashes", "book 4.1.4; FORMAT, How a worksheet is unified"),
         ("Found", "the reference that a search finds", "FORMAT, How a worksheet is unified"),
+        ("Fitting", "all assertions that fit a step", ""),
         ("ProofTrees", "when a worksheet is finished, and the proof of a step", "FORMAT, How a worksheet is unified"),
         ("Report", "the report", "FORMAT, Report and log lines"),
         ("Written", "what a worksheet becomes, its last faults, and the answer to it", "FORMAT, The written worksheet; Faults of a worksheet"),

@@ -74,7 +74,7 @@ orders_alone zero h = refl
 orders_alone (suc zero) h = refl
 orders_alone (suc (suc n)) h = absurd (omega arith)
 
-orders_same : (e : WrittenStep) → search_orders e ≡ map (places_at e) (orders_of (length e.places))
+pub orders_same : (e : WrittenStep) → search_orders e ≡ map (places_at e) (orders_of (length e.places))
 orders_same e = by (nat_le 2 (length e.places)) (nat_le (length e.places) 6) refl refl
   where
     whole : places_at e (range_with_len 0 (length e.places)) ≡ e.places
@@ -143,7 +143,7 @@ module _ (db : Database) (place : ℕ) (mode : DvMode) (pairs : List Pair) (es :
       by dv.Add h = ap (λ o. lack_in o u) (sym h)
       by dv.Given h = ap (λ o. lack_in o u) (sym h)
 
-  as_many : length e.places ≡ length w.hyps
+  pub as_many : length e.places ≡ length w.hyps
   as_many = sym (length-map e.places (place_tree es)) ∙ ap length wanted.hyps ∙ length-map w.hyps (λ t. Some t)
 
   place_is : (k : ℕ) → k < length w.hyps → place_tree es (slice_index_or e.places k given.Gap) ≡ Some (slice_index_or w.hyps k no_tree)
@@ -184,7 +184,7 @@ module _ (db : Database) (place : ℕ) (mode : DvMode) (pairs : List Pair) (es :
           no_lack = lack_same (use_of a values) ∙ h.fits.ends.no_lack;
         }
 
-    from_use : (r : List ℕ) → IsOrder (length w.hyps) (length w.hyps) r → (u : Use) → FitsUse db place mode pairs es e (record { label = l; places = places_at e r }) u
+    pub from_use : (r : List ℕ) → IsOrder (length w.hyps) (length w.hyps) r → (u : Use) → FitsUse db place mode pairs es e (record { label = l; places = places_at e r }) u
         → FitsLabel db allowed w l r
     from_use r i u h =
         let f = valued_by (value_of u) in (

@@ -1,6 +1,7 @@
 pub mod ChoiceLaws
 pub mod EndLaws
 pub mod FitLaws
+pub mod FittingLaws
 pub mod GroundLaws
 pub mod LabelLaws
 pub mod Lists

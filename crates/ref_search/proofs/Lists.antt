@@ -1,7 +1,7 @@
 -- Lists of which each element has a fact, and tests.
-use Rattle.std.proofs.Common.{◌≡◌, ℕ, zero, suc, ◌<◌, ◌==◌, Bool, true, false, not, List, [], ◌∷◌, ◌++◌, length, get_or, take, refl, sym, ap, ◌∙◌, arith, ◌⊎◌, inl, inr}
+use Rattle.std.proofs.Common.{◌≡◌, ℕ, zero, suc, ◌<◌, ◌==◌, Bool, true, false, not, List, [], ◌∷◌, ◌++◌, length, get_or, take, refl, sym, ap, ◌∙◌, arith}
 use Rattle.std.proofs.lemmas.Bool.Decides.{nat_tests}
-use Rattle.std.specs.List.{AllByRecursion, Contains}
+use Rattle.std.specs.List.{AllByRecursion}
 use Rattle.mm_base.specs.declared.symbols.Sym.{Sym}
 use Rattle.mm_base.specs.declared.symbols.Label.{Label}
 use Rattle.mm_base.specs.declared.symbols.Typecode.{Typecode}
@@ -90,19 +90,3 @@ from_not false e = absurd (cc)
 pub all_both : {X : Type 0} (P Q R : X → Type 0) → ((x : X) → P x → Q x → R x) → (xs : List X) → AllByRecursion P xs → AllByRecursion Q xs → AllByRecursion R xs
 all_both P Q R f [] h k = tt
 all_both P Q R f (x ∷ xs) h k = (f x h.0 k.0, all_both P Q R f xs h.1 k.1)
-
--- ---- the elements of a list
-
-module _ {X : Type 0} where
-  pub nothing : (x : X) → Contains [] x → ⊥
-  nothing x h = omega (arith, h.1)
-
-  pub first : (x y : X) (ys : List X) → y ≡ x → Contains (y ∷ ys) x
-  first x y ys e = (0, omega arith, e)
-
-  pub later : (x y : X) (ys : List X) → Contains ys x → Contains (y ∷ ys) x
-  later x y ys (k, l, e) = (suc k, omega (arith, l), e)
-
-  pub parted : (x y : X) (ys : List X) → Contains (y ∷ ys) x → (y ≡ x) ⊎ Contains ys x
-  parted x y ys (zero, l, e) = inl e
-  parted x y ys (suc k, l, e) = inr (k, omega (arith, l), e)

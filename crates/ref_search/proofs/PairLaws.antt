@@ -12,7 +12,7 @@ use Rattle.proof_model.specs.Machine.{is_shared}
 use Rattle.solve_model.specs.Trees.{variables}
 use Rattle.solve_model.specs.PairSets.{ordered, is_pair_in}
 use Rattle.solve_laws.specs.PairSetLaws.{PairSetHoldsSame}
-use Rattle.ref_search.proofs.Lists.{nothing, first, later, parted}
+use Rattle.solve_laws.proofs.Elements.{nothing, first, later, parted}
 use Rattle.written_model.specs.WrittenSteps.{value_of}
 use Rattle.written_model.specs.Pairs.{crossings, lesser, shared_variable, clash_of, needed}
 use Rattle.ref_search.specs.Completing.{use_of, lack_in}

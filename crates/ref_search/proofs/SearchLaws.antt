@@ -1,5 +1,5 @@
 -- The first label that fits among some, and among all.
-use Rattle.std.proofs.Common.{◌≡◌, ℕ, zero, suc, ◌+◌, ◌<◌, ◌≤◌, ◌==◌, ◌&&◌, Bool, true, false, List, [], ◌∷◌, length, map, filter, take, get_or, slice_get, Option, Some, None, option_and_then, refl, sym, ap, subst, ◌∙◌, inl, inr, add-one, arith, Result, IfOk}
+use Rattle.std.proofs.Common.{◌≡◌, ℕ, zero, suc, ◌+◌, ◌<◌, ◌≤◌, ◌==◌, ◌&&◌, Bool, true, false, List, [], ◌∷◌, length, map, filter, take, get_or, slice_get, Option, Some, None, option_and_then, refl, sym, ap, subst, ◌∙◌, ◌⊎◌, inl, inr, add-one, arith, Result, IfOk}
 use Rattle.std.proofs.lemmas.Bool.{cases_Bool}
 use Rattle.std.proofs.lemmas.Bool.Decides.{nat_tests}
 use Rattle.std.specs.List.{AllByRecursion, range_with_len}
@@ -112,23 +112,29 @@ stands_there N parsed head n l p h e t c =
 
 -- ---- all labels, by those of the heads
 
-module _ (kinds : Kinds) (text : List ℕ) (d : Opened) (given : Option (List Pair)) (w : Wanted) (closed : IsClosed w) (u : ℕ) where
-  pub no_label : AllByRecursion (λ (l : Label). l.0 < u → NoFit (book kinds text d) given w l) (by_head d.parsed None (length w.hyps))
-      → ((h : Label) → head_of w.formula ≡ Some h → AllByRecursion (λ (l : Label). l.0 < u → NoFit (book kinds text d) given w l) (by_head d.parsed (Some h) (length w.hyps)))
-      → (l : Label) → l.0 < u → NoFit (book kinds text d) given w l
-  no_label early late l below = by (parsed_at d.parsed l) refl
+module _ (kinds : Kinds) (text : List ℕ) (d : Opened) (given : Option (List Pair)) (w : Wanted) (closed : IsClosed w) where
+  -- a label that may fit has what all labels of the variables and of the wanted head have
+  pub label_stands : (Q : Label → Type 0) → AllByRecursion Q (by_head d.parsed None (length w.hyps))
+      → ((h : Label) → head_of w.formula ≡ Some h → AllByRecursion Q (by_head d.parsed (Some h) (length w.hyps)))
+      → (l : Label) → NoFit (book kinds text d) given w l ⊎ Q l
+  label_stands Q early late l = by (parsed_at d.parsed l) refl
     where
-      stand : (p : Parsed) → parsed_at d.parsed l ≡ Some p → length p.hyps ≡ length w.hyps → Standing p.tree w.formula → NoFit (book kinds text d) given w l
-      stand p e n (at_variable h) = stands_there (λ (l : Label). l.0 < u → NoFit (book kinds text d) given w l) d.parsed None (length w.hyps) l p early e h n below
-      stand p e n (at_head {h = m} is h) = stands_there (λ (l : Label). l.0 < u → NoFit (book kinds text d) given w l) d.parsed (Some m) (length w.hyps) l p (late m is) e h n below
-      stand p e n (never h) = never_conclusion kinds text d given w l p e h
+      stand : (p : Parsed) → parsed_at d.parsed l ≡ Some p → length p.hyps ≡ length w.hyps → Standing p.tree w.formula → NoFit (book kinds text d) given w l ⊎ Q l
+      stand p e n (at_variable h) = inr (stands_there Q d.parsed None (length w.hyps) l p early e h n)
+      stand p e n (at_head {h = m} is h) = inr (stands_there Q d.parsed (Some m) (length w.hyps) l p (late m is) e h n)
+      stand p e n (never h) = inl (never_conclusion kinds text d given w l p e h)
 
-      by : (o : Option Parsed) → parsed_at d.parsed l ≡ o → NoFit (book kinds text d) given w l
-      by None e = nothing_kept kinds text d given w l e
+      by : (o : Option Parsed) → parsed_at d.parsed l ≡ o → NoFit (book kinds text d) given w l ⊎ Q l
+      by None e = inl (nothing_kept kinds text d given w l e)
       by (Some p) e = elim (cases_Bool (length p.hyps == length w.hyps)) [
         | inl is ↦ stand p e (same_number (length p.hyps) (length w.hyps) is) (standing w.formula closed.formula p.tree)
-        | inr not ↦ other_number kinds text d given w l p e (λ n. numbers_differ (length p.hyps) (length w.hyps) not n)
+        | inr not ↦ inl (other_number kinds text d given w l p e (λ n. numbers_differ (length p.hyps) (length w.hyps) not n))
       ]
+
+  pub no_label : (u : ℕ) → AllByRecursion (λ (l : Label). l.0 < u → NoFit (book kinds text d) given w l) (by_head d.parsed None (length w.hyps))
+      → ((h : Label) → head_of w.formula ≡ Some h → AllByRecursion (λ (l : Label). l.0 < u → NoFit (book kinds text d) given w l) (by_head d.parsed (Some h) (length w.hyps)))
+      → (l : Label) → l.0 < u → NoFit (book kinds text d) given w l
+  no_label u early late l below = elim (label_stands (λ (l : Label). l.0 < u → NoFit (book kinds text d) given w l) early late l) [ inl none ↦ none | inr none ↦ none below ]
 
 -- ---- what the calls say, put together
 

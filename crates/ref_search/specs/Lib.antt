@@ -1,4 +1,5 @@
 pub mod Completing
+pub mod Fitting
 pub mod Matching
 pub mod Placing
 pub mod Searching

@@ -1,8 +1,9 @@
-//! The first assertion of a database that fits a formula and listed hypotheses.
+//! The assertions of a database that fit a formula and listed hypotheses: the first one, or all.
 #![tactic(auto)]
 
 mod closed;
 mod completing;
+mod fitting;
 mod matching;
 mod placing;
 mod searching;
@@ -10,5 +11,6 @@ mod shapes;
 mod wanted;
 
 pub use closed::{is_closed, is_ground};
+pub use fitting::all;
 pub use searching::first;
 pub use wanted::{Found, Wanted};

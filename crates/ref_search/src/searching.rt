@@ -15,7 +15,7 @@ use model_laws::frames_are_whole;
 use std::alloc::Global;
 
 /// The first order in which the assertion of a label fits.
-fn fit_label(
+pub(crate) fn fit_label(
     alloc: Global,
     db: &Database,
     label: Label,
@@ -106,7 +106,7 @@ fn first_at(
     first_among(alloc, db, labels, bound, wanted, places, given)
 }
 
-fn head(tree: &Tree) -> Option<Label>
+pub(crate) fn head(tree: &Tree) -> Option<Label>
     ensures { result ≡ head_of tree.now }
 {
     match tree {

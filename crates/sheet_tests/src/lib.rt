@@ -1,11 +1,17 @@
-//! Tests of the libraries that read, write and fill worksheets, and of the store of terms: examples from outside, and
-//! the public calls, by themselves or through others, where memory is ample.
+//! Tests of the libraries that read, bind, fill and write worksheets, that search for references, and of the store of
+//! terms: examples from outside, and the public calls, by themselves or through others, where memory is ample.
 #![tactic(auto)]
 
 #[cfg(test)]
+mod binding;
+#[cfg(test)]
 mod layout;
 #[cfg(test)]
+mod opened;
+#[cfg(test)]
 mod orders;
+#[cfg(test)]
+mod searching;
 #[cfg(test)]
 mod sheets;
 #[cfg(test)]

@@ -1,6 +1,7 @@
 pub mod Again
 pub mod Existence
 pub mod Filled
+pub mod Fitting
 pub mod Found
 pub mod Named
 pub mod Opened
