@@ -143,7 +143,8 @@ module _ (facts_law : HasDatabaseFacts) (whole_law : AssertionsAreWhole) (spella
   logic_is : db.is_constant_at (logic_code db).0 db.statement_count ≡ true
   logic_is = let b = S.bound_steps q.at q.qed q.there in logic_constant db options w numbers ds S places symbols q.qed.formula b.0.tree qed_filled b.2.tree
 
-  back_by : ((c : Typecode) (m k : ℕ) → IsWrittenLeaf (trees ds) c m → w.names c m ≡ Some k → k < 2 ^ 32) → (i : ℕ) (t : Tree) → slice_get (trees es) i ≡ Some t → (x : Leaf) → Contains (text db.rows t) x
+  back_by : ((c : Typecode) (m k : ℕ) → IsWrittenLeaf (trees ds) c m → w.names c m ≡ Some k → k < 2 ^ 32)
+      → (i : ℕ) (t : Tree) → slice_get (trees es) i ≡ Some t → (x : Leaf) → Contains (text db.rows t) x
       → leaf_of db w.bound.place (leaf_name db x) ≡ Some x
   back_by small = leaves_back db options w numbers ds S places owns (fresh_read db options w numbers ds S places symbols logic_is small)
 

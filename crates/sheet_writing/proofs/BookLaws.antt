@@ -67,7 +67,8 @@ module _ (kinds : Kinds) (text : List ℕ) (d : Opened) (opened : IsOpened kinds
       ∙ ap (λ (ps : List PairLine). sheet_with theorem loc (map (written_item db) (items_in d items)) ps) (ap (λ (ns : List Name). map (pair_line ns) pairs) symbols_are ∙ pairs_are pairs)
 
   -- for what a text becomes
-  pub sheet_written : (options : Options) (w : Writing) (theorem : Name) (loc : Option Name) (items : List WrittenItem) (pairs : List Pair) → w.read.theorem ≡ theorem → w.read.loc ≡ loc → w.items ≡ items
+  pub sheet_written : (options : Options) (w : Writing) (theorem : Name) (loc : Option Name) (items : List WrittenItem) (pairs : List Pair)
+      → w.read.theorem ≡ theorem → w.read.loc ≡ loc → w.items ≡ items
       → written_pairs db options w ≡ pairs → sheet_of db theorem loc items pairs ≡ written_sheet db options w
   sheet_written options w theorem loc items pairs e f g h =
       ap (λ (n : Name). sheet_of db n loc items pairs) (sym e) ∙ ap (λ (o : Option Name). sheet_of db w.read.theorem o items pairs) (sym f)

@@ -16,9 +16,11 @@ steps_are d (draft.Comment lines ∷ items) = steps_are d items
 steps_are d (draft.Step s ∷ items) = ap (λ es. step_in d s ∷ es) (steps_are d items)
 
 -- a step of a draft is among them
-pub step_there : (d : Opened) (items : List DraftItem) (k : ℕ) (e : DraftItem) (s : DraftStep) → k < length items → get_or items k e ≡ draft.Step s → Contains (steps_in (items_in d items)) (step_in d s)
+pub step_there : (d : Opened) (items : List DraftItem) (k : ℕ) (e : DraftItem) (s : DraftStep) → k < length items → get_or items k e ≡ draft.Step s
+    → Contains (steps_in (items_in d items)) (step_in d s)
 step_there d [] k e s l is = absurd (omega (arith, l))
-step_there d (i ∷ items) zero e s l is = subst (λ (x : DraftItem). Contains (steps_in (items_in d (x ∷ items))) (step_in d s)) (sym is) (first (step_in d s) (step_in d s) (steps_in (items_in d items)) refl)
+step_there d (i ∷ items) zero e s l is =
+    subst (λ (x : DraftItem). Contains (steps_in (items_in d (x ∷ items))) (step_in d s)) (sym is) (first (step_in d s) (step_in d s) (steps_in (items_in d items)) refl)
 step_there d (draft.Comment lines ∷ items) (suc k) e s l is = step_there d items k e s (omega (arith, l)) is
 step_there d (draft.Step t ∷ items) (suc k) e s l is = later (step_in d s) (step_in d t) (steps_in (items_in d items)) (step_there d items k e s (omega (arith, l)) is)
 

@@ -27,7 +27,8 @@ use Rattle.step_naming.proofs.ShortLaws.{named_short}
 -- ---- one more
 
 -- a list of what becomes of each, with one more at its end
-pub mapped_on : {X Y : Type 0} (f : X → Y) (xs : List X) (k : ℕ) (d : X) (ys : List Y) (y : Y) → k < length xs → ys ≡ map f (take k xs) → y ≡ f d → d ≡ get_or xs k d → ys ++ y ∷ [] ≡ map f (take (k + 1) xs)
+pub mapped_on : {X Y : Type 0} (f : X → Y) (xs : List X) (k : ℕ) (d : X) (ys : List Y) (y : Y) → k < length xs → ys ≡ map f (take k xs) → y ≡ f d → d ≡ get_or xs k d
+    → ys ++ y ∷ [] ≡ map f (take (k + 1) xs)
 mapped_on f xs k d ys y l e is at = ap (λ zs. zs ++ y ∷ []) e ∙ ap (λ z. map f (take k xs) ++ z ∷ []) (is ∙ ap f at) ∙ sym (map_more f xs k d l)
 
 -- ---- the formulas
@@ -98,7 +99,8 @@ module _ (d : Opened) (names : Naming) where
 
 -- ---- the answer
 
-pub are_named : (d : Opened) (bound : Bound) (items named : List DraftItem) (t : Table) → NamesAreNaming → ((db : Database) → NamedHasCount db) → NumbersFit (naming_of t.given) → IsNamesOf d bound (formulas items) t
+pub are_named : (d : Opened) (bound : Bound) (items named : List DraftItem) (t : Table) → NamesAreNaming → ((db : Database) → NamedHasCount db)
+    → NumbersFit (naming_of t.given) → IsNamesOf d bound (formulas items) t
     → named ≡ map (rename_item (naming_of t.given)) items → AreNamed d bound items named
 are_named d bound items named t law counts fit is e = record {
   names = names;
@@ -115,7 +117,8 @@ are_named d bound items named t law counts fit is e = record {
     names = naming_of t.given
 
     naming : NamesThem d bound (trees (steps_in (items_in d items))) names
-    naming kinds text before opened writable = law kinds text d bound before (trees (steps_in (items_in d items))) t opened (subst (λ ts. IsNamesOf d bound ts t) (sym (trees_are d items)) is) writable
+    naming kinds text before opened writable =
+        law kinds text d bound before (trees (steps_in (items_in d items))) t opened (subst (λ ts. IsNamesOf d bound ts t) (sym (trees_are d items)) is) writable
 
     items_are : items_in d named ≡ name_items names (items_in d items)
     items_are = ap (items_in d) e ∙ items_renamed d names items

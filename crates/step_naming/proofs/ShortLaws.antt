@@ -33,7 +33,8 @@ module _ (db : Database) (law : NamedHasCount db) (bound : Bound) (ts : List Tre
       let same : length (map (leaf_name db) (text db.rows (name_tree names t))) ≡ length (text db.rows (name_tree names t)) = length-map (text db.rows (name_tree names t)) (leaf_name db) in
       omega (arith, low, count, same)
 
-  pub named_short : (items : List WrittenItem) → ((t : Tree) → Contains (trees (steps_in items)) t → Contains ts t) → (e : WrittenStep) → Contains (steps_in (name_items names items)) e → length (text db.rows e.tree) ≤ 4095
+  pub named_short : (items : List WrittenItem) → ((t : Tree) → Contains (trees (steps_in items)) t → Contains ts t)
+      → (e : WrittenStep) → Contains (steps_in (name_items names items)) e → length (text db.rows e.tree) ≤ 4095
   named_short [] inside e m = absurd (nothing e m)
   named_short (comment lines ∷ items) inside e m = named_short items inside e m
   named_short (step f ∷ items) inside e m = elim (parted e (name_step names f) (steps_in (name_items names items)) m) [

@@ -6,4 +6,5 @@ use Rattle.sheet_writing.specs.Ambiguous.{HasTwoReadings}
 use Rattle.sheet_writing.proofs.ambiguous.first_ambiguous.Given as goal
 
 abbrev pub invariant-loop-item : goal.invariant-loop-item
-invariant-loop-item l = (o : Option DraftStep) → IsFirstOrNone (HasTwoReadings l.db.rows l.place) (drafts_in (drop l.item-index l.items)) o → IsFirstOrNone (HasTwoReadings l.db.rows l.place) (drafts_in l.items) o
+invariant-loop-item l =
+    (o : Option DraftStep) → IsFirstOrNone (HasTwoReadings l.db.rows l.place) (drafts_in (drop l.item-index l.items)) o → IsFirstOrNone (HasTwoReadings l.db.rows l.place) (drafts_in l.items) o

@@ -15,4 +15,5 @@ returns-clause-writing c =
     IfOk-weaker c.draft_sheet.result _ _
     (λ s is kinds text options w opened provable theorem loc items pairs.
     is ∙ sheet_is kinds text c.args.db.now opened c.args.provable.now c.args.sheet.now.theorem c.args.sheet.now.loc c.args.items.now c.args.pairs.now provable
-    ∙ sheet_written kinds text c.args.db.now opened options w c.args.sheet.now.theorem c.args.sheet.now.loc (items_in c.args.db.now c.args.items.now) c.args.pairs.now theorem loc items pairs) c.draft_sheet.ensures
+    ∙ sheet_written kinds text c.args.db.now opened options w c.args.sheet.now.theorem c.args.sheet.now.loc
+    (items_in c.args.db.now c.args.items.now) c.args.pairs.now theorem loc items pairs) c.draft_sheet.ensures
