@@ -3,11 +3,11 @@
 #![tactic(auto)]
 
 mod draft;
-mod names;
 mod places;
+mod spoken_names;
 mod uses;
 
 pub use draft::{DraftItem, DraftStep, StepUse, draft_steps};
-pub use names::{label_name, symbol_name};
 pub use places::in_order;
+pub use spoken_names::{label_name, symbol_name};
 pub use uses::{hyp_count, pairs, variables};
