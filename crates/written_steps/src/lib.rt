@@ -2,12 +2,12 @@
 //! assertions.
 #![tactic(auto)]
 
+mod database_names;
 mod draft;
 mod places;
-mod spoken_names;
 mod uses;
 
+pub use database_names::{label_name, symbol_name};
 pub use draft::{DraftItem, DraftStep, StepUse, draft_steps};
 pub use places::in_order;
-pub use spoken_names::{label_name, symbol_name};
 pub use uses::{hyp_count, pairs, variables};
