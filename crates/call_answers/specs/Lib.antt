@@ -2,7 +2,6 @@ pub mod CallAnswers
 pub mod CommandLine
 pub mod CommandLineExamples
 pub mod Endings
-pub mod Given
 pub mod Trial
 pub mod TrialAnswerExamples
 pub mod Verified

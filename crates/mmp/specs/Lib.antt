@@ -1,0 +1,14 @@
+pub mod Answer
+pub mod Command
+pub mod CommandWords
+pub mod CommandWordsExamples
+pub mod Due
+pub mod Faults
+pub mod Found
+pub mod Opened
+pub mod OpenedSheet
+pub mod Shown
+pub mod Theorems
+pub mod Unify
+pub mod Verdicts
+pub mod Verify

@@ -1,3 +1,0 @@
-mod Appends
-mod Formulas
-mod LineLaws
