@@ -1,7 +1,7 @@
 -- Lists that have got one more.
 use Rattle.std.specs.Prelude.{◌≡◌, ℕ, ◌<◌, ◌≤◌, List, [], ◌∷◌, ◌++◌, length, slice_get, Option, Some, None, Contains, refl}
 use Rattle.std.specs.List.{AllByRecursion, AllZip}
-use Rattle.std.proofs.Common.{zero, suc, ap, subst, ◌∙◌, arith}
+use Rattle.std.proofs.Common.{take, zero, suc, ap, subst, ◌∙◌, arith}
 
 module _ {X : Type 0} where
   pub get_front : (xs ys : List X) (k : ℕ) → k < length xs → slice_get (xs ++ ys) k ≡ slice_get xs k
@@ -26,6 +26,11 @@ module _ {X : Type 0} where
   pub all_join : (P : X → Type 0) (xs ys : List X) → AllByRecursion P xs → AllByRecursion P ys → AllByRecursion P (xs ++ ys)
   all_join P [] ys h g = g
   all_join P (x ∷ xs) ys h g = (h.0, all_join P xs ys h.1 g)
+
+  pub all_take : (P : X → Type 0) (k : ℕ) (xs : List X) → AllByRecursion P xs → AllByRecursion P (take k xs)
+  all_take P zero xs h = tt
+  all_take P (suc k) [] h = tt
+  all_take P (suc k) (x ∷ xs) h = (h.0, all_take P k xs h.1)
 
   pub all_weaker : (P Q : X → Type 0) → ((x : X) → P x → Q x) → (xs : List X) → AllByRecursion P xs → AllByRecursion Q xs
   all_weaker P Q f [] h = tt
