@@ -87,8 +87,8 @@ ORDER = [
         ("Again", "what a written worksheet becomes when it is unified again", ""),
         ("ReadBack", "laws: what a text without a fault reads as, and that a laid out worksheet reads back", ""),
         ("ProofsPush", "laws: what a proof leaves on the stack", ""),
-        ("Existence", "laws, not proved yet: a most general valuation exists, and each worksheet has an answer", ""),
-        ("WrittenAgain", "laws, not proved yet: written again as itself, and the answer is one", ""),
+        ("Existence", "laws: a most general valuation exists, and, not proved yet, each worksheet has an answer", ""),
+        ("WrittenAgain", "laws: written again as itself, and the answer is one", ""),
     ]),
     ("call_answers", "What a call of the program answers.", [
         ("CommandLine", "the words of the command line", "FORMAT, Command words"),
@@ -99,13 +99,12 @@ ORDER = [
     ]),
 ]
 
-LAWS = ["model_laws", "proof_laws", "solve_laws", "sheet_laws", "answer_laws", "push_laws", "headline_laws"]
+LAWS = ["model_laws", "proof_laws", "solve_laws", "sheet_laws", "chain_laws", "again_laws", "answer_laws", "push_laws", "writing_laws", "headline_laws"]
 
 # The statements that no contract names yet, by crate and file.
 STATED = [
     ("call_answers", "CallAnswers", ["IsAnswer"]),
-    ("written_model", "Existence", ["HasMostGeneral", "HasAnswer"]),
-    ("written_model", "WrittenAgain", ["ValuesStay", "VerdictsStay", "IsWrittenAgain"]),
+    ("written_model", "Existence", ["HasAnswer"]),
 ]
 
 HEAD = """# Definitions
