@@ -122,4 +122,4 @@ module _ (kinds : Kinds) (text : List ℕ) (d : Opened) (opened : IsOpened kinds
     pub theorem_is_of : (bound_in d s p []).theorem ≡ theorem_of (database_of kinds text d.rows d.parsed) s
     theorem_is_of = subst (λ (q : Place). (bound_in d s q []).theorem ≡ theorem_of (database_of kinds text d.rows d.parsed) s) (sym p_is)
         (subst (λ (db : Database). (bound_in d s (here_place kinds (facts_of text) d s says place_within (has_frame kinds text d opened)) []).theorem ≡ theorem_of db s) (shown_is kinds text d opened)
-          (theorem_is kinds (facts_of text) d s says place_within (has_frame kinds text d opened)))
+        (theorem_is kinds (facts_of text) d s says place_within (has_frame kinds text d opened)))

@@ -99,16 +99,21 @@ parts_are symbols r a b c d e g h i j k = k ∙ ap (λ x. x ++ L) (j ∙ ap (λ 
   where
     V : List ℕ
     V = behind (verdict_words r.verdict)
+
     R : List ℕ
     R = behind (reference_words r.verdict r.reference)
+
     C : List ℕ
     C = behind (clash_in symbols r.clash)
+
     L : List ℕ
     L = behind (lack_in symbols r.lack)
+
     split : behind (words_in symbols r) ≡ ((V ++ R) ++ C) ++ L
     split = behind-append ((verdict_words r.verdict ++ reference_words r.verdict r.reference) ++ clash_in symbols r.clash) (lack_in symbols r.lack)
         ∙ ap (λ x. x ++ L) (behind-append (verdict_words r.verdict ++ reference_words r.verdict r.reference) (clash_in symbols r.clash)
         ∙ ap (λ x. x ++ C) (behind-append (verdict_words r.verdict) (reference_words r.verdict r.reference)))
+
     whole : report_text symbols r ≡ (((r.name ++ V) ++ R) ++ C) ++ L
     whole = ap (λ x. r.name ++ x) split ∙ sym (append_assoc r.name ((V ++ R) ++ C) L ∙ ap (λ x. r.name ++ x) refl) ∙ ap (λ x. x ++ L) (sym (append_assoc r.name (V ++ R) C)) ∙ ap (λ x. (x ++ C) ++ L) (sym (append_assoc r.name V R))
 

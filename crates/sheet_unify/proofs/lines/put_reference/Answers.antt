@@ -12,6 +12,6 @@ pub returns-in-Some : goal.returns-in-Some
 returns-in-Some c =
     on_ok_weaker c.put_word.result
     (λ e. e ∙ ap (λ r. c.args.line.now.items ++ 32 ∷ r) c.as_slice.ensures
-      ∙ shown_some c.args.verdict _ c.shows_reference.result c.args.line.now.items c.shows_reference.ensures c.if-not-shows_reference.false
-      ∙ ap (λ o. c.args.line.now.items ++ behind (reference_words c.args.verdict o)) (sym c.in-Some.is))
+    ∙ shown_some c.args.verdict _ c.shows_reference.result c.args.line.now.items c.shows_reference.ensures c.if-not-shows_reference.false
+    ∙ ap (λ o. c.args.line.now.items ++ behind (reference_words c.args.verdict o)) (sym c.in-Some.is))
     c.put_word.ensures
