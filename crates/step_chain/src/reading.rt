@@ -24,7 +24,12 @@ pub enum TreeFault {
 }
 
 impl From<Memory> for TreeFault {
-    fn from(_fault: Memory) -> TreeFault {
+    ghost use Rattle.std.specs.Prelude.{◌≡◌};
+    ghost use Rattle.step_chain.specs.declared.reading.TreeFault.TheVariants as fault;
+
+    ghost from_gives = { λ e r. r ≡ fault.Memory };
+
+    fn from(_: Memory) -> TreeFault {
         TreeFault::Memory
     }
 }
