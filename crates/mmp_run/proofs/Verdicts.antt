@@ -1,23 +1,25 @@
 -- What is said of a label, from what was found of its theorem, its code and the machine.
-use Rattle.std.proofs.Common.{◌≡◌, ◌^◌, ℕ, List, length, nat_lt, Bool, true, false, cond, Option, Some, None, MatchOption, IsSome, refl, sym, ap, subst, inl, inr}
+use Rattle.std.proofs.Common.{◌≡◌, ◌^◌, ℕ, List, length, nat_lt, Bool, true, false, cond, Option, Some, None, MatchOption, IsSome, refl, sym, ap, subst, inl, inr, codes}
 use Rattle.std.specs.List.{join_with_byte}
+use Rattle.std.specs.Option.{option_and_then}
 use Rattle.compressed_proof.specs.Decoded.{IsFault}
 use Rattle.compressed_proof.specs.declared.fault.CodeFault.{CodeFault}
 use Rattle.compressed_proof.specs.declared.fault.CodeFault.TheVariants as faults
 use Rattle.mm_model.specs.Tokens.{token_fault}
 use Rattle.proof_model.specs.ProofCode.{code_fault}
-use Rattle.mm_model.specs.Frames.{proof_range}
+use Rattle.mm_model.specs.Frames.{proof_range, statement_of}
 use Rattle.stack_verify.specs.Proofs.{IsProofCodeFault, IsProofOf}
 use Rattle.stack_verify.specs.Theorems.{labels_of_hyps}
 use Rattle.mm_base.specs.declared.symbols.Label.{Label}
 use Rattle.mm_model.specs.Faults.{Fault, fault, or_else}
 use Rattle.mm_model.specs.Names.{Name}
-use Rattle.mm_model.specs.Statements.{Statement, statements, database_fault, statement_fault}
+use Rattle.mm_model.specs.Statements.{Statement, statements, has_keyword, database_fault, statement_fault}
 use Rattle.proof_model.specs.declared.code.Code.{Code}
 use Rattle.proof_model.specs.declared.theorem.Theorem.{Theorem}
-use Rattle.proof_model.specs.DatabaseProofs.{frames_of_database, theorem_of_frame, proof_code_fault, IsCodeOf}
+use Rattle.proof_model.specs.DatabaseProofs.{proof_words, frames_of_database, theorem_of_frame, proof_code_fault, IsCodeOf}
 use Rattle.proof_model.specs.Machine.{Accepts, proof_fault}
 use Rattle.call_answers.specs.Verified.{Verdict, no_theorem, accepted, bad_code, verdict_of, theorem_named, IsProofVerdict, IsVerdict}
+use Rattle.model_laws.specs.ProofPlaces.{ProofsStand}
 use Rattle.mmp_run.specs.Theorems.{IsTheorem}
 use Rattle.mmp_run.proofs.Theorems.{named_by}
 
@@ -32,6 +34,18 @@ said_of text name l t v is =
 -- where the proof is
 pub proof_at : (ss : List Statement) (name : List ℕ) (l : Label) (t : IsTheorem ss name l) → IsSome (proof_range ss l) → IsProofOf ss l t.frame t.words
 proof_at ss name l t range = record { frame = t.frame_is; words = t.words_are; range = range }
+
+-- it is known
+pub range_of : ProofsStand → (text name : List ℕ) (l : Label) (t : IsTheorem (statements text) name l) → database_fault text ≡ None → IsSome (proof_range (statements text) l)
+range_of law text name l t sound = by_statement (statement_of (statements text) l) refl t.words_are
+  where
+    by_keyword : (p : ℕ × Statement) (b : Bool) → statement_of (statements text) l ≡ Some p → has_keyword (codes "$p") p.1 ≡ b → cond b (Some (proof_words p.1)) None ≡ Some t.words → IsSome (proof_range (statements text) l)
+    by_keyword p true there k e = law text sound l p.0 p.1 there k
+    by_keyword p false there k e = let clash : None ≡ Some t.words = e in absurd (cc)
+
+    by_statement : (o : Option (ℕ × Statement)) → statement_of (statements text) l ≡ o → option_and_then {U = List Name} (λ p. cond (has_keyword (codes "$p") p.1) (Some (proof_words p.1)) None) o ≡ Some t.words → IsSome (proof_range (statements text) l)
+    by_statement None there e = let clash : None ≡ Some t.words = e in absurd (cc)
+    by_statement (Some p) there e = by_keyword p (has_keyword (codes "$p") p.1) there refl e
 
 pub said_code : (text name : List ℕ) (l : Label) (t : IsTheorem (statements text) name l) (f : Fault) → proof_code_fault (labels_of_hyps t.frame.hyps) t.words ≡ Some f → IsVerdict text name (bad_code f)
 said_code text name l t f e =

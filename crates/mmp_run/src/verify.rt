@@ -1,13 +1,12 @@
 //! What is said of the proof of a theorem.
 
-ghost use Rattle.std.specs.Prelude.{◌≡◌, ◌≢◌, ℕ, List, Option, None, Some, IfOk, IfNone, IfSome, IsSome, IsTrue, OnOk};
+ghost use Rattle.std.specs.Prelude.{◌≡◌, ◌≢◌, ℕ, List, Option, None, Some, IfOk, IfNone, IfSome, OnOk};
 ghost use Rattle.compressed_proof.specs.Decoded.{IsFault as IsCodeFault};
 ghost use Rattle.mm_frames.specs.Contents.{contents_of};
 ghost use Rattle.mm_model.specs.Statements.{statements, database_fault};
 ghost use Rattle.mm_model.specs.Names.{Name};
 ghost use Rattle.proof_model.specs.Machine.{MachineFault};
 ghost use Rattle.proof_model.specs.ProofCode.{code_fault};
-ghost use Rattle.mm_model.specs.Frames.{proof_range};
 ghost use Rattle.stack_verify.specs.Faults.{IsFault as IsProofFault};
 ghost use Rattle.fault_lines.specs.FaultLines.{code_faults, proof_faults};
 ghost use Rattle.call_answers.specs.Verified.{verdict_of, refused, accepted, no_theorem, theorem_named, IsVerdict};
@@ -22,6 +21,7 @@ use call_answers::Ending;
 use compressed_proof::CodeFault;
 use mm_base::{Label, List, Memory, Status};
 use mm_frames::Frames;
+use model_laws::proofs_stand;
 use stack_verify::{ProofFault, proof_code, theorem_of, verify};
 use std::alloc::Global;
 
@@ -88,13 +88,6 @@ fn find_theorem(frames: &Frames, name: &[u8]) -> Option<Label>
     }
 }
 
-// Whether it is known where its proof stands, as it is of each `$p` of a database without a fault.
-fn has_proof(frames: &Frames, label: Label) -> bool
-    ensures { IsTrue result → (text : List ℕ) → frames.now ≡ contents_of text → IsSome (proof_range (statements text) label) }
-{
-    label.0 < frames.labels() && frames.proof(label).is_some()
-}
-
 // What is said of the proof of a theorem of a database without a fault.
 fn judge(alloc: Global, text: &[u8], frames: &Frames, name: &[u8]) -> Result<Verdict, Memory>
     requires contents { frames.now ≡ contents_of text.now }
@@ -105,9 +98,7 @@ fn judge(alloc: Global, text: &[u8], frames: &Frames, name: &[u8]) -> Result<Ver
     let Some(label) = find_theorem(frames, name) else {
         return Ok(Verdict::NoTheorem);
     };
-    if !has_proof(frames, label) {
-        return Err(Memory);
-    }
+    proofs_stand();
     let theorem = theorem_of(alloc, frames, label)?;
     let code = match proof_code(alloc, text, frames, label) {
         Ok(code) => code,

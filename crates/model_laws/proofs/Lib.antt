@@ -12,6 +12,7 @@ pub mod OwnLeaves
 pub mod Passing
 pub mod PathLaws
 mod PlaceFacts
+mod ProofPlaces
 pub mod RowFacts
 pub mod Shapes
 mod StandFacts
