@@ -19,7 +19,7 @@ use Rattle.proof_model.specs.declared.theorem.Theorem.{Theorem}
 use Rattle.proof_model.specs.DatabaseProofs.{proof_words, frames_of_database, theorem_of_frame, proof_code_fault, IsCodeOf}
 use Rattle.proof_model.specs.Machine.{Accepts, proof_fault}
 use Rattle.call_answers.specs.Verified.{Verdict, no_theorem, accepted, bad_code, verdict_of, theorem_named, IsProofVerdict, IsVerdict}
-use Rattle.model_laws.specs.ProofPlaces.{ProofsStand}
+use Rattle.theorem_laws.specs.ProofPlaces.{ProofsStand}
 use Rattle.mmp_run.specs.Theorems.{IsTheorem}
 use Rattle.mmp_run.proofs.Theorems.{named_by}
 

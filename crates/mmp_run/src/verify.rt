@@ -21,7 +21,7 @@ use call_answers::Ending;
 use compressed_proof::CodeFault;
 use mm_base::{Label, List, Memory, Status};
 use mm_frames::Frames;
-use model_laws::proofs_stand;
+use theorem_laws::proofs_stand;
 use stack_verify::{ProofFault, proof_code, theorem_of, verify};
 use std::alloc::Global;
 

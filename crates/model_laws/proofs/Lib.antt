@@ -12,7 +12,6 @@ pub mod OwnLeaves
 pub mod Passing
 pub mod PathLaws
 mod PlaceFacts
-mod ProofPlaces
 pub mod RowFacts
 pub mod Shapes
 mod StandFacts

@@ -1,5 +1,4 @@
 ghost use Rattle.model_laws.specs.DatabaseLaws.{ActiveNamesArePlain, NamesAreWords, FramesAreWhole, HasDatabaseFacts, LabelsAreDistinct, PositionsRise, RowsAreAGrammar, RowsAreFrames, SymbolsAreDistinct, DatabasesOfATextAgree, HavePlaces, HaveSymbols};
-ghost use Rattle.model_laws.specs.ProofPlaces.{ProofsStand};
 ghost use Rattle.model_laws.specs.StatementLaws.{StatementsAreSound};
 
 /// No two labels of a database without a fault are one.
@@ -67,9 +66,4 @@ pub fn databases_have_places()
 /// Its symbols are few enough, its constants are symbols of it, and the typecodes of active variables are those of the `$f` below the place.
 pub fn databases_have_symbols()
     ensures { HaveSymbols }
-{}
-
-/// In a text without a fault the proof of each `$p` stands between its `$=` and its `$.`.
-pub fn proofs_stand()
-    ensures { ProofsStand }
 {}

@@ -1,20 +1,19 @@
 -- The proof of a `$p` of a text without a fault stands between its `$=` and its `$.`.
-use Rattle.std.proofs.Common.{◌≡◌, ◌==◌, ◌+◌, ℕ, suc, Bool, true, false, not, cond, ◌&&◌, ◌||◌, List, [], ◌∷◌, ◌++◌, take, drop, reverse, Option, Some, None, option_map, IsSome, refl, sym, ap, ◌∙◌, arith, subst, inl, inr, codes}
+use Rattle.std.proofs.Common.{◌≡◌, ◌==◌, ◌+◌, ℕ, suc, Bool, true, false, not, cond, ◌||◌, List, [], ◌∷◌, ◌++◌, take, reverse, Option, Some, None, option_map, IsSome, refl, sym, ap, ◌∙◌, arith, subst, inl, inr, codes}
 use Rattle.std.specs.Prelude.{find}
 use Rattle.std.specs.List.{AllByRecursion, list_any, prefix_len, slice_get}
 use Rattle.std.specs.Option.{option_and_then, option_map_or}
 use Rattle.std.specs.Str.{bytes_eq}
 use Rattle.std.proofs.lemmas.Bool.{cases_Bool}
 use Rattle.std.proofs.lemmas.Slice.Eq.{bytes_eq-Decides}
-use Rattle.mm_base.specs.declared.symbols.Label.{Label}
 use Rattle.mm_model.specs.Words.{Word}
 use Rattle.mm_model.specs.Tokens.{tokens}
-use Rattle.mm_model.specs.Frames.{proof_in, proof_range, statement_of, positions}
-use Rattle.mm_model.specs.Statements.{Statement, is, is_one_of, is_word, is_empty, is_label_alone, ends_statement, unended, ended, body, has_keyword, in_proof, no_proof, stray_token, can_stand, statements, statement_fault, database_fault}
+use Rattle.mm_model.specs.Frames.{proof_in}
+use Rattle.mm_model.specs.Statements.{Statement, is, is_word, is_empty, is_label_alone, ends_statement, unended, ended, body, has_keyword, in_proof, no_proof, stray_token, can_stand, statements}
 use Rattle.mm_model.proofs.Lists.{ended-on, ended-end}
-use Rattle.model_laws.specs.ProofPlaces.{ProofsStand}
-use Rattle.model_laws.proofs.Checked.{rules_fail, At, IsChecked, EachBefore, Found, found, text_checked, last_first, no_statement_fault}
-use Rattle.model_laws.proofs.Shapes.{AreWords, Shape, shape, at_split}
+use Rattle.theorem_laws.specs.ProofPlaces.{ProofsStand}
+use Rattle.model_laws.proofs.Checked.{rules_fail, At, IsChecked, EachBefore, found, text_checked, last_first, no_statement_fault}
+use Rattle.model_laws.proofs.Shapes.{shape, at_split}
 
 -- ---- a statement ends with its last token
 
