@@ -1,7 +1,7 @@
 //! Sets of pairs of distinct variables, by lesser and then greater symbol number.
 #![tactic(auto)]
 
-ghost use Rattle.std.specs.Prelude.{◌≡◌, [], IfOk, OnOk};
+ghost use Rattle.std.specs.Prelude.{◌≡◌, [], IfOk, OnOk, OnErr};
 ghost use Rattle.solve_model.specs.PairSets.{ordered, put_pair};
 
 use mm_base::{List, Memory, Pair, Sym};
@@ -38,15 +38,16 @@ impl PairSet {
     }
 
     /// Puts in the pair of two variables, in either order; one that is there stays. It takes a number of steps in
-    /// proportion to the logarithm of the size of the set.
+    /// proportion to the logarithm of the size of the set. `Memory`: there is no room for it, and the set is as before.
     pub fn add(&mut self, one: Sym, other: Sym) -> Result<(), Memory>
-        ensures { OnOk result (self.new ≡ put_pair self.old (ordered one other)) }
+        ensures added { OnOk result (self.new ≡ put_pair self.old (ordered one other)) }
+        ensures same { OnErr result (self.new ≡ self.old) }
     {
         self.keys.insert(key_of(one, other))?;
         Ok(())
     }
 
-    /// The pairs, in order.
+    /// The pairs, in order, in the time and memory of a list of them. `Memory`: there is no room for it.
     pub fn listed(&self, alloc: Global) -> Result<List<Pair>, Memory>
         ensures { IfOk result (λ pairs. pairs ≡ self.now) }
     {
