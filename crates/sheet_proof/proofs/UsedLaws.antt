@@ -1,10 +1,10 @@
 -- What proves the steps of a finished worksheet stands for them, and `qed` is used.
-use Rattle.std.specs.Prelude.{◌≡◌, ◌<◌, ◌&&◌, ◌||◌, ◌==◌, ℕ, zero, suc, Bool, true, false, List, [], ◌∷◌, ◌++◌, length, map, fold, cond, slice_get, slice_index_or, unwrap_or, option_map, option_and_then, is_none, Contains, Option, Some, None, refl, codes}
+use Rattle.std.specs.Prelude.{◌≡◌, ◌<◌, ◌≤◌, ◌+◌, ◌&&◌, ◌||◌, ◌==◌, ℕ, zero, suc, Bool, true, false, List, [], ◌∷◌, ◌++◌, length, map, fold, cond, slice_get, slice_index_or, unwrap_or, option_map, option_and_then, is_none, Contains, Option, Some, None, refl, codes}
 use Rattle.std.specs.List.{AllByRecursion, AllZip, list_all}
 use Rattle.std.specs.Option.{option_map_or}
 use Rattle.std.proofs.Common.{sym, ap, subst, ◌∙◌, arith, inl, inr, append_assoc, append-nil, length-append}
 use Rattle.std.proofs.lemmas.Bool.{cases_lt, cases_Bool}
-use Rattle.std.proofs.lemmas.List.{map-length, map-append}
+use Rattle.std.proofs.lemmas.List.{length-map}
 use Rattle.mm_base.specs.declared.kinds.Kinds.{Kinds}
 use Rattle.mm_base.specs.declared.symbols.Pair.{Pair}
 use Rattle.mm_model.specs.Book.{Assertion, Database}
@@ -103,7 +103,7 @@ module _ (d : Opened) where
           values_are = refl;
           value_count = x.count;
           places_are = named;
-          place_count = sym (map-length place.Step (step_numbers s.places)) ∙ ap length (sym named) ∙ eq_of (length s.places) (hyps_in d u.label) parts.0 ∙ hyps_are u x;
+          place_count = sym (length-map (step_numbers s.places) place.Step) ∙ ap length (sym named) ∙ eq_of (length s.places) (hyps_in d u.label) parts.0 ∙ hyps_are u x;
         }
 
     step_stands : (before : List ProofStep) (s : DraftStep) (o : Option StepUse) → s.by ≡ o → IsSoundStep d s → HasReference (step_in d s) → IsProofStep db (step_in d s) (step_by d before s o)
@@ -224,7 +224,7 @@ module _ (d : Opened) where
     }
 
     count : length (proof_steps d items) ≡ length provable.front + 1
-    count = ap length all_steps ∙ length_from [] (drafts_in items) ∙ sym (map-length (step_in d) (drafts_in items)) ∙ ap length (sym (steps_are items)) ∙ ap length provable.whole
+    count = ap length all_steps ∙ length_from [] (drafts_in items) ∙ sym (length-map (drafts_in items) (step_in d)) ∙ ap length (sym (steps_are items)) ∙ ap length provable.whole
         ∙ length-append provable.front (provable.last ∷ [])
 
     -- the last step is used
@@ -234,3 +234,6 @@ module _ (d : Opened) where
         let at : slice_get es root ≡ Some provable.last = ap (slice_get es) same ∙ ap (λ xs. slice_get xs (length provable.front)) provable.whole ∙ get_mid provable.front provable.last [] in
         let done = all_done provable.mode provable.allowed es provable.finished provable.steps (drafts_in items) [] [] (steps_are items) refl (sound_drafts items sound) (λ k l b. absurd (omega (arith, l))) in
         (same, ap (λ ps. used_at ps root) all_steps ∙ done root (subst (λ n. root < n) (ap length all_steps) (omega (arith, e))) (at_qed root at provable.named))
+
+    pub not_empty : 1 ≤ length (proof_steps d items)
+    not_empty = omega (arith, count)
