@@ -1,0 +1,3 @@
+pub mod Steps
+pub mod Provable
+pub mod Texts
