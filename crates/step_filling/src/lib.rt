@@ -2,11 +2,13 @@
 //! new steps.
 #![tactic(auto)]
 
+mod accepted;
+mod copies;
+mod drafts;
 mod fault;
 mod filling;
-mod names;
-mod reading;
-mod table;
+mod kept;
+mod places;
 mod wanted;
 
 pub use fault::FillFault;

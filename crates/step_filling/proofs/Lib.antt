@@ -1,0 +1,4 @@
+pub mod WantedLaws
+pub mod NameLaws
+pub mod DraftLaws
+pub mod StepLaws
