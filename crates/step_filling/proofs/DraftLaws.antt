@@ -13,6 +13,7 @@ use Rattle.hyp_derive.specs.Naming.{HaveSameNames}
 use Rattle.written_steps.specs.declared.draft.DraftStep.{DraftStep}
 use Rattle.written_steps.specs.declared.draft.DraftItem.{DraftItem}
 use Rattle.written_steps.specs.declared.draft.DraftItem.TheVariants as draft
+use Rattle.written_steps.specs.declared.draft.StepUse.{StepUse}
 use Rattle.written_steps.specs.Drafts.{step_in, item_in, items_in, IsSoundStep, IsSoundItem, AreSound}
 use Rattle.step_filling.specs.Kept.{Kept, derived_item, names_in, IsInStep, AreMade, IsOwnPut}
 use Rattle.step_filling.proofs.NameLaws.{length-derived_names}
@@ -40,9 +41,9 @@ module _ (d : Opened) where
 
   sound-made : (ps : List (Name × Tree)) → AreSound d (map derived_item ps)
   sound-made [] = tt
-  sound-made (p ∷ ps) = (tt, sound-made ps)
+  sound-made (p ∷ ps) = ((λ u e. let impossible : ◌≡◌ {A = Option StepUse} None (Some u) = e in absurd (cc)), sound-made ps)
 
-  sound_join : (xs ys : List DraftItem) → AreSound d xs → AreSound d ys → AreSound d (xs ++ ys)
+  pub sound_join : (xs ys : List DraftItem) → AreSound d xs → AreSound d ys → AreSound d (xs ++ ys)
   sound_join [] ys h k = k
   sound_join (x ∷ xs) ys h k = (h.0, sound_join xs ys h.1 k)
 

@@ -2,3 +2,4 @@ pub mod WantedLaws
 pub mod NameLaws
 pub mod DraftLaws
 pub mod StepLaws
+pub mod ItemLaws

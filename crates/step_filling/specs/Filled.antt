@@ -24,7 +24,7 @@ use Rattle.step_chain.specs.Ordered.{reordered}
 use Rattle.step_chain.specs.Steps.{step_at}
 use Rattle.step_chain.specs.Held.{Held, judgements_of, OfEachBook}
 use Rattle.step_chain.specs.Values.{value_of}
-use Rattle.step_chain.specs.Answers.{IsShort, constants_of, values_of, OfAccepted, IsAcceptedAs}
+use Rattle.step_chain.specs.Answers.{IsShort, constants_of, values_of, OfAccepted, OfKept, IsAcceptedAs}
 use Rattle.step_filling.specs.declared.fault.FillFault.{FillFault}
 use Rattle.step_filling.specs.declared.fault.FillFault.TheVariants as fault
 use Rattle.step_filling.specs.Kept.{Kept, draft_of, filling_in, IsInStep, AreMade, IsOwnPut}
@@ -106,8 +106,15 @@ pub record IsOwnAccepted (h : Held) (i : ℕ) (numbers : List ℕ) (s : SheetSte
   pub values_are : OfAccepted h i (λ y. values ≡ values_of h i y)
   pub count : length values ≡ length x.variables
 
+-- an accepted step of this formula, with these places
+pub record IsUsedStep (h : Held) (i : ℕ) (s : SheetStep) (label : Label) (places : List Given) (tree : Tree) (own : DraftStep) : Type 0 where
+  pub values : List Tree
+  pub is : own ≡ draft_of s places tree report.Fits (Some (record { label = label; values = values }))
+  pub values_are : OfAccepted h i (λ y. values ≡ values_of h i y)
+  pub count : OfKept h i (λ x. length values ≡ length x.variables)
+
 abbrev pub IsOwnFault : Held → ℕ → Name → FillFault → Type 0
-IsOwnFault h i name (fault.TooLong m n) = (m ≡ name) × OfEachBook h (λ db. IsTooLong (constants_of h) (formula_of h i) n)
+IsOwnFault h i name (fault.TooLong m n) = OfEachBook h (λ db. (m ≡ name) × IsTooLong (constants_of h) (formula_of h i) n)
 IsOwnFault h i name fault.LongValue = OfAccepted h i (λ y. AreShort (constants_of h) (values_of h i y) → ⊥)
 IsOwnFault h i name fault.Memory = Unit {0}
 
@@ -123,12 +130,6 @@ pub record IsFilledPut (old new : Kept) (made : List Tree) (own : DraftStep) : T
   pub mid : Kept
   pub are_made : AreMade old mid made
   pub own_put : IsOwnPut mid new own
-
--- no fault of a formula
-abbrev pub IsValueFault : FillFault → Type 0
-IsValueFault (fault.TooLong name n) = ⊥
-IsValueFault fault.LongValue = Unit {0}
-IsValueFault fault.Memory = Unit {0}
 
 -- an accepted step for which these trees are wanted is put in, behind the new steps that it needs
 pub record IsWantedPut (h : Held) (i : ℕ) (s : SheetStep) (x : Accepted) (wanted : List Tree) (old new : Kept) : Type 0 where
@@ -169,3 +170,19 @@ abbrev pub IsFaultAmong : Held → Kept → List SheetItem → FillFault → Typ
 IsFaultAmong h k items (fault.TooLong name n) = IsLongAmong h k items name n
 IsFaultAmong h k items fault.LongValue = (i : ℕ) × HasLongValue h i
 IsFaultAmong h k items fault.Memory = Unit {0}
+
+-- why an item is not put in
+abbrev pub IsMemory : FillFault → Type 0
+IsMemory (fault.TooLong name n) = ⊥
+IsMemory fault.LongValue = ⊥
+IsMemory fault.Memory = Unit {0}
+
+abbrev pub IsItemFault : Held → Kept → SheetItem → FillFault → Type 0
+IsItemFault h k (item.Comment lines) e = IsMemory e
+IsItemFault h k (item.Step s) e = IsNextFault h k s e
+
+-- no fault of a formula
+abbrev pub IsValueFault : FillFault → Type 0
+IsValueFault (fault.TooLong name n) = ⊥
+IsValueFault fault.LongValue = Unit {0}
+IsValueFault fault.Memory = Unit {0}

@@ -6,12 +6,14 @@ ghost use Rattle.step_chain.specs.Ordered.{reordered};
 ghost use Rattle.step_chain.specs.Steps.{step_at};
 ghost use Rattle.step_chain.specs.Values.{accepted_at};
 ghost use Rattle.step_chain.specs.Answers.{OfAccepted, OfKept, constants_of, values_of};
-ghost use Rattle.step_filling.specs.Filled.{IsOwnRead, AreValuesRead, IsValueFault, IsOwnAccepted, IsOwnFault, formula_of};
+ghost use Rattle.written_model.specs.declared.report.ReportVerdict.TheVariants as report;
+ghost use Rattle.step_filling.specs.Kept.{draft_of};
+ghost use Rattle.step_filling.specs.Filled.{IsOwnRead, AreValuesRead, IsValueFault, IsUsedStep, IsOwnAccepted, IsOwnFault, formula_of};
 
 use crate::drafts::own_step;
 use crate::fault::FillFault;
 use crate::places::written_places;
-use mm_base::{List, Memory, Tree};
+use mm_base::{Label, List, Memory, Tree};
 use sheet_text::{Given, SheetStep};
 use std::alloc::Global;
 use step_chain::{Accepted, ChainTrees, TreeFault};
@@ -70,6 +72,41 @@ fn values(alloc: Global, trees: &ChainTrees<'_, '_>, i: u32) -> Result<List<Tree
     }
 }
 
+/// An accepted step of this formula and these values.
+fn draft_step(
+    alloc: Global,
+    step: &SheetStep,
+    label: Label,
+    places: List<Given>,
+    tree: Tree,
+    values: List<Tree>,
+) -> Result<DraftStep, Memory>
+    ensures { IfOk result (λ s. s ≡ draft_of step.now places tree report.Fits (Some (record { label = label; values = values }))) }
+{
+    let by = StepUse { label, values };
+    own_step(alloc, step, places, tree, ReportVerdict::Fits, Some(by))
+}
+
+/// An accepted step of this formula, with these places.
+fn used_step(
+    alloc: Global,
+    trees: &ChainTrees<'_, '_>,
+    i: u32,
+    step: &SheetStep,
+    label: Label,
+    places: List<Given>,
+    tree: Tree,
+) -> Result<DraftStep, FillFault>
+    requires { IsSome (accepted_at trees.now i) }
+    ensures ok { IfOk result (IsUsedStep trees.now i step.now label places tree) }
+    ensures fault { IfErr result (IsOwnFault trees.now i step.now.name) }
+{
+    match values(alloc, trees, i) {
+        Err(fault) => Err(fault),
+        Ok(values) => Ok(draft_step(alloc, step, label, places, tree, values)?),
+    }
+}
+
 /// An accepted step as it is written: with its places, its formula and its use.
 pub fn accepted_step(
     alloc: Global,
@@ -85,12 +122,9 @@ pub fn accepted_step(
     ensures ok { IfOk result (IsOwnAccepted trees.now i numbers.now step.now accepted.now more.now) }
     ensures fault { IfErr result (IsOwnFault trees.now i step.now.name) }
 {
-    let tree = formula(alloc, trees, i, step.name.as_slice())?;
-    let values = values(alloc, trees, i)?;
     let places = accepted_places(alloc, trees, i, numbers, accepted.order.as_slice(), more)?;
-    let by = StepUse {
-        label: accepted.label,
-        values,
-    };
-    Ok(own_step(alloc, step, places, tree, ReportVerdict::Fits, Some(by))?)
+    match formula(alloc, trees, i, step.name.as_slice()) {
+        Err(fault) => Err(fault),
+        Ok(tree) => used_step(alloc, trees, i, step, accepted.label, places, tree),
+    }
 }

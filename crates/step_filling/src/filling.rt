@@ -5,7 +5,7 @@ ghost use Rattle.step_chain.specs.declared.judged.Judged.TheVariants as judged;
 ghost use Rattle.step_chain.specs.Held.{judgements_of};
 ghost use Rattle.step_chain.specs.Levels.{IsUsed};
 ghost use Rattle.step_chain.specs.Values.{judged_at, accepted_at};
-ghost use Rattle.step_filling.specs.Filled.{IsPut, ArePut, IsNextFault, IsOwnFault, IsFaultAmong, IsLongNamed, IsFilledPut, IsWantedPut, IsStandingPut};
+ghost use Rattle.step_filling.specs.Filled.{IsPut, ArePut, IsNextFault, IsItemFault, step_count, IsOwnFault, IsFaultAmong, IsLongNamed, IsFilledPut, IsWantedPut, IsStandingPut};
 ghost use Rattle.step_filling.specs.Kept.{with_comment};
 ghost use Rattle.step_filling.specs.Answers.{AreFilled, IsFillFault};
 
@@ -62,16 +62,12 @@ fn put_wanted(
     ensures fault { IfErr result (IsOwnFault trees.now i step.now.name) }
 {
     let filled = fill_from(alloc, &filling.index, wanted)?;
-    let own = accepted_step(
-        alloc,
-        trees,
-        i,
-        filling.numbers.as_slice(),
-        step,
-        accepted,
-        filled.places.as_slice(),
-    )?;
-    Ok(put_filled(filling, filled.made, own)?)
+    let numbers = filling.numbers.as_slice();
+    let places = filled.places.as_slice();
+    match accepted_step(alloc, trees, i, numbers, step, accepted, places) {
+        Err(fault) => Err(fault),
+        Ok(own) => Ok(put_filled(filling, filled.made, own)?),
+    }
 }
 
 /// Fills an accepted step.
@@ -128,8 +124,10 @@ fn fill_standing(
     ensures put { OnOk result (IsPut trees.now filling.old filling.new (item.Step step.now)) }
     ensures fault { IfErr result (IsNextFault trees.now filling.old step.now) }
 {
-    let tree = formula(alloc, trees, i, step.name.as_slice())?;
-    Ok(put_standing(alloc, filling, step, tree, verdict)?)
+    match formula(alloc, trees, i, step.name.as_slice()) {
+        Err(fault) => Err(fault),
+        Ok(tree) => Ok(put_standing(alloc, filling, step, tree, verdict)?),
+    }
 }
 
 /// Writes a step of the worksheet, behind the new steps that it needs.
@@ -161,6 +159,24 @@ fn fill_comment(alloc: Global, filling: &mut Filling, lines: &[Bytes]) -> Result
     filling.put_comment(lines)
 }
 
+/// Writes an item.
+fn fill_item(
+    alloc: Global,
+    trees: &ChainTrees<'_, '_>,
+    filling: &mut Filling,
+    item: &SheetItem,
+) -> Result<(), FillFault>
+    requires pushed { length (judgements_of trees.now) ≡ length trees.now.bound.steps }
+    requires room { length filling.old.numbers + step_count item.now ≤ length trees.now.bound.steps }
+    ensures put { OnOk result (IsPut trees.now filling.old filling.new item.now) }
+    ensures fault { IfErr result (IsItemFault trees.now filling.old item.now) }
+{
+    match item {
+        SheetItem::Comment(lines) => Ok(fill_comment(alloc, filling, lines.as_slice())?),
+        SheetItem::Step(step) => fill_step(alloc, trees, filling, step),
+    }
+}
+
 /// Writes the items one after the other.
 fn fill_each(
     alloc: Global,
@@ -174,9 +190,9 @@ fn fill_each(
     ensures fault { IfErr result (IsFaultAmong trees.now filling.old items.now) }
 {
     for item in items {
-        match item {
-            SheetItem::Comment(lines) => fill_comment(alloc, filling, lines.as_slice())?,
-            SheetItem::Step(step) => fill_step(alloc, trees, filling, step)?,
+        match fill_item(alloc, trees, filling, item) {
+            Err(fault) => return Err(fault),
+            Ok(()) => {}
         }
     }
     Ok(())
@@ -202,6 +218,8 @@ pub fn fill_items(
 {
     let trees = chain.trees()?;
     let mut filling = Filling::new(alloc, sheet)?;
-    fill_each(alloc, &trees, &mut filling, sheet.items.as_slice())?;
-    Ok(List::from_vec(filling.into_items()))
+    match fill_each(alloc, &trees, &mut filling, sheet.items.as_slice()) {
+        Err(fault) => Err(fault),
+        Ok(()) => Ok(List::from_vec(filling.into_items())),
+    }
 }
