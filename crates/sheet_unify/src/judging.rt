@@ -28,5 +28,5 @@ pub fn filled_items(
     };
     let mut chain = Chain::new(alloc, db, kinds, bound)?;
     push_all(&mut chain, count)?;
-    fill_items(alloc, sheet, bound, &chain)
+    fill_items(alloc, sheet, &chain)
 }

@@ -207,9 +207,10 @@ module _ (h : Held) (db : Database) (level : IsLevel db h.book h.bound h.works h
   accepted_back x e =
       let told = is_kept_at h.steps i x e in
       let k = level.kept i told.pushed x told.at told.fits in
-      let number : 0 + i ≡ i = omega arith in
-      (asked_by h.bound i x k.assertion,
-      judgement_at h.book h.bound 0 h.steps i told.pushed told.at ∙ ap (λ (j : ℕ). Some (judgement_of h.book h.bound j told.pushed.judged)) number ∙ ap (λ (o : Judgement). Some o) (judgement_fits h.book h.bound i told.pushed.judged x k.assertion told.fits k.usable))
+      let number : 0 + i ≡ i = omega arith in (
+        asked_by h.bound i x k.assertion,
+        judgement_at h.book h.bound 0 h.steps i told.pushed told.at ∙ ap (λ (j : ℕ). Some (judgement_of h.book h.bound j told.pushed.judged)) number ∙ ap (λ (o : Judgement). Some o) (judgement_fits h.book h.bound i told.pushed.judged x k.assertion told.fits k.usable),
+      )
 
   works_free : AreWorkNodes h.nodes h.works
   works_free = subst (AreWorkNodes h.nodes) level.works_are (chained_works db h.bound (accepted_in (judgements_of h)) (accepted_in (judgements_of h)) h.nodes h.links level.layout level.chained)

@@ -107,12 +107,13 @@ order_is n s a placed j gs e =
 
 apart_from : (vars : List TypedVariable) → VariablesDiffer vars → AreApart vars
 apart_from [] h = tt
-apart_from (v ∷ vs) h =
-    (λ c. let place = c.0 in
-    let at : slice_get (v ∷ vs) (suc c.0) ≡ Some v = slice_get-get_or vs c.0 v c.1 ∙ ap (λ (w : TypedVariable). Some w) c.2 in
-    let same : 0 ≡ suc c.0 = h 0 (suc c.0) v v refl at refl in
-    absurd (omega (arith, same)),
-    apart_from vs (λ j k v w a b e. let same = h (suc j) (suc k) v w a b e in omega (arith, same)))
+apart_from (v ∷ vs) h = (
+  λ c. let place = c.0 in
+      let at : slice_get (v ∷ vs) (suc c.0) ≡ Some v = slice_get-get_or vs c.0 v c.1 ∙ ap (λ (w : TypedVariable). Some w) c.2 in
+      let same : 0 ≡ suc c.0 = h 0 (suc c.0) v v refl at refl in
+      absurd (omega (arith, same)),
+  apart_from vs (λ j k v w a b e. let same = h (suc j) (suc k) v w a b e in omega (arith, same)),
+)
 
 variables_of : (n : ℕ) (vs : List TypedVariable) → map (λ (w : VariableNode). record { sym = w.sym; code = w.code }) (numbered n vs) ≡ vs
 variables_of n [] = refl

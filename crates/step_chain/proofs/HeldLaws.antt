@@ -256,7 +256,7 @@ module _ (d : Opened) (logic : Typecode) (bound : Bound) (works : List WorkNode)
           let e = links_end in
           let one = rise_front (λ (p : Pushed). p.mark.trail) steps (length links) k h.links_rise i j below in
           subst (λ (n : ℕ). option_map_or (λ (p : Pushed). p.mark.trail) (slice_get (take k steps) i) n ≤ option_map_or (λ (p : Pushed). p.mark.trail) (slice_get (take k steps) j) n) (sym e) one;
-      fronts = λ j. elim (cases_lt k j) [ | inl past ↦ front_past j past | inr first ↦ front_first j first ];
+      fronts = λ j. elim (cases_lt k j) [ inl past ↦ front_past j past | inr first ↦ front_first j first ];
     }
 
   -- a step more
@@ -320,7 +320,7 @@ module _ (d : Opened) (logic : Typecode) (bound : Bound) (works : List WorkNode)
       used = all_join (λ (q : Pushed). IsUsedIf d q.judged) steps (p ∷ []) h.used (next.used, tt);
       nodes_rise = rise_pushed (λ (q : Pushed). q.mark.nodes) steps p (length old.nodes) (length new.nodes) nodes_mark more_nodes h.nodes_rise;
       links_rise = rise_pushed (λ (q : Pushed). q.mark.trail) steps p (length old.links) (length new.links) links_mark more_links h.links_rise;
-      fronts = λ j. elim (cases_lt (length steps) j) [ | inl past ↦ front_new j past | inr first ↦ front_old j first ];
+      fronts = λ j. elim (cases_lt (length steps) j) [ inl past ↦ front_new j past | inr first ↦ front_old j first ];
     }
 
   -- nothing is pushed

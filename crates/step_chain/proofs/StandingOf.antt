@@ -46,9 +46,14 @@ module _ (db : Database) (d : Opened) (place : ℕ) (s : BoundStep) (book : IsBo
           let few : nat_le (length s.places) (length p.hyps) ≡ false = grind (arith, nat_tests, e) in
           ap (λ (b : Bool). cond b (candidate (assertion_of l f p)) (settled verdict.TooManyHyps)) few
       by_room p kept false e =
-          let room : nat_le (length s.places) (length p.hyps) ≡ true = grind (arith, nat_tests, e) in
-          (assertion_of l f p, ap (usable_with d.parsed l) frame ∙ ap (option_map (assertion_of l f)) kept, refl,
-          ap (λ (b : Bool). cond b (candidate (assertion_of l f p)) (settled verdict.TooManyHyps)) room, before, grind (arith, nat_tests, e))
+          let room : nat_le (length s.places) (length p.hyps) ≡ true = grind (arith, nat_tests, e) in (
+            assertion_of l f p,
+            ap (usable_with d.parsed l) frame ∙ ap (option_map (assertion_of l f)) kept,
+            refl,
+            ap (λ (b : Bool). cond b (candidate (assertion_of l f p)) (settled verdict.TooManyHyps)) room,
+            before,
+            grind (arith, nat_tests, e),
+          )
 
       by_parsed : (o : Option Parsed) → parsed_at d.parsed l ≡ o → IsSame (standing_usable s (option_map (assertion_of l f) o)) (standing_at_usable s l o)
       by_parsed None e = refl

@@ -41,11 +41,27 @@ impl<'a> Model for Chain<'a> {
 
     ghost coded = { Prim.hlevel (codes, tree.the_row.coded) };
 
-    ghost view = { λ c. record { book = c.db.now; logic = c.logic; bound = c.bound.now; nodes = c.arena.nodes; links = c.arena.links;
-        works = c.works; formulas = c.formulas; steps = c.steps.items } };
+    ghost view = { λ c. record {
+      book = c.db.now;
+      logic = c.logic;
+      bound = c.bound.now;
+      nodes = c.arena.nodes;
+      links = c.arena.links;
+      works = c.works;
+      formulas = c.formulas;
+      steps = c.steps.items;
+    } };
 
-    ghost invariant = { λ c. IsHeld (record { book = c.db.now; logic = c.logic; bound = c.bound.now; nodes = c.arena.nodes; links = c.arena.links;
-        works = c.works; formulas = c.formulas; steps = c.steps.items }) };
+    ghost invariant = { λ c. IsHeld (record {
+      book = c.db.now;
+      logic = c.logic;
+      bound = c.bound.now;
+      nodes = c.arena.nodes;
+      links = c.arena.links;
+      works = c.works;
+      formulas = c.formulas;
+      steps = c.steps.items;
+    }) };
 }
 
 fn count(steps: &[Pushed]) -> usize
@@ -218,7 +234,12 @@ impl<'a> Chain<'a> {
         ensures { accepted_at self.now i ≡ Some result.now }
     {
         match self.steps.as_slice().get(i as usize) {
-            Some(Pushed { judged: Judged::Fits(accepted), .. }) => accepted,
+            Some(
+                Pushed {
+                    judged: Judged::Fits(accepted),
+                    ..
+                },
+            ) => accepted,
             _ => unreachable!(),
         }
     }
@@ -335,6 +356,10 @@ impl<'c, 'a> ChainTrees<'c, 'a> {
         ensures read { OfAccepted self.now i (λ y. AreRead (constants_of self.now) (values_of self.now i y) result) }
         ensures count { OfKept self.now i (λ x. IfOk result (λ ts. length ts ≡ length x.variables)) }
     {
-        values(alloc, &self.trees, self.chain.accepted(i).variables.as_slice())
+        values(
+            alloc,
+            &self.trees,
+            self.chain.accepted(i).variables.as_slice(),
+        )
     }
 }

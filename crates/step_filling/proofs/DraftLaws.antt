@@ -89,7 +89,7 @@ module _ (d : Opened) where
             ∙ sym (trees-more old.items more) ∙ ap (λ (is : List DraftItem). trees (steps_in (items_in d is))) (sym made_items);
         names =
             let all : names_in d new ≡ names_in d old ++ given = ap (λ (is : List DraftItem). map (λ (e : WrittenStep). e.name) (steps_in (items_in d is))) made_items ∙ names-more old.items more
-                ∙ ap (λ (ns : List Name). names_in d old ++ ns) (ap (map (λ (e : WrittenStep). e.name)) steps_are ∙ names-made given made given_count) in
+            ∙ ap (λ (ns : List Name). names_in d old ++ ns) (ap (map (λ (e : WrittenStep). e.name)) steps_are ∙ names-made given made given_count) in
             subst (HaveSameNames new.names) (append_assoc used (names_in d old) given ∙ ap (λ (ns : List Name). used ++ ns) (sym all)) (are.put.names_are (used ++ names_in d old) in_step.names);
         sound = subst (AreSound d) (sym made_items) (sound_join old.items more in_step.sound (sound-made (zip given made)));
       }

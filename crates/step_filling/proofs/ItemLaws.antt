@@ -108,9 +108,10 @@ module _ (h : Held) where
     items_are = split;
     long = λ used in_step kinds text sheet opened binds code short.
         let with_names = are.with_names used in_step in
-        let same = with_names.filled kinds text sheet opened binds code in
-        (subst (λ (g : Filling). AreShort (constants_of h) (trees (steps_in g.items))) same (subst (AreShort (constants_of h)) with_names.in_step.trees (are.short kinds text sheet opened binds code short)),
-        subst (λ (g : Filling). IsLongNext h g used s name n) same (f used with_names.in_step kinds text sheet opened binds code));
+        let same = with_names.filled kinds text sheet opened binds code in (
+          subst (λ (g : Filling). AreShort (constants_of h) (trees (steps_in g.items))) same (subst (AreShort (constants_of h)) with_names.in_step.trees (are.short kinds text sheet opened binds code short)),
+          subst (λ (g : Filling). IsLongNext h g used s name n) same (f used with_names.in_step kinds text sheet opened binds code),
+        );
   }
   fault_item k mid front rest items (item.Step s) are split fault.LongValue f = (length mid.numbers, f)
   fault_item k mid front rest items (item.Step s) are split fault.Memory f = tt

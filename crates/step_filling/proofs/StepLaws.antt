@@ -281,9 +281,9 @@ module _ (h : Held) (i : ℕ) (s : SheetStep) (x : Accepted) (old : Kept) (next 
             let values = acc.values_are kinds text sheet opened binds code y as_asked in
             let t : acc.tree ≡ formula h.bound g (length old.numbers) = told.0 ∙ ap (formula_of h) next in
             let by : use_in h.book way ≡ Some (use_of g y) =
-                ap (option_map (λ (b : Assertion). record { assertion = b; values = acc.values })) is_used.usable ∙ ap (λ (us : List Tree). used_with a us) values in
+            ap (option_map (λ (b : Assertion). record { assertion = b; values = acc.values })) is_used.usable ∙ ap (λ (us : List Tree). used_with a us) values in
             let f : fill old.trees found ≡ fill (trees (steps_in (items_in h.book old.items))) (wanted_by g (slice_index_or (judgements_of h) (length old.numbers) (stands verdict.NoRef))) =
-                ap (λ (ts : List Tree). fill ts found) in_step.trees ∙ ap (fill (trees (steps_in (items_in h.book old.items)))) (want.0 ∙ sym wanted_next) in
+            ap (λ (ts : List Tree). fill ts found) in_step.trees ∙ ap (fill (trees (steps_in (items_in h.book old.items)))) (want.0 ∙ sym wanted_next) in
             filled_is h.book used old put.put.mid new (fill old.trees found).made (fill old.trees found).places put.own in_step put.put.are_made put.put.own_put heard s (formula h.bound g (length old.numbers)) g (accepted y)
             (ap (step_in h.book) acc.is ∙ ap (λ (u : Tree). accepted_with (accepted_places h i old.numbers x.order (fill old.trees found).places) s u (use_in h.book way)) t
             ∙ ap (λ (o : Option Use). accepted_with (accepted_places h i old.numbers x.order (fill old.trees found).places) s (formula h.bound g (length old.numbers)) o) by)

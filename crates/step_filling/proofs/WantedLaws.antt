@@ -53,12 +53,13 @@ module _ (h : Held) (i first : ℕ) where
           let one = to.each kinds text sheet opened binds code y a in
           let long = count kinds text sheet opened binds code y a in
           let here = at_hyp hyps k (omega (arith, below, long)) in
-          let told = read kinds text sheet opened binds code y a here.tree here.at in
-          (one.0 ∙ ap (λ (ts : List Tree). found ++ map (instance (value_of h) i) ts) here.behind
-          ∙ ap (λ (t : Tree). found ++ t ∷ wanted_from (value_of h) i (k + 1) hyps) (sym told.0)
-          ∙ sym (append_assoc found (u ∷ []) (wanted_from (value_of h) i (k + 1) hyps))
-          ∙ ap (λ (ts : List Tree). ts ++ wanted_from (value_of h) i (k + 1) hyps) (sym is),
-          subst (AreShort (constants_of h)) (sym is) (short_join (constants_of h) found (u ∷ []) one.1 (subst (IsShort (constants_of h)) (sym told.0) told.1, tt)));
+          let told = read kinds text sheet opened binds code y a here.tree here.at in (
+            one.0 ∙ ap (λ (ts : List Tree). found ++ map (instance (value_of h) i) ts) here.behind
+                ∙ ap (λ (t : Tree). found ++ t ∷ wanted_from (value_of h) i (k + 1) hyps) (sym told.0)
+                ∙ sym (append_assoc found (u ∷ []) (wanted_from (value_of h) i (k + 1) hyps))
+                ∙ ap (λ (ts : List Tree). ts ++ wanted_from (value_of h) i (k + 1) hyps) (sym is),
+            subst (AreShort (constants_of h)) (sym is) (short_join (constants_of h) found (u ∷ []) one.1 (subst (IsShort (constants_of h)) (sym told.0) told.1, tt)),
+          );
     }
 
     pub read_long : k < n → (t : ℕ) → OfAccepted h i (λ y. (e : Tree) → slice_get y.assertion.hyps k ≡ Some e → IsRead (constants_of h) (instance (value_of h) i e) (Err (TooLong t)))

@@ -104,7 +104,12 @@ fn put_standing(
 ) -> Result<(), Memory>
     ensures { OnOk result (IsStandingPut step.now tree verdict filling.old filling.new) }
 {
-    let places = written_places(alloc, filling.numbers.as_slice(), step.places.as_slice(), &[])?;
+    let places = written_places(
+        alloc,
+        filling.numbers.as_slice(),
+        step.places.as_slice(),
+        &[],
+    )?;
     let own = own_step(alloc, step, places, tree, reported(verdict), None)?;
     filling.put_own(own)
 }

@@ -93,7 +93,13 @@ impl Filling {
     pub fn make(&mut self, made: List<Tree>) -> Result<(), Memory>
         ensures { OnOk result (AreMade self.old self.new made) }
     {
-        put_derived(self.alloc, &mut self.items, &mut self.index, &mut self.names, made)
+        put_derived(
+            self.alloc,
+            &mut self.items,
+            &mut self.index,
+            &mut self.names,
+            made,
+        )
     }
 
     /// The name that a new step would have behind so many new steps; from now on all their names are used.

@@ -19,11 +19,7 @@ fn written_place(numbers: &[u32], place: Given) -> Given
     }
 }
 
-fn put_places(
-    written: &mut Vec<Given>,
-    numbers: &[u32],
-    places: &[Given],
-) -> Result<(), Memory>
+fn put_places(written: &mut Vec<Given>, numbers: &[u32], places: &[Given]) -> Result<(), Memory>
     ensures { OnOk result (written.new.items ≡ written.old.items ++ map (place_among numbers.now) places.now) }
 {
     for place in places {

@@ -22,6 +22,7 @@ returns-in-Some-clause-taken c =
 
 pub returns-in-Some-clause-kept_in : goal.returns-in-Some-clause-kept_in
 returns-in-Some-clause-kept_in c =
-    let n = length c.take.new.arena.nodes in
-    (subst (AreIdsIn n) (sym (ap (λ (x : Accepted). x.hyps) c.kept_of.ensures)) c.in_ok-nodes.ensures.hyps_in,
-    subst (AreVariablesIn n) (sym (ap (λ (x : Accepted). x.variables) c.kept_of.ensures)) c.in_ok-nodes.ensures.variables_in)
+    let n = length c.take.new.arena.nodes in (
+      subst (AreIdsIn n) (sym (ap (λ (x : Accepted). x.hyps) c.kept_of.ensures)) c.in_ok-nodes.ensures.hyps_in,
+      subst (AreVariablesIn n) (sym (ap (λ (x : Accepted). x.variables) c.kept_of.ensures)) c.in_ok-nodes.ensures.variables_in,
+    )
