@@ -3,3 +3,4 @@ pub mod NameLaws
 pub mod DraftLaws
 pub mod StepLaws
 pub mod ItemLaws
+pub mod CountLaws

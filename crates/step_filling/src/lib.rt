@@ -8,8 +8,10 @@ mod drafts;
 mod fault;
 mod filling;
 mod kept;
+mod laws;
 mod places;
 mod wanted;
 
 pub use fault::FillFault;
 pub use filling::fill_items;
+pub use laws::long_is_first;
