@@ -58,7 +58,7 @@ impl From<FillFault> for UnifyFault {
     fn from(fault: FillFault) -> UnifyFault {
         match fault {
             FillFault::TooLong(name, tokens) => UnifyFault::FormulaTooLong(name, tokens),
-            FillFault::Memory => UnifyFault::Memory,
+            FillFault::LongValue | FillFault::Memory => UnifyFault::Memory,
         }
     }
 }

@@ -1,5 +1,5 @@
 -- What is answered of the steps of a chain.
-use Rattle.std.specs.Prelude.{◌≡◌, ℕ, ◌<◌, ◌+◌, List, [], ◌∷◌, length, map, slice_get, unwrap_or, is_some, option_map, option_and_then, Bool, true, false, IsTrue, Contains, Option, Some, None, Result, refl}
+use Rattle.std.specs.Prelude.{◌≡◌, ℕ, ◌<◌, ◌≤◌, ◌+◌, ◌⊎◌, List, [], ◌∷◌, length, map, slice_get, slice_index_or, unwrap_or, is_some, option_map, option_and_then, Bool, true, false, IsTrue, Contains, Option, Some, None, Result, Ok, Err, refl}
 use Rattle.std.specs.List.{AllByRecursion, AllZip}
 use Rattle.std.specs.Option.{option_map_or}
 use Rattle.std.proofs.Common.{zero, suc, get_or, sym, ap, subst, ◌∙◌, arith}
@@ -34,15 +34,15 @@ use Rattle.step_chain.specs.Standings.{usable_in}
 use Rattle.step_chain.specs.Ordered.{formula_at, reordered}
 use Rattle.step_chain.specs.Steps.{step_at, asked_by, accepted_by, judgement_of, judgements_from}
 use Rattle.step_chain.specs.Grown.{AreIdsIn, AreVariablesIn}
-use Rattle.step_chain.specs.Levels.{IsLevel, IsKeptIn}
+use Rattle.step_chain.specs.Levels.{IsLevel, IsKeptIn, IsUsedIf}
 use Rattle.step_chain.specs.Readings.{Readable, IsRead, IsReadOff}
 use Rattle.step_chain.specs.Held.{Held, judgements_of, OfEachBook, IsHeld}
 use Rattle.step_chain.specs.Values as values
-use Rattle.step_chain.specs.Values.{accepted_at, kept_at, value_of}
+use Rattle.step_chain.specs.Values.{accepted_at, kept_at, judged_in, value_of}
 use Rattle.step_chain.specs.Answers.{IsAcceptedAs, OfAccepted, OfKept, IsOfChain, AreRead, values_at, values_of, constants_of}
 use Rattle.step_chain.proofs.Lists.{all_has, all_at}
 use Rattle.step_chain.proofs.LevelLaws.{judgement_at, judgement_fits, among}
-use Rattle.step_chain.proofs.ChainLaws.{sound_of}
+use Rattle.step_chain.proofs.ChainLaws.{sound_of, count_of}
 use Rattle.step_chain.proofs.ValueLaws.{store_value, value_same, formula_is}
 
 -- ---- the step of an accepted judgement
@@ -250,6 +250,16 @@ module _ (h now : Held) (e : h ≡ now) (inv : IsHeld h) where
       let level = (sound_of h inv).level kinds text sheet opened binds code in
       let some = some_of (accepted_at h i) (subst IsTrue is t) in
       accepted_back h (database_of kinds text h.book.rows h.book.parsed) level i some.0 some.1)
+
+  pub judged_below : (n : ℕ) (i : ℕ) → n ≡ length h.steps → i < length (judgements_of now) → i < n
+  judged_below n i is below = let count = ap (λ (x : Held). length (judgements_of x)) e in let own = count_of h in omega (arith, is, below, count, own)
+
+  pub judged_used : (i : ℕ) (j : Judged) → judged_in h.steps i ≡ Some j → IsUsedIf now.book j
+  judged_used i j is = subst (λ (n : Held). IsUsedIf n.book j) e (by (slice_get h.steps i) refl is)
+    where
+      by : (o : Option Pushed) → slice_get h.steps i ≡ o → option_map (λ (p : Pushed). p.judged) o ≡ Some j → IsUsedIf h.book j
+      by None at k = let impossible : ◌≡◌ {A = Option Judged} None (Some j) = k in absurd (cc)
+      by (Some p) at k = let same : p.judged ≡ j = cc in subst (IsUsedIf h.book) same (all_at (λ (q : Pushed). IsUsedIf h.book q.judged) h.steps i p inv.used at)
 
 module _ (h : Held) (inv : IsHeld h) (i : ℕ) (x : Accepted) (at : accepted_at h i ≡ Some x) where
   pub order_told : (order : List ℕ) → order ≡ x.order → OfAccepted h i (λ y. y.places ≡ reordered (step_at h.bound i).places order)

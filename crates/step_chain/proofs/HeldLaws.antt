@@ -17,11 +17,11 @@ use Rattle.step_chain.specs.declared.judged.Judged.{Judged}
 use Rattle.step_chain.specs.declared.judged.Judged.TheVariants.{Stands, Fits}
 use Rattle.step_chain.specs.declared.judged.Pushed.{Pushed}
 use Rattle.step_chain.specs.Steps.{ArePlaced}
-use Rattle.step_chain.specs.Levels.{IsKeptIn, IsFront}
+use Rattle.step_chain.specs.Levels.{ForEachBook, IsLevel, IsKeptIn, IsUsedIf, IsFront}
 use Rattle.step_chain.specs.Accepted.{IsNext}
 use Rattle.step_chain.specs.Held.{Held, nodes_before, links_before, front_of, IsHeld}
 use Rattle.step_chain.proofs.AddingLaws.{works_in_more, ids_in_more, variables_in_more}
-use Rattle.step_chain.proofs.Lists.{get_front, get_seam, all_join, all_weaker}
+use Rattle.step_chain.proofs.Lists.{get_front, get_seam, get_past, all_take, all_join, all_weaker}
 
 -- ---- lists
 
@@ -242,6 +242,7 @@ module _ (d : Opened) (logic : Typecode) (bound : Bound) (works : List WorkNode)
       placed = h.placed;
       few = h.few;
       count = h.count;
+      used = all_take (λ (q : Pushed). IsUsedIf d q.judged) k steps h.used;
       pushed = let one = h.pushed in let two = length-take k steps in shorter (length (take k steps)) (length steps) (length bound.steps) (take_short steps k) one;
       nodes_rise = λ i j below.
           let e = nodes_end in
@@ -312,6 +313,7 @@ module _ (d : Opened) (logic : Typecode) (bound : Bound) (works : List WorkNode)
       few = h.few;
       count = h.count;
       pushed = let long = length_push steps p in omega (arith, long, room);
+      used = all_join (λ (q : Pushed). IsUsedIf d q.judged) steps (p ∷ []) h.used (next.used, tt);
       nodes_rise = rise_pushed (λ (q : Pushed). q.mark.nodes) steps p (length old.nodes) (length new.nodes) nodes_mark more_nodes h.nodes_rise;
       links_rise = rise_pushed (λ (q : Pushed). q.mark.trail) steps p (length old.links) (length new.links) links_mark more_links h.links_rise;
       fronts = λ j. elim (cases_lt (length steps) j) [ inl past ↦ front_new j past | inr first ↦ front_old j first ];
@@ -324,6 +326,7 @@ module _ (d : Opened) (logic : Typecode) (bound : Bound) (works : List WorkNode)
     few = few;
     count = count;
     pushed = omega arith;
+    used = tt;
     nodes_rise = λ j k h. omega arith;
     links_rise = λ j k h. omega arith;
     fronts = λ k. front_same [] (take k []) nodes (take (length nodes) nodes) [] (take 0 []) (sym (take_past [] k (omega arith))) (sym (take-length nodes)) refl front;

@@ -1,3 +1,4 @@
+pub mod UsedLaws
 pub mod AddingLaws
 pub mod JoinLaws
 pub mod OrderLaws

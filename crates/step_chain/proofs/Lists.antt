@@ -27,6 +27,11 @@ module _ {X : Type 0} where
   all_join P [] ys h g = g
   all_join P (x ∷ xs) ys h g = (h.0, all_join P xs ys h.1 g)
 
+  pub all_take : (P : X → Type 0) (k : ℕ) (xs : List X) → AllByRecursion P xs → AllByRecursion P (take k xs)
+  all_take P zero xs h = tt
+  all_take P (suc k) [] h = tt
+  all_take P (suc k) (x ∷ xs) h = (h.0, all_take P k xs h.1)
+
   pub all_weaker : (P Q : X → Type 0) → ((x : X) → P x → Q x) → (xs : List X) → AllByRecursion P xs → AllByRecursion Q xs
   all_weaker P Q f [] h = tt
   all_weaker P Q f (x ∷ xs) h = (f x h.0, all_weaker P Q f xs h.1)

@@ -1,6 +1,6 @@
 -- The next step, judged.
-use Rattle.std.specs.Prelude.{◌≡◌, ℕ, ◌<◌, List, [], ◌∷◌, ◌++◌, length, take, slice_get, Option, Some, None}
-use Rattle.std.proofs.Common.{sym, ap, subst, ◌∙◌}
+use Rattle.std.specs.Prelude.{◌≡◌, ℕ, ◌<◌, ◌≤◌, List, [], ◌∷◌, ◌++◌, length, take, slice_get, Option, Some, None, IsSome, refl}
+use Rattle.std.proofs.Common.{sym, ap, subst, ◌∙◌, arith}
 use Rattle.std.proofs.lemmas.List.{append-nil}
 use Rattle.std.proofs.lemmas.Option.{slice_get-get_or}
 use Rattle.std.proofs.Math.Seq.{take-append_seam}
@@ -39,6 +39,7 @@ use Rattle.step_chain.specs.Ordered.{formula_at}
 use Rattle.step_chain.specs.Tried.{IsExtended}
 use Rattle.step_chain.specs.Steps.{ArePlaced, step_at, judgements_from}
 use Rattle.step_chain.specs.Levels.{ForEachBook, IsLevel, IsKeptIn}
+use Rattle.step_chain.proofs.UsedLaws.{used_here}
 use Rattle.step_chain.specs.Accepted.{IsKeptInIf, IsTakenAs, IsNext, IsSameStore}
 use Rattle.step_chain.proofs.StandingOf.{book_of, standing_same}
 use Rattle.step_chain.proofs.LevelLaws.{level_stands}
@@ -73,6 +74,7 @@ module _ (d : Opened) (bound : Bound) (formulas : List Id) (i : ℕ) (old after 
     store = subst (λ (ls : List Link). IsStore after.nodes ls) (sym same.links) (subst (λ (ns : List Term). IsStore ns old.links) (sym same.nodes) store);
     solved = subst (λ (ls : List Link). IsSolved after.nodes ls) (sym same.links) (subst (λ (ns : List Term). IsSolved ns old.links) (sym same.nodes) solved);
     kept_in = tt;
+    used = tt;
     level = λ kinds text sheet opened binds works steps p e count level. level_after (database_of kinds text d.rows d.parsed) works (steps ++ p ∷ []) (more kinds text sheet opened binds works steps p e count level);
   }
 
@@ -136,12 +138,13 @@ module _ (ready : CandidatesAreReady) (facts : HasDatabaseFacts) (whole : Assert
       next_stands d bound formulas i old after store solved same verdict.NoFit (λ kinds text sheet opened binds works steps p e count level.
       none_here kinds text opened works steps p count level e (h (candidate kinds text opened).assertion (candidate kinds text opened).usable))
 
-  pub next_some : (x : Accepted) → IsExtended old new → IsStore new.nodes new.links → IsSolved new.nodes new.links → IsKeptIn (length new.nodes) (Fits x) → ((a : Assertion) → usable_in d l ≡ Some a → IsTakenAs d formulas (formula_at formulas i) s.places l a old new (Some x))
+  pub next_some : (x : Accepted) → IsSome (usable_in d l) → IsExtended old new → IsStore new.nodes new.links → IsSolved new.nodes new.links → IsKeptIn (length new.nodes) (Fits x) → ((a : Assertion) → usable_in d l ≡ Some a → IsTakenAs d formulas (formula_at formulas i) s.places l a old new (Some x))
       → IsNext d bound formulas i old new (Fits x)
-  next_some x longer store solved kept h = record {
+  next_some x some longer store solved kept h = record {
     extended = longer;
     store = store;
     solved = solved;
     kept_in = kept;
+    used = used_here d formulas (formula_at formulas i) s.places l old new x some h;
     level = λ kinds text sheet opened binds works steps p e count level. some_here kinds text opened works steps p count level x e (h (candidate kinds text opened).assertion (candidate kinds text opened).usable) longer;
   }

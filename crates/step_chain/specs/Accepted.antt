@@ -16,7 +16,7 @@ use Rattle.step_chain.specs.declared.judged.Judged.TheVariants.{Fits}
 use Rattle.step_chain.specs.declared.judged.Pushed.{Pushed}
 use Rattle.step_chain.specs.Candidate.{table_of, roots_of}
 use Rattle.step_chain.specs.Tried.{IsTaken, IsExtended}
-use Rattle.step_chain.specs.Levels.{ForEachBook, IsLevel, IsKeptIn}
+use Rattle.step_chain.specs.Levels.{ForEachBook, IsLevel, IsKeptIn, IsUsedIf}
 
 -- what is kept is of the candidate's nodes
 pub record IsKeptOf (rows : List Production) (a : Assertion) (l : Label) (old : List Term) (x : Accepted) : Type 0 where
@@ -46,6 +46,7 @@ pub record IsNext (d : Opened) (bound : Bound) (formulas : List Id) (i : ℕ) (o
   pub store : IsStore new.nodes new.links
   pub solved : IsSolved new.nodes new.links
   pub kept_in : IsKeptIn (length new.nodes) j
+  pub used : IsUsedIf d j
   pub level : ForEachBook d bound (λ db. (works : List WorkNode) (steps : List Pushed) (p : Pushed) → p.judged ≡ j → length steps ≡ i → IsLevel db d bound works formulas steps old.nodes old.links
       → IsLevel db d bound works formulas (steps ++ p ∷ []) new.nodes new.links)
 

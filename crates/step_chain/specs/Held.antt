@@ -1,6 +1,7 @@
 -- What a chain of steps holds.
 use Rattle.std.specs.Prelude.{◌≡◌, ℕ, ◌<◌, ◌≤◌, ◌^◌, List, [], ◌∷◌, ◌++◌, length, take, slice_get, Some}
 use Rattle.std.specs.Option.{option_map_or}
+use Rattle.std.specs.List.{AllByRecursion}
 use Rattle.mm_base.specs.declared.kinds.Kinds.{Kinds}
 use Rattle.mm_base.specs.declared.symbols.Typecode.{Typecode}
 use Rattle.mm_model.specs.Names.{typecode}
@@ -18,7 +19,7 @@ use Rattle.term_model.specs.Links.{Link}
 use Rattle.chain_laws.specs.declared.leaves.WorkNode.{WorkNode}
 use Rattle.step_chain.specs.declared.judged.Pushed.{Pushed}
 use Rattle.step_chain.specs.Steps.{judgements_from, ArePlaced}
-use Rattle.step_chain.specs.Levels.{ForEachBook, IsFront}
+use Rattle.step_chain.specs.Levels.{ForEachBook, IsFront, IsUsedIf}
 
 -- the opened database, the logic typecode, the worksheet, the store, its work variables, the nodes of the formulas by step, and the steps that were pushed
 pub record Held : Type 0 where
@@ -59,6 +60,7 @@ pub record IsHeld (h : Held) : Type 0 where
   pub few : length h.bound.steps < 2 ^ 32
   pub count : length h.formulas ≡ length h.bound.steps
   pub pushed : length h.steps ≤ length h.bound.steps
+  pub used : AllByRecursion (λ (p : Pushed). IsUsedIf h.book p.judged) h.steps
   pub nodes_rise : (j k : ℕ) → j ≤ k → nodes_before h.steps h.nodes j ≤ nodes_before h.steps h.nodes k
   pub links_rise : (j k : ℕ) → j ≤ k → links_before h.steps h.links j ≤ links_before h.steps h.links k
   pub fronts : (k : ℕ) → IsSound (front_of h k)

@@ -71,6 +71,16 @@ abbrev pub IsKeptIn : ℕ → Judged → Type 0
 IsKeptIn n (Stands v) = Unit {0}
 IsKeptIn n (Fits x) = AreIdsIn n x.hyps × AreVariablesIn n x.variables
 
+-- what is kept of an accepted step is of a usable assertion, with a node for each of its variables
+pub record IsUsed (d : Opened) (x : Accepted) : Type 0 where
+  pub assertion : Assertion
+  pub usable : usable_in d x.label ≡ Some assertion
+  pub count : length x.variables ≡ length assertion.vars
+
+abbrev pub IsUsedIf : Opened → Judged → Type 0
+IsUsedIf d (Stands v) = Unit {0}
+IsUsedIf d (Fits x) = IsUsed d x
+
 -- a fact of the database and the worksheet, whatever text and sheet they are of
 abbrev pub ForEachBook : Opened → Bound → (Database → Type 0) → Type 0
 ForEachBook d bound P = (kinds : Kinds) (text : List ℕ) (sheet : Sheet) → IsOpened kinds text d → Binds (database_of kinds text d.rows d.parsed) sheet bound → P (database_of kinds text d.rows d.parsed)

@@ -1,5 +1,5 @@
 -- The valuation that a chain stands for.
-use Rattle.std.specs.Prelude.{ℕ, List, slice_get, unwrap_or, option_and_then, Option, Some, None}
+use Rattle.std.specs.Prelude.{◌≡◌, ℕ, List, length, map, slice_get, unwrap_or, option_map, option_and_then, Option, Some, None}
 use Rattle.std.specs.Option.{option_map_or}
 use Rattle.solve_model.specs.Solutions.{Unknown, named, blank, copy, Valuation}
 use Rattle.chain_laws.specs.Adding.{work_at, variable_at}
@@ -17,6 +17,13 @@ accepted_in (Fits x) = Some x
 
 abbrev pub kept_at : List Pushed → ℕ → Option Accepted
 kept_at steps i = option_and_then (λ (p : Pushed). accepted_in p.judged) (slice_get steps i)
+
+-- what is judged of a step that was pushed; none where it was not
+abbrev pub judged_in : List Pushed → ℕ → Option Judged
+judged_in steps i = option_map (λ (p : Pushed). p.judged) (slice_get steps i)
+
+abbrev pub judged_at : Held → ℕ → Option Judged
+judged_at h i = judged_in h.steps i
 
 -- what is kept of a step that was accepted; none where it was not pushed or was not accepted
 abbrev pub accepted_at : Held → ℕ → Option Accepted

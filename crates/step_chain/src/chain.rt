@@ -1,7 +1,7 @@
-ghost use Rattle.std.specs.Prelude.{◌≡◌, ◌<◌, ◌∷◌, ◌++◌, [], length, vec_len, is_some};
+ghost use Rattle.std.specs.Prelude.{◌≡◌, ◌<◌, ◌∷◌, ◌++◌, [], length, vec_len, is_some, Some};
 ghost use Rattle.std.specs.Vec.{vec_capacity};
 ghost use Rattle.step_chain.specs.Steps.{verdict_in};
-ghost use Rattle.step_chain.specs.Values.{accepted_in, kept_at};
+ghost use Rattle.step_chain.specs.Values.{accepted_in, kept_at, judged_in};
 
 use crate::begun::{begin, logic_code};
 use crate::judged::{Accepted, Judged, Pushed};
@@ -96,6 +96,14 @@ fn fits_at(steps: &[Pushed], i: u32) -> bool
     }
 }
 
+/// What is judged of the step of a number.
+fn judged_of(steps: &[Pushed], i: u32) -> &Judged
+    requires { i < length steps.now }
+    ensures { judged_in steps.now i ≡ Some result.now }
+{
+    &steps[i as usize].judged
+}
+
 fn verdict_of(judged: &Judged) -> Verdict
     ensures { result ≡ verdict_in judged.now }
 {
@@ -114,7 +122,8 @@ impl<'a> Chain<'a> {
     ghost use Rattle.step_chain.specs.Steps.{ArePlaced, step_at};
     ghost use Rattle.solve_model.specs.Solutions.{Asked};
     ghost use Rattle.step_chain.specs.Ordered.{formula_at, reordered};
-    ghost use Rattle.step_chain.specs.Values.{value_of, accepted_at};
+    ghost use Rattle.step_chain.specs.Values.{value_of, accepted_at, judged_at};
+    ghost use Rattle.step_chain.specs.Levels.{IsUsedIf};
     ghost use Rattle.step_chain.specs.Answers.{IsAcceptedAs, OfAccepted, OfKept};
     ghost use Rattle.step_chain.specs.Held.{judgements_of, front_of, OfEachBook, IsFirst, IsPushed};
 
@@ -143,6 +152,13 @@ impl<'a> Chain<'a> {
             formulas: List::from_vec(nodes.formulas),
             steps: Vec::new(alloc),
         })
+    }
+
+    /// The worksheet.
+    pub fn bound(&self) -> &'a Bound
+        ensures { result.now ≡ self.now.bound }
+    {
+        self.bound
     }
 
     /// How many steps were pushed. Each is judged by those that were accepted before it, and the chain stands for the most
@@ -234,6 +250,15 @@ impl<'a> Chain<'a> {
         }
     }
 
+    /// What is judged of a step that was pushed. It takes constant time.
+    pub fn judged(&self, i: u32) -> &Judged
+        requires { i < length (judgements_of self.now) }
+        ensures judged { judged_at self.now i ≡ Some result.now }
+        ensures used { IsUsedIf self.now.book result.now }
+    {
+        judged_of(self.steps.as_slice(), i)
+    }
+
     /// Whether a step was accepted. It takes constant time.
     pub fn is_accepted(&self, i: u32) -> bool
         ensures kept { result ≡ is_some (accepted_at self.now i) }
@@ -305,13 +330,20 @@ impl<'c, 'a> Model for ChainTrees<'c, 'a> {
 }
 
 impl<'c, 'a> ChainTrees<'c, 'a> {
-    ghost use Rattle.std.specs.Prelude.{◌≡◌, ◌<◌, length, slice_get, Some, IsSome};
+    ghost use Rattle.std.specs.Prelude.{◌≡◌, ◌<◌, length, slice_get, Some, IsSome, IfOk};
     ghost use Rattle.mm_base.specs.declared.tree.Tree.{Tree};
     ghost use Rattle.solve_model.specs.Solutions.{Asked, formula, instance};
     ghost use Rattle.step_chain.specs.Held.{OfEachBook};
     ghost use Rattle.step_chain.specs.Values.{value_of, accepted_at};
     ghost use Rattle.step_chain.specs.Readings.{IsRead};
     ghost use Rattle.step_chain.specs.Answers.{IsAcceptedAs, OfAccepted, OfKept, constants_of, values_of, AreRead};
+
+    /// The chain of which these are the trees.
+    pub fn chain(&self) -> &'c Chain<'a>
+        ensures { result.now ≡ self.now }
+    {
+        self.chain
+    }
 
     /// The formula of a step, under the most general valuation of the accepted steps. `TooLong`: its text, with a typecode, has
     /// so many tokens, over 4,096 (2^64 - 1 where there are more). `Memory`: there is no room.
@@ -336,7 +368,8 @@ impl<'c, 'a> ChainTrees<'c, 'a> {
     /// `formula`, for the first tree that has one.
     pub fn substitution(&self, alloc: Global, i: u32) -> Result<List<Tree>, TreeFault>
         requires { IsSome (accepted_at self.now i) }
-        ensures { OfAccepted self.now i (λ y. AreRead (constants_of self.now) (values_of self.now i y) result) }
+        ensures read { OfAccepted self.now i (λ y. AreRead (constants_of self.now) (values_of self.now i y) result) }
+        ensures count { OfKept self.now i (λ x. IfOk result (λ ts. length ts ≡ length x.variables)) }
     {
         values(
             alloc,

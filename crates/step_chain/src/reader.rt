@@ -1,4 +1,4 @@
-ghost use Rattle.std.specs.Prelude.{◌<◌, length};
+ghost use Rattle.std.specs.Prelude.{◌≡◌, ◌<◌, length, IfOk};
 ghost use Rattle.step_chain.specs.Grown.{AreVariablesIn};
 ghost use Rattle.step_chain.specs.Answers.{AreReadOff};
 
@@ -15,7 +15,8 @@ pub fn values(
     variables: &[VariableNode],
 ) -> Result<List<Tree>, TreeFault>
     requires { AreVariablesIn (length trees.now.nodes) variables.now }
-    ensures { AreReadOff trees.now variables.now result }
+    ensures read { AreReadOff trees.now variables.now result }
+    ensures count { IfOk result (λ ts. length ts ≡ length variables.now) }
 {
     let mut values = Vec::new(alloc);
     for variable in variables {

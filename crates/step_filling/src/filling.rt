@@ -1,268 +1,209 @@
+ghost use Rattle.std.specs.Prelude.{◌≡◌, ◌<◌, ◌≤◌, ◌+◌, length, filter_map, Some, IfOk, OnOk, IfErr};
+ghost use Rattle.sheet_text.specs.declared.sheet.SheetItem.TheVariants as item;
+ghost use Rattle.sheet_text.specs.Layout.{steps, step_of_item};
+ghost use Rattle.step_chain.specs.declared.judged.Judged.TheVariants as judged;
+ghost use Rattle.step_chain.specs.Held.{judgements_of};
+ghost use Rattle.step_chain.specs.Levels.{IsUsed};
+ghost use Rattle.step_chain.specs.Values.{judged_at, accepted_at};
+ghost use Rattle.step_filling.specs.Filled.{IsPut, ArePut, IsNextFault, IsItemFault, step_count, IsOwnFault, IsFaultAmong, IsLongNamed, IsFilledPut, IsWantedPut, IsStandingPut};
+ghost use Rattle.step_filling.specs.Kept.{with_comment};
+ghost use Rattle.step_filling.specs.Answers.{AreFilled, IsFillFault};
+
+use crate::accepted::{accepted_step, formula};
+use crate::copies::copied_lines;
+use crate::drafts::{own_step, reported};
 use crate::fault::FillFault;
-use crate::names::StepNames;
-use crate::reading::{Solved, formula, places, values};
-use crate::table::{TreeTable, tree_key};
-use crate::wanted::fill_places;
-use mm_base::{Bytes, List, Memory, Name, Tree};
-use sheet_text::{Given, Sheet, SheetItem, SheetStep};
-use solve_model::{Bound, Verdict};
+use crate::kept::Filling;
+use crate::places::written_places;
+use crate::wanted::read_wanted;
+use hyp_derive::fill_from;
+use mm_base::{Bytes, List, Memory, Tree};
+use sheet_text::{Sheet, SheetItem, SheetStep};
+use solve_model::Verdict;
 use std::alloc::Global;
-use step_chain::{Accepted, Chain, Judged, TreeFault};
-use written_model::ReportVerdict;
-use written_steps::{DraftItem, DraftStep, StepUse, in_order};
+use step_chain::{Accepted, Chain, ChainTrees, Judged};
+use written_steps::{DraftItem, DraftStep};
 
-/// What is written so far.
-#[derive(Drop)]
-pub struct Filling {
-    pub items: Vec<DraftItem>,
-    /// For each step read so far the number of its written step.
-    pub numbers: Vec<u32>,
-    /// The trees of the steps that are written.
-    pub table: TreeTable,
-    /// The names of new steps.
-    pub names: StepNames,
-}
-
-fn copied(alloc: Global, name: &[u8]) -> Result<Name, Memory> {
-    Ok(List::from_vec(Vec::from_slice(alloc, name)?))
-}
-
-fn copied_lines(alloc: Global, lines: &[Bytes]) -> Result<List<Bytes>, Memory> {
-    let mut copies = Vec::new(alloc);
-    for line in lines {
-        copies.push(copied(alloc, line.as_slice())?)?;
-    }
-    Ok(List::from_vec(copies))
-}
-
-fn copied_reference(alloc: Global, reference: &Option<Name>) -> Result<Option<Name>, Memory> {
-    match reference {
-        None => Ok(None),
-        Some(label) => {
-            let copy = copied(alloc, label.as_slice())?;
-            Ok(Some(copy))
-        }
+/// The fault of a wanted tree that is too long behind these.
+fn long_wanted(alloc: Global, filling: &mut Filling, before: &[Tree], tokens: u64) -> FillFault
+    ensures { IsLongNamed filling.old before.now tokens result }
+{
+    let Ok(filled) = fill_from(alloc, &filling.index, before) else {
+        return FillFault::Memory;
+    };
+    let new = filled.made.as_slice().len();
+    match filling.name_behind(new) {
+        Ok(name) => FillFault::TooLong(name, tokens),
+        Err(_) => FillFault::Memory,
     }
 }
 
-/// What is reported of a verdict.
-fn reported(verdict: Verdict) -> ReportVerdict {
-    match verdict {
-        Verdict::Fits => ReportVerdict::Fits,
-        Verdict::NoFit => ReportVerdict::NoFit,
-        Verdict::UnknownRef => ReportVerdict::UnknownRef,
-        Verdict::NotUsable => ReportVerdict::NotUsable,
-        Verdict::TooManyHyps => ReportVerdict::TooManyHyps,
-        Verdict::NoRef => ReportVerdict::NoRef,
-        Verdict::Hyp => ReportVerdict::Hyp,
-    }
+/// Puts in new steps of these trees, and a step of the worksheet behind them.
+fn put_filled(filling: &mut Filling, made: List<Tree>, own: DraftStep) -> Result<(), Memory>
+    ensures { OnOk result (IsFilledPut filling.old filling.new made own) }
+{
+    filling.make(made)?;
+    filling.put_own(own)
 }
 
-/// A place among the written steps.
-fn written_place(numbers: &[u32], place: Given) -> Given {
-    match place {
-        Given::Gap => Given::Gap,
-        Given::Step(k) => match numbers.get(k as usize) {
-            None => Given::Step(0),
-            Some(number) => Given::Step(*number),
-        },
-    }
-}
-
-/// Places among the written steps, and then those that fill.
-fn written_places(
+/// Puts in an accepted step for which these trees are wanted.
+fn put_wanted(
     alloc: Global,
-    numbers: &[u32],
-    places: &[Given],
-    more: &[u32],
-) -> Result<List<Given>, Memory> {
-    let mut written = Vec::new(alloc);
-    for place in places {
-        written.push(written_place(numbers, *place))?;
-    }
-    for number in more {
-        written.push(Given::Step(*number))?;
-    }
-    Ok(List::from_vec(written))
-}
-
-/// The places of an accepted step: those that it lists, in the order in which it fits, and then those that fill.
-fn accepted_places(
-    alloc: Global,
-    numbers: &[u32],
-    places: &[Given],
-    accepted: &Accepted,
-    more: &[u32],
-) -> Result<List<Given>, Memory> {
-    let ordered = in_order(alloc, places, accepted.order.as_slice())?;
-    written_places(alloc, numbers, ordered.as_slice(), more)
-}
-
-/// A step without its places, its formula and its use.
-fn bare_step(
-    alloc: Global,
-    step: &SheetStep,
-    places: List<Given>,
-    tree: Tree,
-    verdict: ReportVerdict,
-    by: Option<StepUse>,
-) -> Result<DraftStep, Memory> {
-    let name = copied(alloc, step.name.as_slice())?;
-    let reference = copied_reference(alloc, &step.reference)?;
-    Ok(DraftStep {
-        hyp: step.hyp,
-        name,
-        places,
-        reference,
-        tree,
-        verdict,
-        by,
-    })
-}
-
-/// The fault of a formula of the worksheet that is too long.
-fn formula_fault(alloc: Global, step: &SheetStep, fault: TreeFault) -> FillFault {
-    match fault {
-        TreeFault::Memory => FillFault::Memory,
-        TreeFault::TooLong(tokens) => match copied(alloc, step.name.as_slice()) {
-            Ok(name) => FillFault::TooLong(name, tokens),
-            Err(_) => FillFault::Memory,
-        },
-    }
-}
-
-/// How an accepted step uses its reference. Its values are parts of formulas that are not too long, or single leaves.
-fn use_of(
-    solved: &Solved<'_>,
+    trees: &ChainTrees<'_, '_>,
+    filling: &mut Filling,
+    i: u32,
     step: &SheetStep,
     accepted: &Accepted,
-) -> Result<StepUse, FillFault> {
-    match values(solved, accepted) {
-        Ok(values) => Ok(StepUse {
-            label: accepted.label,
-            values,
-        }),
-        Err(fault) => Err(formula_fault(solved.alloc, step, fault)),
+    wanted: &[Tree],
+) -> Result<(), FillFault>
+    requires step { i < length trees.now.bound.steps }
+    requires kept { accepted_at trees.now i ≡ Some accepted.now }
+    ensures put { OnOk result (IsWantedPut trees.now i step.now accepted.now wanted.now filling.old filling.new) }
+    ensures fault { IfErr result (IsOwnFault trees.now i step.now.name) }
+{
+    let filled = fill_from(alloc, &filling.index, wanted)?;
+    let numbers = filling.numbers.as_slice();
+    let places = filled.places.as_slice();
+    match accepted_step(alloc, trees, i, numbers, step, accepted, places) {
+        Err(fault) => Err(fault),
+        Ok(own) => Ok(put_filled(filling, filled.made, own)?),
     }
 }
 
-/// A step that is not accepted.
-fn standing_step(
-    solved: &Solved<'_>,
-    filling: &Filling,
+/// Fills an accepted step.
+fn fill_accepted(
+    alloc: Global,
+    trees: &ChainTrees<'_, '_>,
+    filling: &mut Filling,
+    i: u32,
+    step: &SheetStep,
+    accepted: &Accepted,
+) -> Result<(), FillFault>
+    requires step { i < length trees.now.bound.steps }
+    requires next { i ≡ length filling.old.numbers }
+    requires judged { judged_at trees.now i ≡ Some (judged.Fits accepted.now) }
+    requires used { IsUsed trees.now.book accepted.now }
+    ensures put { OnOk result (IsPut trees.now filling.old filling.new (item.Step step.now)) }
+    ensures fault { IfErr result (IsNextFault trees.now filling.old step.now) }
+{
+    let wanted = read_wanted(alloc, trees, i, accepted.order.as_slice().len())?;
+    let found = wanted.trees.as_slice();
+    match wanted.long {
+        Some(tokens) => Err(long_wanted(alloc, filling, found, tokens)),
+        None => put_wanted(alloc, trees, filling, i, step, accepted, found),
+    }
+}
+
+/// Puts in a step that is not accepted.
+fn put_standing(
+    alloc: Global,
+    filling: &mut Filling,
     step: &SheetStep,
     tree: Tree,
     verdict: Verdict,
-) -> Result<DraftStep, FillFault> {
-    let alloc = solved.alloc;
-    let numbers = filling.numbers.as_slice();
-    let places = written_places(alloc, numbers, step.places.as_slice(), &[])?;
-    let verdict = reported(verdict);
-    Ok(bare_step(alloc, step, places, tree, verdict, None)?)
+) -> Result<(), Memory>
+    ensures { OnOk result (IsStandingPut step.now tree verdict filling.old filling.new) }
+{
+    let places = written_places(
+        alloc,
+        filling.numbers.as_slice(),
+        step.places.as_slice(),
+        &[],
+    )?;
+    let own = own_step(alloc, step, places, tree, reported(verdict), None)?;
+    filling.put_own(own)
 }
 
-/// A step that is accepted.
-fn accepted_step(
-    solved: &Solved<'_>,
-    filling: &Filling,
+/// Fills a step that is not accepted.
+fn fill_standing(
+    alloc: Global,
+    trees: &ChainTrees<'_, '_>,
+    filling: &mut Filling,
     i: u32,
     step: &SheetStep,
-    tree: Tree,
-    accepted: &Accepted,
-    more: &[u32],
-) -> Result<DraftStep, FillFault> {
-    let alloc = solved.alloc;
-    let by = use_of(solved, step, accepted)?;
-    let numbers = filling.numbers.as_slice();
-    let places = accepted_places(alloc, numbers, places(solved, i), accepted, more)?;
-    let verdict = ReportVerdict::Fits;
-    Ok(bare_step(alloc, step, places, tree, verdict, Some(by))?)
-}
-
-/// A step as it is written.
-fn filled_step(
-    solved: &Solved<'_>,
-    filling: &Filling,
-    i: u32,
-    step: &SheetStep,
-    tree: Tree,
-    more: &[u32],
-) -> Result<DraftStep, FillFault> {
-    match solved.chain.judged(i) {
-        Judged::Stands(verdict) => standing_step(solved, filling, step, tree, *verdict),
-        Judged::Fits(accepted) => accepted_step(solved, filling, i, step, tree, accepted, more),
+    verdict: Verdict,
+) -> Result<(), FillFault>
+    requires step { i < length trees.now.bound.steps }
+    requires next { i ≡ length filling.old.numbers }
+    requires judged { judged_at trees.now i ≡ Some (judged.Stands verdict) }
+    ensures put { OnOk result (IsPut trees.now filling.old filling.new (item.Step step.now)) }
+    ensures fault { IfErr result (IsNextFault trees.now filling.old step.now) }
+{
+    match formula(alloc, trees, i, step.name.as_slice()) {
+        Err(fault) => Err(fault),
+        Ok(tree) => Ok(put_standing(alloc, filling, step, tree, verdict)?),
     }
-}
-
-/// Puts in a step of the worksheet.
-fn put_step(alloc: Global, filling: &mut Filling, step: DraftStep) -> Result<(), Memory> {
-    let key = tree_key(alloc, &step.tree)?;
-    let number = filling.table.add(key)?;
-    filling.numbers.push(number)?;
-    filling.items.push(DraftItem::Step(step))?;
-    Ok(())
 }
 
 /// Writes a step of the worksheet, behind the new steps that it needs.
 fn fill_step(
-    solved: &Solved<'_>,
+    alloc: Global,
+    trees: &ChainTrees<'_, '_>,
     filling: &mut Filling,
     step: &SheetStep,
-) -> Result<(), FillFault> {
+) -> Result<(), FillFault>
+    requires pushed { length (judgements_of trees.now) ≡ length trees.now.bound.steps }
+    requires room { length filling.old.numbers < length trees.now.bound.steps }
+    ensures put { OnOk result (IsPut trees.now filling.old filling.new (item.Step step.now)) }
+    ensures fault { IfErr result (IsNextFault trees.now filling.old step.now) }
+{
+    let chain = trees.chain();
+    let _pushed = chain.pushed();
     let i = filling.numbers.len() as u32;
-    let more = fill_places(solved, filling, i)?;
-    match formula(solved, i) {
-        Err(fault) => Err(formula_fault(solved.alloc, step, fault)),
-        Ok(tree) => {
-            let step = filled_step(solved, filling, i, step, tree, more.as_slice())?;
-            Ok(put_step(solved.alloc, filling, step)?)
-        }
+    match chain.judged(i) {
+        Judged::Stands(verdict) => fill_standing(alloc, trees, filling, i, step, *verdict),
+        Judged::Fits(accepted) => fill_accepted(alloc, trees, filling, i, step, accepted),
     }
 }
 
-fn fill_comment(alloc: Global, filling: &mut Filling, lines: &[Bytes]) -> Result<(), Memory> {
+/// Puts in a comment.
+fn fill_comment(alloc: Global, filling: &mut Filling, lines: &[Bytes]) -> Result<(), Memory>
+    ensures { OnOk result (filling.new ≡ with_comment filling.old lines.now) }
+{
     let lines = copied_lines(alloc, lines)?;
-    filling.items.push(DraftItem::Comment(lines))?;
-    Ok(())
+    filling.put_comment(lines)
 }
 
+/// Writes an item.
 fn fill_item(
-    solved: &Solved<'_>,
+    alloc: Global,
+    trees: &ChainTrees<'_, '_>,
     filling: &mut Filling,
     item: &SheetItem,
-) -> Result<(), FillFault> {
+) -> Result<(), FillFault>
+    requires pushed { length (judgements_of trees.now) ≡ length trees.now.bound.steps }
+    requires room { length filling.old.numbers + step_count item.now ≤ length trees.now.bound.steps }
+    ensures put { OnOk result (IsPut trees.now filling.old filling.new item.now) }
+    ensures fault { IfErr result (IsItemFault trees.now filling.old item.now) }
+{
     match item {
-        SheetItem::Comment(lines) => { Ok(fill_comment(solved.alloc, filling, lines.as_slice())?) }
-        SheetItem::Step(step) => fill_step(solved, filling, step),
+        SheetItem::Comment(lines) => Ok(fill_comment(alloc, filling, lines.as_slice())?),
+        SheetItem::Step(step) => fill_step(alloc, trees, filling, step),
     }
-}
-
-fn nothing(alloc: Global, items: &[SheetItem]) -> Result<Filling, Memory> {
-    let names = StepNames::of(alloc, items)?;
-    Ok(Filling {
-        items: Vec::new(alloc),
-        numbers: Vec::new(alloc),
-        table: TreeTable::new(alloc),
-        names,
-    })
 }
 
 /// Writes the items one after the other.
-fn fill_each(solved: &Solved<'_>, items: &[SheetItem]) -> Result<List<DraftItem>, FillFault> {
-    let mut filling = nothing(solved.alloc, items)?;
+fn fill_each(
+    alloc: Global,
+    trees: &ChainTrees<'_, '_>,
+    filling: &mut Filling,
+    items: &[SheetItem],
+) -> Result<(), FillFault>
+    requires pushed { length (judgements_of trees.now) ≡ length trees.now.bound.steps }
+    requires room { length filling.old.numbers + length (filter_map step_of_item items.now) ≤ length trees.now.bound.steps }
+    ensures put { OnOk result (ArePut trees.now filling.old filling.new items.now) }
+    ensures fault { IfErr result (IsFaultAmong trees.now filling.old items.now) }
+{
     for item in items {
-        fill_item(solved, &mut filling, item)?;
+        match fill_item(alloc, trees, filling, item) {
+            Err(fault) => return Err(fault),
+            Ok(()) => {}
+        }
     }
-    let Filling {
-        items,
-        numbers: _,
-        table: _,
-        names: _,
-    } = filling;
-    Ok(List::from_vec(items))
+    Ok(())
 }
 
-/// The comments and steps of a worksheet whose steps are all solved, as they are written before new work variables are
+/// The comments and steps of a worksheet whose steps are all judged, as they are written before new work variables are
 /// named: each with its formula under the most general valuation of the accepted steps; each missing place of an accepted
 /// step names the first step written before that has the formula that is wanted, or else a new step that stands just before
 /// the step. It takes time in proportion to the trees that it gives and to the store of terms.
@@ -273,15 +214,17 @@ fn fill_each(solved: &Solved<'_>, items: &[SheetItem]) -> Result<List<DraftItem>
 pub fn fill_items(
     alloc: Global,
     sheet: &Sheet,
-    bound: &Bound,
     chain: &Chain<'_>,
-) -> Result<List<DraftItem>, FillFault> {
+) -> Result<List<DraftItem>, FillFault>
+    requires pushed { length (judgements_of chain.now) ≡ length chain.now.bound.steps }
+    requires steps { length (steps sheet.now) ≡ length chain.now.bound.steps }
+    ensures filled { IfOk result (AreFilled chain.now sheet.now) }
+    ensures fault { IfErr result (IsFillFault chain.now sheet.now) }
+{
     let trees = chain.trees()?;
-    let solved = Solved {
-        alloc,
-        bound,
-        chain,
-        trees: &trees,
-    };
-    fill_each(&solved, sheet.items.as_slice())
+    let mut filling = Filling::new(alloc, sheet)?;
+    match fill_each(alloc, &trees, &mut filling, sheet.items.as_slice()) {
+        Err(fault) => Err(fault),
+        Ok(()) => Ok(List::from_vec(filling.into_items())),
+    }
 }

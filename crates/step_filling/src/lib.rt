@@ -2,12 +2,16 @@
 //! new steps.
 #![tactic(auto)]
 
+mod accepted;
+mod copies;
+mod drafts;
 mod fault;
 mod filling;
-mod names;
-mod reading;
-mod table;
+mod kept;
+mod laws;
+mod places;
 mod wanted;
 
 pub use fault::FillFault;
 pub use filling::fill_items;
+pub use laws::long_is_first;

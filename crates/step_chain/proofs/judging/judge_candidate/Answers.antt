@@ -1,4 +1,5 @@
-use Rattle.std.proofs.Common.{sym, subst, ap, ◌∙◌, None, Some}
+use Rattle.std.proofs.Common.{rules, sym, subst, ap, ◌∙◌, None, Some}
+use Rattle.term_model.specs.Store.{Store}
 use Rattle.solve_model.specs.declared.bound.BoundStep.{BoundStep}
 use Rattle.step_chain.specs.Accepted.{IsSameStore}
 use Rattle.step_chain.proofs.NextLaws.{kept_below, cut_back, taken_same, kept_some, next_none, next_some}
@@ -29,6 +30,6 @@ returns-in-Ok-Some-clause-next c =
     let formulas = c.args.formulas.now in
     let old = c.args.arena.now in
     next_some c.candidates_are_ready.ensures c.has_database_facts.ensures c.assertions_are_whole.ensures d bound c.requires.placed formulas c.args.i c.requires.step c.args.label c.requires.candidate old c.accept.new.arena
-    c.in-Ok-Some.accepted c.accept.ensures.extended c.in-Ok-Some.ensures.store c.in-Ok-Some.ensures.solved (kept_some _ c.in-Ok-Some.field-0 c.in-Ok-Some.accepted c.in-Ok-Some.field-0-is c.in-Ok-Some.ensures.kept_in)
+    c.in-Ok-Some.accepted (search rules) c.accept.ensures.extended c.in-Ok-Some.ensures.store c.in-Ok-Some.ensures.solved (kept_some _ c.in-Ok-Some.field-0 c.in-Ok-Some.accepted c.in-Ok-Some.field-0-is c.in-Ok-Some.ensures.kept_in)
     (taken_same c.candidates_are_ready.ensures c.has_database_facts.ensures c.assertions_are_whole.ensures d bound c.requires.placed formulas c.args.i c.requires.step c.args.label c.requires.candidate old c.accept.new.arena
     c.formula_at-formula.result c.as_slice-places.result.now c.formula_at-formula.ensures (c.as_slice-places.ensures ∙ ap (λ (s : BoundStep). s.places) c.step_at.ensures) (Some c.in-Ok-Some.accepted) c.in-Ok-Some.field-0 c.in-Ok-Some.field-0-is c.in-Ok-Some.ensures.taken)

@@ -9,7 +9,7 @@ values-requires c =
     let at = ap (λ (h : Held). accepted_at h c.args.i) (sym c.self.view_is) ∙ c.accepted.ensures in
     variables_inside c.self.inside.chain.now c.args.self.now c.self.view_is c.self.inside.trees c.self.invariant c.args.i c.accepted.result.now at c.as_slice.result.now c.as_slice.ensures
 
-pub returns : goal.returns
-returns c =
+pub returns-clause-read : goal.returns-clause-read
+returns-clause-read c =
     let at = ap (λ (h : Held). accepted_at h c.args.i) (sym c.self.view_is) ∙ c.accepted.ensures in
-    values_told c.self.inside.chain.now c.args.self.now c.self.view_is c.self.inside.trees c.self.invariant c.args.i c.accepted.result.now at c.as_slice.result.now c.as_slice.ensures c.values.result c.values.ensures
+    values_told c.self.inside.chain.now c.args.self.now c.self.view_is c.self.inside.trees c.self.invariant c.args.i c.accepted.result.now at c.as_slice.result.now c.as_slice.ensures c.values.result c.values.ensures.read
