@@ -1,5 +1,5 @@
 -- What is answered of the steps of a chain.
-use Rattle.std.specs.Prelude.{◌≡◌, ℕ, ◌<◌, ◌≤◌, ◌+◌, ◌⊎◌, List, [], ◌∷◌, length, map, slice_get, slice_index_or, unwrap_or, is_some, option_map, option_and_then, Bool, true, false, IsTrue, Contains, Option, Some, None, Result, Ok, Err, refl}
+use Rattle.std.specs.Prelude.{◌≡◌, ℕ, ◌<◌, ◌+◌, List, [], ◌∷◌, length, map, slice_get, unwrap_or, is_some, option_map, option_and_then, Bool, true, false, IsTrue, Contains, Option, Some, None, Result, refl}
 use Rattle.std.specs.List.{AllByRecursion, AllZip}
 use Rattle.std.specs.Option.{option_map_or}
 use Rattle.std.proofs.Common.{zero, suc, get_or, sym, ap, subst, ◌∙◌, arith}

@@ -17,11 +17,11 @@ use Rattle.step_chain.specs.declared.judged.Judged.{Judged}
 use Rattle.step_chain.specs.declared.judged.Judged.TheVariants.{Stands, Fits}
 use Rattle.step_chain.specs.declared.judged.Pushed.{Pushed}
 use Rattle.step_chain.specs.Steps.{ArePlaced}
-use Rattle.step_chain.specs.Levels.{ForEachBook, IsLevel, IsKeptIn, IsUsedIf, IsFront}
+use Rattle.step_chain.specs.Levels.{IsKeptIn, IsUsedIf, IsFront}
 use Rattle.step_chain.specs.Accepted.{IsNext}
 use Rattle.step_chain.specs.Held.{Held, nodes_before, links_before, front_of, IsHeld}
 use Rattle.step_chain.proofs.AddingLaws.{works_in_more, ids_in_more, variables_in_more}
-use Rattle.step_chain.proofs.Lists.{get_front, get_seam, get_past, all_take, all_join, all_weaker}
+use Rattle.step_chain.proofs.Lists.{get_front, get_seam, all_take, all_join, all_weaker}
 
 -- ---- lists
 

@@ -1,7 +1,7 @@
 -- Lists that have got one more.
 use Rattle.std.specs.Prelude.{◌≡◌, ℕ, ◌<◌, ◌≤◌, List, [], ◌∷◌, ◌++◌, length, slice_get, Option, Some, None, Contains, refl}
 use Rattle.std.specs.List.{AllByRecursion, AllZip}
-use Rattle.std.proofs.Common.{zero, suc, ap, subst, ◌∙◌, arith}
+use Rattle.std.proofs.Common.{take, zero, suc, ap, subst, ◌∙◌, arith}
 
 module _ {X : Type 0} where
   pub get_front : (xs ys : List X) (k : ℕ) → k < length xs → slice_get (xs ++ ys) k ≡ slice_get xs k

@@ -1,5 +1,5 @@
 -- What is kept of an accepted step is of a usable assertion.
-use Rattle.std.specs.Prelude.{◌≡◌, ℕ, ◌+◌, List, [], ◌∷◌, length, option_map, option_and_then, Bool, true, false, Option, Some, None, IsSome, refl}
+use Rattle.std.specs.Prelude.{◌≡◌, ℕ, ◌+◌, List, [], ◌∷◌, length, option_map, option_and_then, true, false, Option, Some, None, IsSome, refl}
 use Rattle.std.proofs.Common.{sym, ap, ◌∙◌, arith}
 use Rattle.mm_base.specs.declared.symbols.Label.{Label}
 use Rattle.mm_model.specs.declared.frames.Frame.{Frame}
@@ -12,7 +12,6 @@ use Rattle.mm_database.specs.Opened.{Opened}
 use Rattle.sheet_text.specs.declared.sheet.Given.{Given}
 use Rattle.term_model.specs.declared.shape.Id.{Id}
 use Rattle.term_model.specs.Store.{Store}
-use Rattle.chain_laws.specs.declared.leaves.VariableNode.{VariableNode}
 use Rattle.chain_laws.specs.Adding.{numbered}
 use Rattle.step_chain.specs.declared.judged.Accepted.{Accepted}
 use Rattle.step_chain.specs.Standings.{usable_in}

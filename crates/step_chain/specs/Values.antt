@@ -1,5 +1,5 @@
 -- The valuation that a chain stands for.
-use Rattle.std.specs.Prelude.{◌≡◌, ℕ, List, length, map, slice_get, unwrap_or, option_map, option_and_then, Option, Some, None}
+use Rattle.std.specs.Prelude.{ℕ, List, slice_get, unwrap_or, option_map, option_and_then, Option, Some, None}
 use Rattle.std.specs.Option.{option_map_or}
 use Rattle.solve_model.specs.Solutions.{Unknown, named, blank, copy, Valuation}
 use Rattle.chain_laws.specs.Adding.{work_at, variable_at}

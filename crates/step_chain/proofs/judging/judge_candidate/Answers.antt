@@ -1,5 +1,4 @@
 use Rattle.std.proofs.Common.{rules, sym, subst, ap, ◌∙◌, None, Some}
-use Rattle.term_model.specs.Store.{Store}
 use Rattle.solve_model.specs.declared.bound.BoundStep.{BoundStep}
 use Rattle.step_chain.specs.Accepted.{IsSameStore}
 use Rattle.step_chain.proofs.NextLaws.{kept_below, cut_back, taken_same, kept_some, next_none, next_some}
