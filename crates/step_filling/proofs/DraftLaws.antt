@@ -1,20 +1,19 @@
 -- Drafts as the definitions have them.
-use Rattle.std.specs.Prelude.{◌≡◌, ℕ, ◌+◌, List, [], ◌∷◌, ◌++◌, length, map, zip, Option, Some, None, refl}
-use Rattle.std.specs.List.{AllByRecursion}
-use Rattle.std.proofs.Common.{zero, suc, sym, ap, subst, ◌∙◌, arith, append_assoc}
-use Rattle.std.proofs.lemmas.List.{map-append, length-append}
+use Rattle.std.specs.Prelude.{◌≡◌, ℕ, List, [], ◌∷◌, ◌++◌, length, map, zip, Option, Some, None, refl}
+use Rattle.std.proofs.Common.{sym, ap, subst, ◌∙◌, arith, append_assoc}
+use Rattle.std.proofs.lemmas.List.{map-append}
 use Rattle.std.proofs.lemmas.List.Elements.{filter_map-append}
 use Rattle.mm_base.specs.declared.tree.Tree.{Tree}
 use Rattle.mm_model.specs.Names.{Name}
 use Rattle.mm_database.specs.Opened.{Opened}
-use Rattle.written_model.specs.WrittenSteps.{WrittenStep, WrittenItem, comment, step, step_of, steps_in, trees}
+use Rattle.written_model.specs.WrittenSteps.{WrittenStep, WrittenItem, step, step_of, steps_in, trees}
 use Rattle.written_model.specs.Filled.{made_step, derived_names}
 use Rattle.hyp_derive.specs.Naming.{HaveSameNames}
 use Rattle.written_steps.specs.declared.draft.DraftStep.{DraftStep}
 use Rattle.written_steps.specs.declared.draft.DraftItem.{DraftItem}
 use Rattle.written_steps.specs.declared.draft.DraftItem.TheVariants as draft
 use Rattle.written_steps.specs.declared.draft.StepUse.{StepUse}
-use Rattle.written_steps.specs.Drafts.{step_in, item_in, items_in, IsSoundStep, IsSoundItem, AreSound}
+use Rattle.written_steps.specs.Drafts.{step_in, item_in, items_in, IsSoundStep, AreSound}
 use Rattle.step_filling.specs.Kept.{Kept, derived_item, names_in, IsInStep, AreMade, IsOwnPut}
 use Rattle.step_filling.proofs.NameLaws.{length-derived_names}
 

@@ -1,15 +1,12 @@
 -- Items put in one after the other.
-use Rattle.std.specs.Prelude.{◌≡◌, ℕ, ◌+◌, ◌<◌, ◌≤◌, List, [], ◌∷◌, ◌++◌, length, map, fold, take, drop, filter_map, get_or, Option, Some, None, Result, Ok, Err, refl}
-use Rattle.std.proofs.Common.{zero, suc, sym, ap, subst, ◌∙◌, arith, append_assoc}
+use Rattle.std.specs.Prelude.{◌≡◌, ℕ, ◌+◌, ◌<◌, ◌≤◌, List, [], ◌∷◌, ◌++◌, length, map, fold, take, filter_map, get_or, refl}
+use Rattle.std.proofs.Common.{zero, suc, sym, ap, subst, ◌∙◌, arith}
 use Rattle.std.proofs.lemmas.List.{append-nil, length-append, map-append, take_more}
 use Rattle.std.proofs.lemmas.List.Sums.{fold-append}
 use Rattle.std.proofs.lemmas.List.Elements.{filter_map-append}
-use Rattle.mm_base.specs.declared.tree.Tree.{Tree}
 use Rattle.mm_model.specs.Names.{Name}
-use Rattle.mm_database.specs.Opened.{Opened}
 use Rattle.sheet_text.specs.declared.sheet.SheetItem.{SheetItem}
 use Rattle.sheet_text.specs.declared.sheet.SheetItem.TheVariants as item
-use Rattle.sheet_text.specs.declared.sheet.SheetStep.{SheetStep}
 use Rattle.sheet_text.specs.declared.sheet.Sheet.{Sheet}
 use Rattle.sheet_text.specs.Layout.{step_of_item, steps, step_names}
 use Rattle.written_model.specs.WrittenSteps.{WrittenStep, WrittenItem, comment, step_of, steps_in, trees}
@@ -18,14 +15,14 @@ use Rattle.hyp_derive.specs.Naming.{HaveSameNames}
 use Rattle.written_steps.specs.declared.draft.DraftItem.{DraftItem}
 use Rattle.written_steps.specs.declared.draft.DraftItem.TheVariants as draft
 use Rattle.written_steps.specs.Drafts.{item_in, items_in, AreSound}
-use Rattle.step_chain.specs.Held.{Held, judgements_of, OfEachBook}
+use Rattle.step_chain.specs.Held.{Held, judgements_of}
 use Rattle.step_chain.specs.Values.{value_of}
 use Rattle.step_chain.specs.Answers.{constants_of}
 use Rattle.step_filling.specs.declared.fault.FillFault.{FillFault}
 use Rattle.step_filling.specs.declared.fault.FillFault.TheVariants as fault
-use Rattle.step_filling.specs.Kept.{Kept, IsBegun, with_comment, filling_in, names_in, IsInStep}
+use Rattle.step_filling.specs.Kept.{Kept, IsBegun, with_comment, filling_in, IsInStep}
 use Rattle.step_filling.specs.Wanted.{AreShort}
-use Rattle.step_filling.specs.Filled.{step_count, IsPut, IsPutWith, ArePut, ArePutWith, IsNextFault, IsMemory, IsItemFault, IsLongNext, IsLongAmong, IsFaultAmong, filled_behind}
+use Rattle.step_filling.specs.Filled.{step_count, IsPut, ArePut, IsItemFault, IsLongNext, IsFaultAmong, filled_behind}
 use Rattle.step_filling.specs.Answers.{AreFilled, IsFillFault}
 use Rattle.step_filling.proofs.DraftLaws.{sound_join}
 

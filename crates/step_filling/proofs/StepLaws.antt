@@ -1,7 +1,7 @@
 -- A step of the worksheet, put in as the definitions have it.
-use Rattle.std.specs.Prelude.{◌≡◌, ℕ, ◌+◌, Bool, true, false, List, [], ◌∷◌, ◌++◌, length, map, drop, zip, slice_get, slice_index_or, option_map, option_and_then, Option, Some, None, Result, Ok, Err, OnOk, IfErr, refl}
-use Rattle.std.specs.List.{AllByRecursion, list_any}
-use Rattle.std.proofs.Common.{zero, suc, sym, ap, subst, ◌∙◌, arith, append_assoc, inl, inr}
+use Rattle.std.specs.Prelude.{◌≡◌, ℕ, ◌+◌, List, [], ◌∷◌, ◌++◌, length, map, drop, zip, slice_get, slice_index_or, option_map, option_and_then, Option, Some, None, Result, Ok, Err, OnOk, IfErr, refl}
+use Rattle.std.specs.List.{list_any}
+use Rattle.std.proofs.Common.{suc, sym, ap, subst, ◌∙◌, arith, inl, inr}
 use Rattle.std.proofs.lemmas.List.{append-nil, length-append, length-map, length_push}
 use Rattle.std.proofs.lemmas.Bool.{cases_Bool}
 use Rattle.std.proofs.lemmas.Option.{get_or_from_slice_get}
@@ -24,7 +24,6 @@ use Rattle.written_model.specs.WrittenSteps.{Use, WrittenStep, WrittenItem, step
 use Rattle.written_model.specs.Filled.{Filling, new_trees, fill, made_step, derived_names, filled_step, written_place, reported, wanted_by, use_of, with_step}
 use Rattle.hyp_derive.specs.Naming.{HaveSameNames}
 use Rattle.written_steps.specs.declared.draft.DraftStep.{DraftStep}
-use Rattle.written_steps.specs.declared.draft.DraftItem.{DraftItem}
 use Rattle.written_steps.specs.declared.draft.StepUse.{StepUse}
 use Rattle.written_steps.specs.Drafts.{step_in, items_in, use_in, usable_in, IsSoundStep, IsSoundUse}
 use Rattle.step_chain.specs.declared.judged.Accepted.{Accepted}
@@ -33,7 +32,7 @@ use Rattle.step_chain.specs.declared.judged.Judged.TheVariants.{Stands, Fits}
 use Rattle.step_chain.specs.declared.judged.Pushed.{Pushed}
 use Rattle.step_chain.specs.Held.{Held, judgements_of, OfEachBook}
 use Rattle.step_chain.specs.Levels.{IsUsed}
-use Rattle.step_chain.specs.Ordered.{reordered, place_at}
+use Rattle.step_chain.specs.Ordered.{place_at}
 use Rattle.step_chain.specs.Steps.{step_at, asked_by, judgement_of}
 use Rattle.step_chain.specs.Values.{value_of, judged_at, accepted_at}
 use Rattle.step_chain.specs.Values as values
@@ -43,7 +42,7 @@ use Rattle.step_filling.specs.declared.fault.FillFault.{FillFault}
 use Rattle.step_filling.specs.declared.fault.FillFault.TheVariants as fault
 use Rattle.step_filling.specs.Kept.{Kept, draft_of, filling_in, names_in, IsInStep, AreMade, IsOwnPut}
 use Rattle.step_filling.specs.Wanted.{wanted_from, AreShort, IsTooLong, AreWanted}
-use Rattle.step_filling.specs.Filled.{formula_of, accepted_places, IsOwnRead, AreValuesRead, IsValueFault, IsUsedStep, IsOwnAccepted, IsOwnFault, IsLongNamed, IsLongNext, IsFilledPut, IsWantedPut, IsStandingPut, IsPut, IsPutWith, HasLongValue, IsNextFault}
+use Rattle.step_filling.specs.Filled.{formula_of, accepted_places, IsOwnRead, AreValuesRead, IsValueFault, IsUsedStep, IsOwnAccepted, IsOwnFault, IsLongNamed, IsLongNext, IsFilledPut, IsWantedPut, IsStandingPut, IsPut, HasLongValue, IsNextFault}
 use Rattle.step_filling.proofs.WantedLaws.{short_join}
 use Rattle.step_filling.proofs.DraftLaws.{made_in, made_in_step, own_in, own_in_step}
 

@@ -1,11 +1,10 @@
 -- The `$e` of an accepted step, read one after the other.
-use Rattle.std.specs.Prelude.{◌≡◌, ℕ, ◌+◌, ◌<◌, ◌≤◌, List, [], ◌∷◌, ◌++◌, length, map, drop, slice_get, Option, Some, None, Ok, Err, refl}
-use Rattle.std.specs.List.{AllByRecursion}
+use Rattle.std.specs.Prelude.{◌≡◌, ℕ, ◌+◌, ◌<◌, ◌≤◌, List, [], ◌∷◌, ◌++◌, length, map, drop, slice_get, Some, None, Ok, Err, refl}
 use Rattle.std.proofs.Common.{zero, suc, sym, ap, subst, ◌∙◌, arith, append_assoc, inl, inr}
 use Rattle.std.proofs.lemmas.List.{append-nil}
 use Rattle.mm_base.specs.declared.symbols.Label.{Label}
 use Rattle.mm_base.specs.declared.tree.Tree.{Tree}
-use Rattle.solve_model.specs.Solutions.{Asked, Valuation, instance}
+use Rattle.solve_model.specs.Solutions.{instance}
 use Rattle.step_chain.specs.declared.reading.TreeFault.TheVariants.{TooLong}
 use Rattle.step_chain.specs.Held.{Held}
 use Rattle.step_chain.specs.Values.{value_of}

@@ -1,6 +1,5 @@
 -- What becomes of the items of a worksheet, as the code reads it off a chain.
-use Rattle.std.specs.Prelude.{◌≡◌, ℕ, suc, ◌+◌, ◌++◌, List, [], ◌∷◌, length, map, fold, filter_map, slice_get, slice_index_or, Option, Some, None, Result, Ok, Err}
-use Rattle.std.specs.List.{AllByRecursion}
+use Rattle.std.specs.Prelude.{◌≡◌, ℕ, suc, ◌+◌, ◌++◌, List, ◌∷◌, length, map, fold, filter_map, slice_get, slice_index_or, Some, None, Result, Ok, Err}
 use Rattle.mm_base.specs.declared.symbols.Label.{Label}
 use Rattle.mm_base.specs.declared.tree.Tree.{Tree}
 use Rattle.mm_model.specs.Names.{Name}

@@ -1,9 +1,9 @@
 -- The trees that are wanted for a step, up to the first that is too long.
-use Rattle.std.specs.Prelude.{◌≡◌, ℕ, List, [], ◌∷◌, ◌++◌, length, map, drop, Option, Some, None, Err}
+use Rattle.std.specs.Prelude.{◌≡◌, ℕ, List, ◌∷◌, ◌++◌, map, drop, Option, Some, None, Err}
 use Rattle.std.specs.List.{AllByRecursion}
 use Rattle.mm_base.specs.declared.symbols.Label.{Label}
 use Rattle.mm_base.specs.declared.tree.Tree.{Tree}
-use Rattle.solve_model.specs.Solutions.{Valuation, Asked, instance}
+use Rattle.solve_model.specs.Solutions.{Valuation, instance}
 use Rattle.step_chain.specs.declared.reading.TreeFault.TheVariants.{TooLong}
 use Rattle.step_chain.specs.Readings.{IsRead}
 use Rattle.step_chain.specs.Answers.{IsShort}

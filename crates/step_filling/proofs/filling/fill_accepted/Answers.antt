@@ -1,4 +1,4 @@
-use Rattle.std.proofs.Common.{ap, sym, ◌∙◌, length, None, Some}
+use Rattle.std.proofs.Common.{ap, sym, length, None, Some}
 use Rattle.step_filling.specs.Filled.{IsOwnFault, IsNextFault}
 use Rattle.step_filling.proofs.StepLaws.{on_ok, if_err, wanted_as, accepted_put, long_fault, own_fault}
 use Rattle.step_filling.proofs.filling.fill_accepted.Goals as goal

@@ -1,4 +1,4 @@
-use Rattle.std.proofs.Common.{subst, sym, ap, ◌∙◌, List}
+use Rattle.std.proofs.Common.{subst, ◌∙◌, List}
 use Rattle.sheet_text.specs.declared.sheet.SheetItem.{SheetItem}
 use Rattle.step_chain.specs.Held.{Held}
 use Rattle.step_filling.specs.Filled.{ArePut, IsFaultAmong}

@@ -1,7 +1,6 @@
-use Rattle.std.proofs.Common.{ap, ◌∙◌, List, map, ◌++◌, [], None, ℕ}
+use Rattle.std.proofs.Common.{ap, ◌∙◌, List, map, None, ℕ}
 use Rattle.std.proofs.lemmas.List.{append-nil}
 use Rattle.sheet_text.specs.declared.sheet.Given.{Given}
-use Rattle.sheet_text.specs.declared.sheet.Given.TheVariants as given
 use Rattle.written_model.specs.declared.report.ReportVerdict.{ReportVerdict}
 use Rattle.written_model.specs.Filled.{written_place, reported}
 use Rattle.step_filling.specs.Kept.{Kept, draft_of}

@@ -1,4 +1,4 @@
-use Rattle.std.proofs.Common.{◌≡◌, ℕ, subst, ap, ◌∙◌, sym, length, Some, Err, slice_get, List}
+use Rattle.std.proofs.Common.{◌≡◌, ℕ, subst, sym, length, Some, Err, slice_get}
 use Rattle.mm_base.specs.declared.tree.Tree.{Tree}
 use Rattle.solve_model.specs.Solutions.{instance}
 use Rattle.step_chain.specs.declared.reading.TreeFault.{TreeFault}
