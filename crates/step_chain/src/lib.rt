@@ -21,6 +21,7 @@ mod works;
 
 pub use chain::{Chain, ChainTrees};
 pub use chain_laws::{VariableNode, WorkNode};
+pub use judged::{Accepted, Judged};
 pub use laws::constants_are_counted;
 pub use placed::are_placed;
 pub use reading::TreeFault;
