@@ -180,7 +180,7 @@ module _ (d : Opened) where
         let three = both (length s.places == length x.assertion.hyps) (list_all names_step s.places) two.0 in
         whole_used (is_whole d before s.places u) u (step_numbers s.places)
         (both_true (length s.places == hyps_in d u.label) (are_used before s.places) (ap (λ n. length s.places == n) (hyps_are u x) ∙ three.0)
-          (names_used before s.places three.1 (λ k c. done k ((steps (length before) (step_in d s) at).earlier k c) (listed (length before) below at c))))
+        (names_used before s.places three.1 (λ k c. done k ((steps (length before) (step_in d s) at).earlier k c) (listed (length before) below at c))))
 
     done_more : (before : List ProofStep) (s : DraftStep) → IsSoundStep d s → Done before → slice_get es (length before) ≡ Some (step_in d s) → Done (before ++ proof_step d before s ∷ [])
     done_more before s sound done at k l below = elim (cases_lt k (length before)) [
@@ -218,8 +218,8 @@ module _ (d : Opened) where
     stand_for kinds text opened = record {
       each = subst (λ ps. AllZip (IsProofStep (book kinds text d)) es ps) (sym all_steps)
           (subst (λ ws. AllZip (IsProofStep (book kinds text d)) ws (steps_from [] (drafts_in items))) (sym (steps_are items))
-            (all_stand kinds text opened [] (drafts_in items) (sound_drafts items sound)
-              (references (drafts_in items) (λ i e at. (provable.steps i e (ap (λ ws. slice_get ws i) (steps_are items) ∙ at)).reference))));
+          (all_stand kinds text opened [] (drafts_in items) (sound_drafts items sound)
+          (references (drafts_in items) (λ i e at. (provable.steps i e (ap (λ ws. slice_get ws i) (steps_are items) ∙ at)).reference))));
       follow = subst (FollowFromUsed []) (sym all_steps) (all_follow [] (drafts_in items));
     }
 
