@@ -1,16 +1,16 @@
 -- What proves the steps of a finished worksheet stands for them, and `qed` is used.
-use Rattle.std.specs.Prelude.{◌≡◌, ◌<◌, ◌≤◌, ◌+◌, ◌&&◌, ◌||◌, ◌==◌, ℕ, zero, suc, Bool, true, false, List, [], ◌∷◌, ◌++◌, length, map, fold, cond, slice_get, slice_index_or, unwrap_or, option_map, option_and_then, is_none, Contains, Option, Some, None, refl, codes}
+use Rattle.std.specs.Prelude.{◌≡◌, ◌<◌, ◌≤◌, ◌+◌, ◌&&◌, ◌||◌, ◌==◌, ℕ, suc, Bool, true, false, List, [], ◌∷◌, ◌++◌, length, map, fold, cond, slice_get, slice_index_or, unwrap_or, option_map, option_and_then, is_none, Contains, Option, Some, None, refl}
 use Rattle.std.specs.List.{AllByRecursion, AllZip, list_all}
 use Rattle.std.specs.Option.{option_map_or}
 use Rattle.std.proofs.Common.{sym, ap, subst, ◌∙◌, arith, inl, inr, append_assoc, append-nil, length-append}
-use Rattle.std.proofs.lemmas.Bool.{cases_lt, cases_Bool}
+use Rattle.std.proofs.lemmas.Bool.{cases_lt}
 use Rattle.std.proofs.lemmas.List.{length-map}
 use Rattle.mm_base.specs.declared.kinds.Kinds.{Kinds}
 use Rattle.mm_base.specs.declared.symbols.Pair.{Pair}
 use Rattle.mm_model.specs.Book.{Assertion, Database}
 use Rattle.mm_frames.specs.Contents.{Contents}
 use Rattle.mm_frames.proofs.Queries.{frame-is}
-use Rattle.mm_database.specs.Books.{usable_with, database_of}
+use Rattle.mm_database.specs.Books.{usable_with}
 use Rattle.mm_database.specs.Opened.{Opened, IsOpened}
 use Rattle.solve_model.specs.Solutions.{names_step}
 use Rattle.sheet_text.specs.declared.sheet.Given.{Given}
@@ -27,11 +27,11 @@ use Rattle.written_steps.specs.declared.draft.StepUse.{StepUse}
 use Rattle.written_steps.specs.declared.draft.DraftStep.{DraftStep}
 use Rattle.written_steps.specs.declared.draft.DraftItem.{DraftItem}
 use Rattle.written_steps.specs.declared.draft.DraftItem.TheVariants as draft
-use Rattle.written_steps.specs.Drafts.{book, usable_in, use_in, step_in, items_in, drafts_in, IsSoundUse, IsSoundStep, AreSound}
+use Rattle.written_steps.specs.Drafts.{book, use_in, step_in, items_in, drafts_in, IsSoundUse, IsSoundStep, AreSound}
 use Rattle.written_steps.proofs.Kept.{made_of}
 use Rattle.sheet_proof.specs.Provable.{IsProvableStep, IsProvable}
-use Rattle.sheet_proof.specs.Steps.{are_used, hyps_in, is_whole, use_step, bare_step, step_by, proof_step, proof_steps, put_item, step_numbers}
-use Rattle.sheet_proof.proofs.Small.{both, both_true, eq_of, true_or_false, get_left, get_mid, first, later}
+use Rattle.sheet_proof.specs.Steps.{are_used, hyps_in, is_whole, step_by, proof_step, proof_steps, put_item, step_numbers}
+use Rattle.sheet_proof.proofs.Small.{both, both_true, eq_of, get_left, get_mid, first, later}
 
 module _ (d : Opened) where
   abbrev steps_from : List ProofStep → List DraftStep → List ProofStep
@@ -180,7 +180,7 @@ module _ (d : Opened) where
         let three = both (length s.places == length x.assertion.hyps) (list_all names_step s.places) two.0 in
         whole_used (is_whole d before s.places u) u (step_numbers s.places)
         (both_true (length s.places == hyps_in d u.label) (are_used before s.places) (ap (λ n. length s.places == n) (hyps_are u x) ∙ three.0)
-          (names_used before s.places three.1 (λ k c. done k ((steps (length before) (step_in d s) at).earlier k c) (listed (length before) below at c))))
+        (names_used before s.places three.1 (λ k c. done k ((steps (length before) (step_in d s) at).earlier k c) (listed (length before) below at c))))
 
     done_more : (before : List ProofStep) (s : DraftStep) → IsSoundStep d s → Done before → slice_get es (length before) ≡ Some (step_in d s) → Done (before ++ proof_step d before s ∷ [])
     done_more before s sound done at k l below = elim (cases_lt k (length before)) [
@@ -218,8 +218,8 @@ module _ (d : Opened) where
     stand_for kinds text opened = record {
       each = subst (λ ps. AllZip (IsProofStep (book kinds text d)) es ps) (sym all_steps)
           (subst (λ ws. AllZip (IsProofStep (book kinds text d)) ws (steps_from [] (drafts_in items))) (sym (steps_are items))
-            (all_stand kinds text opened [] (drafts_in items) (sound_drafts items sound)
-              (references (drafts_in items) (λ i e at. (provable.steps i e (ap (λ ws. slice_get ws i) (steps_are items) ∙ at)).reference))));
+          (all_stand kinds text opened [] (drafts_in items) (sound_drafts items sound)
+          (references (drafts_in items) (λ i e at. (provable.steps i e (ap (λ ws. slice_get ws i) (steps_are items) ∙ at)).reference))));
       follow = subst (FollowFromUsed []) (sym all_steps) (all_follow [] (drafts_in items));
     }
 

@@ -1,5 +1,5 @@
-use Rattle.std.proofs.Common.{◌≡◌, ◌+◌, ◌≤◌, ◌∙◌, ap, sym, subst, arith, length}
-use Rattle.std.specs.Prelude.{◌-◌, true}
+use Rattle.std.proofs.Common.{◌∙◌, ap, sym, subst, arith, length}
+use Rattle.std.specs.Prelude.{◌-◌}
 use Rattle.std.proofs.lemmas.Result.{IfOk-weaker}
 use Rattle.proof_tree.specs.Given.{used_at}
 use Rattle.proof_tree.specs.Standing.{Proves, StandFor}
@@ -7,7 +7,6 @@ use Rattle.written_steps.specs.Drafts.{book, items_in}
 use Rattle.written_model.specs.WrittenSteps.{steps_in}
 use Rattle.written_model.specs.ProofTrees.{place_proof, step_proofs}
 use Rattle.sheet_text.specs.declared.sheet.Given.TheVariants as place
-use Rattle.sheet_proof.specs.Steps.{proof_steps}
 use Rattle.sheet_proof.specs.Texts.{IsGraphOf}
 use Rattle.sheet_proof.proofs.UsedLaws.{stand_for, last_used, not_empty}
 use Rattle.sheet_proof.proofs.TextLaws.{last_is}
@@ -41,7 +40,7 @@ returns c =
     let root = last_used d c.args.items c.requires.sound c.requires.provable (c.in-Ok.count - 1) (omega (arith, n, e, l, k)) in
     IfOk-weaker c.build.result (Proves d c.as_slice.result.now c.as_slice-2.result.now (c.in-Ok.count - 1)) (IsGraphOf d c.args.theorem.now es)
     (λ nodes p kinds text opened.
-      p kinds text es opened (subst (StandFor (book kinds text d) es) (sym (c.as_slice-2.ensures.value ∙ c.in_ok-steps.ensures)) (stand_for d c.args.items c.requires.sound c.requires.provable kinds text opened))
-      ∙ ap (λ hyps. place_proof (step_proofs (book kinds text d) hyps es) (place.Step (c.in-Ok.count - 1))) c.as_slice.ensures
-      ∙ last_is (book kinds text d) c.args.theorem.now es c.requires.provable.front c.requires.provable.last (c.in-Ok.count - 1) c.requires.provable.whole root.0)
+    p kinds text es opened (subst (StandFor (book kinds text d) es) (sym (c.as_slice-2.ensures.value ∙ c.in_ok-steps.ensures)) (stand_for d c.args.items c.requires.sound c.requires.provable kinds text opened))
+    ∙ ap (λ hyps. place_proof (step_proofs (book kinds text d) hyps es) (place.Step (c.in-Ok.count - 1))) c.as_slice.ensures
+    ∙ last_is (book kinds text d) c.args.theorem.now es c.requires.provable.front c.requires.provable.last (c.in-Ok.count - 1) c.requires.provable.whole root.0)
     c.build.ensures
