@@ -46,7 +46,7 @@ fn check_items(
     if let Some(name) = ambiguous_step(alloc, db, place, items)? {
         return Err(UnifyFault::WrittenTwoTrees(name));
     }
-    let size = written_size(db, place, items)?;
+    let size = written_size(db, place, items);
     if size > MOST_WORK_SIZE {
         return Err(UnifyFault::TooMuchWritten(size));
     }

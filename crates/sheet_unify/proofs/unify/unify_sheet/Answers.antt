@@ -1,9 +1,5 @@
-use Rattle.std.proofs.Common.{subst}
-use Rattle.sheet_read.specs.Faults.{IsFault}
-use Rattle.sheet_text.specs.TextFaults.{line_fault}
 use Rattle.mm_database.specs.Books.{database_of}
-use Rattle.sheet_unify.proofs.TextLaws.{says_of, too_big, text_faulty}
-use Rattle.sheet_unify.proofs.AnswerLaws.{made_writes, none_late}
+use Rattle.sheet_unify.proofs.TextLaws.{says_of, too_big}
 use Rattle.sheet_unify.proofs.unify.unify_sheet.Goals as goal
 
 pub returns-in-Ok-clause-outcome : goal.returns-in-Ok-clause-outcome
@@ -17,8 +13,3 @@ returns-in-Ok-clause-fault c = λ database opened.
 pub returns-then-text-gt-MOST_SHEET_BYTES-clause-fault : goal.returns-then-text-gt-MOST_SHEET_BYTES-clause-fault
 returns-then-text-gt-MOST_SHEET_BYTES-clause-fault c = λ database opened.
     too_big (database_of c.args.options.now.kinds database c.args.db.now.rows c.args.db.now.parsed) c.args.text.now c.args.options.now c.if-text-gt-MOST_SHEET_BYTES.true
-
-pub returns-in-Err-At-clause-fault : goal.returns-in-Err-At-clause-fault
-returns-in-Err-At-clause-fault c = λ database opened.
-    text_faulty (database_of c.args.options.now.kinds database c.args.db.now.rows c.args.db.now.parsed) c.args.text.now c.args.options.now c.in-Err-At.code c.in-Err-At.line
-    c.if-text-gt-MOST_SHEET_BYTES.false (subst (λ e. IsFault e (line_fault c.args.text.now)) c.in-Err-At.field-0-is c.in-Err-At.ensures.first_fault)
