@@ -1,11 +1,11 @@
 -- The text of a proof.
-use Rattle.std.specs.Prelude.{◌≡◌, ◌<◌, ◌≤◌, ◌-◌, ◌+◌, ◌^◌, ℕ, List, [], ◌∷◌, ◌++◌, flat_map, fold, length, min, slice_index_or, unwrap_or, Option, Some, None, refl}
+use Rattle.std.specs.Prelude.{◌≡◌, ◌<◌, ◌≤◌, ◌-◌, ◌+◌, ◌^◌, ℕ, List, [], ◌∷◌, ◌++◌, flat_map, fold, length, slice_index_or, unwrap_or, Option, Some, None, refl}
 use Rattle.std.specs.List.{last_or}
 use Rattle.std.proofs.Common.{sym, ap, ◌∙◌, arith, append-nil, length-append}
 use Rattle.std.proofs.Math.Nat.{min_comm}
 use Rattle.std.proofs.lemmas.Grind.{fold-append}
 use Rattle.fault_lines.specs.Refusals.{told_number}
-use Rattle.mm_database.specs.Opened.{Opened, IsOpened}
+use Rattle.mm_database.specs.Opened.{Opened}
 use Rattle.mm_model.specs.Limits.{most_proof_labels}
 use Rattle.mm_model.specs.Names.{Name}
 use Rattle.mm_model.specs.Book.{Database}
@@ -23,7 +23,7 @@ use Rattle.written_model.specs.Written.{qed_proof, proof_text}
 use Rattle.written_steps.specs.Drafts.{book}
 use Rattle.sheet_proof.specs.declared.text.ProofFault.{ProofFault}
 use Rattle.sheet_proof.specs.declared.text.ProofFault.TheVariants.{TooLong, Memory}
-use Rattle.sheet_proof.specs.Provable.{IsTooLong, IsToldOf}
+use Rattle.sheet_proof.specs.Provable.{IsToldOf}
 use Rattle.sheet_proof.specs.Texts.{IsGraphOf, IsToldIn, behind, text_in}
 
 -- texts parted by spaces are the first, and the others behind a space

@@ -1,16 +1,16 @@
 -- What proves the steps of a finished worksheet stands for them, and `qed` is used.
-use Rattle.std.specs.Prelude.{◌≡◌, ◌<◌, ◌≤◌, ◌+◌, ◌&&◌, ◌||◌, ◌==◌, ℕ, zero, suc, Bool, true, false, List, [], ◌∷◌, ◌++◌, length, map, fold, cond, slice_get, slice_index_or, unwrap_or, option_map, option_and_then, is_none, Contains, Option, Some, None, refl, codes}
+use Rattle.std.specs.Prelude.{◌≡◌, ◌<◌, ◌≤◌, ◌+◌, ◌&&◌, ◌||◌, ◌==◌, ℕ, suc, Bool, true, false, List, [], ◌∷◌, ◌++◌, length, map, fold, cond, slice_get, slice_index_or, unwrap_or, option_map, option_and_then, is_none, Contains, Option, Some, None, refl}
 use Rattle.std.specs.List.{AllByRecursion, AllZip, list_all}
 use Rattle.std.specs.Option.{option_map_or}
 use Rattle.std.proofs.Common.{sym, ap, subst, ◌∙◌, arith, inl, inr, append_assoc, append-nil, length-append}
-use Rattle.std.proofs.lemmas.Bool.{cases_lt, cases_Bool}
+use Rattle.std.proofs.lemmas.Bool.{cases_lt}
 use Rattle.std.proofs.lemmas.List.{length-map}
 use Rattle.mm_base.specs.declared.kinds.Kinds.{Kinds}
 use Rattle.mm_base.specs.declared.symbols.Pair.{Pair}
 use Rattle.mm_model.specs.Book.{Assertion, Database}
 use Rattle.mm_frames.specs.Contents.{Contents}
 use Rattle.mm_frames.proofs.Queries.{frame-is}
-use Rattle.mm_database.specs.Books.{usable_with, database_of}
+use Rattle.mm_database.specs.Books.{usable_with}
 use Rattle.mm_database.specs.Opened.{Opened, IsOpened}
 use Rattle.solve_model.specs.Solutions.{names_step}
 use Rattle.sheet_text.specs.declared.sheet.Given.{Given}
@@ -27,11 +27,11 @@ use Rattle.written_steps.specs.declared.draft.StepUse.{StepUse}
 use Rattle.written_steps.specs.declared.draft.DraftStep.{DraftStep}
 use Rattle.written_steps.specs.declared.draft.DraftItem.{DraftItem}
 use Rattle.written_steps.specs.declared.draft.DraftItem.TheVariants as draft
-use Rattle.written_steps.specs.Drafts.{book, usable_in, use_in, step_in, items_in, drafts_in, IsSoundUse, IsSoundStep, AreSound}
+use Rattle.written_steps.specs.Drafts.{book, use_in, step_in, items_in, drafts_in, IsSoundUse, IsSoundStep, AreSound}
 use Rattle.written_steps.proofs.Kept.{made_of}
 use Rattle.sheet_proof.specs.Provable.{IsProvableStep, IsProvable}
-use Rattle.sheet_proof.specs.Steps.{are_used, hyps_in, is_whole, use_step, bare_step, step_by, proof_step, proof_steps, put_item, step_numbers}
-use Rattle.sheet_proof.proofs.Small.{both, both_true, eq_of, true_or_false, get_left, get_mid, first, later}
+use Rattle.sheet_proof.specs.Steps.{are_used, hyps_in, is_whole, step_by, proof_step, proof_steps, put_item, step_numbers}
+use Rattle.sheet_proof.proofs.Small.{both, both_true, eq_of, get_left, get_mid, first, later}
 
 module _ (d : Opened) where
   abbrev steps_from : List ProofStep → List DraftStep → List ProofStep

@@ -1,5 +1,5 @@
 -- The steps of a finished worksheet, of which the last has a proof.
-use Rattle.std.specs.Prelude.{◌≡◌, ◌<◌, ◌^◌, ℕ, true, List, [], ◌∷◌, ◌++◌, length, slice_get, slice_index_or, unwrap_or, Contains, Some, None, codes}
+use Rattle.std.specs.Prelude.{◌≡◌, ◌<◌, ℕ, true, List, [], ◌∷◌, ◌++◌, length, slice_get, slice_index_or, unwrap_or, Contains, Some, None, codes}
 use Rattle.mm_base.specs.declared.kinds.Kinds.{Kinds}
 use Rattle.mm_base.specs.declared.symbols.Pair.{Pair}
 use Rattle.mm_database.specs.Opened.{Opened, IsOpened}

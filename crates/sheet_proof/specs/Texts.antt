@@ -1,5 +1,5 @@
 -- The text of a proof in a style.
-use Rattle.std.specs.Prelude.{◌≡◌, ◌<◌, ◌≤◌, ◌^◌, ℕ, List, length, flat_map}
+use Rattle.std.specs.Prelude.{◌≡◌, ◌<◌, ◌^◌, ℕ, List, length, flat_map}
 use Rattle.std.specs.Prelude.{◌∷◌}
 use Rattle.mm_base.specs.declared.kinds.Kinds.{Kinds}
 use Rattle.mm_database.specs.Opened.{Opened, IsOpened}

@@ -1,3 +1,8 @@
+ghost use Rattle.std.specs.Prelude.{ℕ, List as ListOf, IfOk, IfErr};
+ghost use Rattle.mm_database.specs.Books.{database_of};
+ghost use Rattle.mm_database.specs.Opened.{IsOpened};
+ghost use Rattle.sheet_unify.specs.Answered.{IsOutcome, IsFaultOf, SaysSheet};
+
 use crate::faults::UnifyFault;
 use crate::judging::filled_items;
 use crate::outcome::Outcome;
@@ -6,7 +11,7 @@ use mm_database::Database;
 use sheet_bind::{bind_sheet, sheet_theorem};
 use sheet_print::{layout, layout_len};
 use sheet_proof::written_proof;
-use sheet_read::read_sheet;
+use sheet_read::{SheetFault, read_sheet};
 use sheet_text::Sheet;
 use sheet_writing::{ambiguous_step, written_sheet, written_size};
 use solve_model::Bound;
@@ -41,7 +46,7 @@ fn check_items(
     if let Some(name) = ambiguous_step(alloc, db, place, items)? {
         return Err(UnifyFault::WrittenTwoTrees(name));
     }
-    let size = written_size(db, place, items)?;
+    let size = written_size(db, place, items);
     if size > MOST_WORK_SIZE {
         return Err(UnifyFault::TooMuchWritten(size));
     }
@@ -159,7 +164,12 @@ pub fn unify_read(
     db: &Database,
     sheet: &Sheet,
     options: &Options,
-) -> Result<Outcome, UnifyFault> {
+) -> Result<Outcome, UnifyFault>
+    ensures outcome { (database text : ListOf ℕ) → IsOpened options.now.kinds database db.now → SaysSheet text sheet.now
+        → IfOk result (IsOutcome (database_of options.now.kinds database db.now.rows db.now.parsed) text options.now) }
+    ensures fault { (database text : ListOf ℕ) → IsOpened options.now.kinds database db.now → SaysSheet text sheet.now
+        → IfErr result (IsFaultOf (database_of options.now.kinds database db.now.rows db.now.parsed) text options.now) }
+{
     let bound = bind_sheet(alloc, db, &options.kinds, sheet)?;
     let items = written_items(alloc, db, sheet, &bound, options)?;
     outcome_of(alloc, db, sheet, &bound, options, items)
@@ -174,10 +184,18 @@ pub fn unify_sheet(
     db: &Database,
     text: &[u8],
     options: &Options,
-) -> Result<Outcome, UnifyFault> {
+) -> Result<Outcome, UnifyFault>
+    ensures outcome { (database : ListOf ℕ) → IsOpened options.now.kinds database db.now
+        → IfOk result (IsOutcome (database_of options.now.kinds database db.now.rows db.now.parsed) text.now options.now) }
+    ensures fault { (database : ListOf ℕ) → IsOpened options.now.kinds database db.now
+        → IfErr result (IsFaultOf (database_of options.now.kinds database db.now.rows db.now.parsed) text.now options.now) }
+{
     if text.len() as u64 > MOST_SHEET_BYTES {
         return Err(UnifyFault::TooBig);
     }
-    let sheet = read_sheet(alloc, text)?;
-    unify_read(alloc, db, &sheet, options)
+    match read_sheet(alloc, text) {
+        Ok(sheet) => unify_read(alloc, db, &sheet, options),
+        Err(SheetFault::At(code, line)) => Err(UnifyFault::Sheet(code, line)),
+        Err(SheetFault::Memory) => Err(UnifyFault::Memory),
+    }
 }

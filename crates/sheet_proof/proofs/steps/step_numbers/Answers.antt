@@ -1,4 +1,3 @@
-use Rattle.sheet_text.specs.declared.sheet.Given.TheVariants as place
 use Rattle.sheet_proof.proofs.Small.{numbers_more}
 use Rattle.sheet_proof.proofs.steps.step_numbers.Goals as goal
 

@@ -1,5 +1,5 @@
-use Rattle.std.proofs.Common.{◌≡◌, ◌+◌, ◌≤◌, ◌∙◌, ap, sym, subst, arith, length}
-use Rattle.std.specs.Prelude.{◌-◌, true}
+use Rattle.std.proofs.Common.{◌∙◌, ap, sym, subst, arith, length}
+use Rattle.std.specs.Prelude.{◌-◌}
 use Rattle.std.proofs.lemmas.Result.{IfOk-weaker}
 use Rattle.proof_tree.specs.Given.{used_at}
 use Rattle.proof_tree.specs.Standing.{Proves, StandFor}
@@ -7,7 +7,6 @@ use Rattle.written_steps.specs.Drafts.{book, items_in}
 use Rattle.written_model.specs.WrittenSteps.{steps_in}
 use Rattle.written_model.specs.ProofTrees.{place_proof, step_proofs}
 use Rattle.sheet_text.specs.declared.sheet.Given.TheVariants as place
-use Rattle.sheet_proof.specs.Steps.{proof_steps}
 use Rattle.sheet_proof.specs.Texts.{IsGraphOf}
 use Rattle.sheet_proof.proofs.UsedLaws.{stand_for, last_used, not_empty}
 use Rattle.sheet_proof.proofs.TextLaws.{last_is}
