@@ -36,6 +36,11 @@ impl From<Memory> for UnifyFault {
 }
 
 impl From<SheetFault> for UnifyFault {
+    ghost use Rattle.std.specs.Prelude.{◌≡◌};
+    ghost use Rattle.sheet_unify.specs.Told.{of_text};
+
+    ghost from_gives = { λ e r. r ≡ of_text e };
+
     fn from(fault: SheetFault) -> UnifyFault {
         match fault {
             SheetFault::At(code, line) => UnifyFault::Sheet(code, line),

@@ -11,7 +11,7 @@ use mm_database::Database;
 use sheet_bind::{bind_sheet, sheet_theorem};
 use sheet_print::{layout, layout_len};
 use sheet_proof::written_proof;
-use sheet_read::{SheetFault, read_sheet};
+use sheet_read::read_sheet;
 use sheet_text::Sheet;
 use sheet_writing::{ambiguous_step, written_sheet, written_size};
 use solve_model::Bound;
@@ -195,7 +195,6 @@ pub fn unify_sheet(
     }
     match read_sheet(alloc, text) {
         Ok(sheet) => unify_read(alloc, db, &sheet, options),
-        Err(SheetFault::At(code, line)) => Err(UnifyFault::Sheet(code, line)),
-        Err(SheetFault::Memory) => Err(UnifyFault::Memory),
+        Err(fault) => Err(UnifyFault::from(fault)),
     }
 }

@@ -1,5 +1,7 @@
+use Rattle.std.proofs.Common.{sym, subst}
 use Rattle.mm_database.specs.Books.{database_of}
-use Rattle.sheet_unify.proofs.TextLaws.{says_of, too_big}
+use Rattle.sheet_unify.specs.Answered.{IsFaultOf}
+use Rattle.sheet_unify.proofs.TextLaws.{says_of, too_big, told_faulty}
 use Rattle.sheet_unify.proofs.unify.unify_sheet.Goals as goal
 
 pub returns-in-Ok-clause-outcome : goal.returns-in-Ok-clause-outcome
@@ -13,3 +15,8 @@ returns-in-Ok-clause-fault c = λ database opened.
 pub returns-then-text-gt-MOST_SHEET_BYTES-clause-fault : goal.returns-then-text-gt-MOST_SHEET_BYTES-clause-fault
 returns-then-text-gt-MOST_SHEET_BYTES-clause-fault c = λ database opened.
     too_big (database_of c.args.options.now.kinds database c.args.db.now.rows c.args.db.now.parsed) c.args.text.now c.args.options.now c.if-text-gt-MOST_SHEET_BYTES.true
+
+pub returns-in-Err-clause-fault : goal.returns-in-Err-clause-fault
+returns-in-Err-clause-fault c = λ database opened.
+    subst (IsFaultOf (database_of c.args.options.now.kinds database c.args.db.now.rows c.args.db.now.parsed) c.args.text.now c.args.options.now) (sym c.from.ensures)
+    (told_faulty (database_of c.args.options.now.kinds database c.args.db.now.rows c.args.db.now.parsed) c.args.text.now c.args.options.now c.in-Err.fault c.if-text-gt-MOST_SHEET_BYTES.false c.in-Err.ensures.first_fault)
