@@ -18,5 +18,6 @@ returns-then-text-gt-MOST_SHEET_BYTES-clause-fault c = λ database opened.
 
 pub returns-in-Err-clause-fault : goal.returns-in-Err-clause-fault
 returns-in-Err-clause-fault c = λ database opened.
-    subst (IsFaultOf (database_of c.args.options.now.kinds database c.args.db.now.rows c.args.db.now.parsed) c.args.text.now c.args.options.now) (sym c.from.ensures)
-    (told_faulty (database_of c.args.options.now.kinds database c.args.db.now.rows c.args.db.now.parsed) c.args.text.now c.args.options.now c.in-Err.fault c.if-text-gt-MOST_SHEET_BYTES.false c.in-Err.ensures.first_fault)
+    let db = database_of c.args.options.now.kinds database c.args.db.now.rows c.args.db.now.parsed in
+    subst (IsFaultOf db c.args.text.now c.args.options.now) (sym c.from.ensures)
+    (told_faulty db c.args.text.now c.args.options.now c.in-Err.fault c.if-text-gt-MOST_SHEET_BYTES.false c.in-Err.ensures.first_fault)
