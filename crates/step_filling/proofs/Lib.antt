@@ -1,3 +1,4 @@
+mod OverTyped
 mod TypedLaws
 pub mod CountLaws
 pub mod DraftLaws

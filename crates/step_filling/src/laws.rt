@@ -1,4 +1,4 @@
-ghost use Rattle.step_filling.specs.Counted.{FormulaIsTyped, TypedIsCounted};
+ghost use Rattle.step_filling.specs.Counted.{FormulaIsTyped, InstanceIsTyped, TypedIsCounted};
 ghost use Rattle.step_filling.specs.Defined.{LongIsFirst, ShortIsShort};
 
 use model_laws::has_database_facts;
@@ -13,10 +13,11 @@ pub fn long_is_first()
 {}
 
 /// A typed tree over the database of a text without a fault has as many tokens as the chain counts.
-/// The formulas of what is bound are typed under each valuation of typed trees.
+/// The formulas of what is bound, and the instances of a candidate's trees, are typed under each valuation of typed trees.
 pub fn typed_is_counted()
     ensures counted { TypedIsCounted }
     ensures formulas { FormulaIsTyped }
+    ensures instances { InstanceIsTyped }
 {
     has_database_facts();
     constants_are_counted();
