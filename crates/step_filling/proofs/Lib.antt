@@ -1,3 +1,4 @@
+mod ChainCountLaws
 mod OverTyped
 mod TypedLaws
 pub mod CountLaws

@@ -1,4 +1,5 @@
 pub mod Answers
+pub mod ChainCounted
 pub mod Counted
 pub mod Defined
 pub mod Filled

@@ -1,6 +1,8 @@
+ghost use Rattle.step_filling.specs.ChainCounted.{ChainIsCounted};
 ghost use Rattle.step_filling.specs.Counted.{FormulaIsTyped, InstanceIsTyped, TypedIsCounted};
 ghost use Rattle.step_filling.specs.Defined.{LongIsFirst, ShortIsShort};
 
+use chain_laws::{bound_is_ready, candidates_are_ready};
 use model_laws::has_database_facts;
 use step_chain::constants_are_counted;
 use writing_laws::count_is_that_of_a_store;
@@ -22,4 +24,13 @@ pub fn typed_is_counted()
     has_database_facts();
     constants_are_counted();
     count_is_that_of_a_store();
+}
+
+/// A chain counts the tokens of the formulas of its steps, and of the `$e` of its accepted candidates, as the definitions do.
+pub fn chain_is_counted()
+    ensures { ChainIsCounted }
+{
+    typed_is_counted();
+    bound_is_ready();
+    candidates_are_ready();
 }
