@@ -4,7 +4,6 @@ use Rattle.std.proofs.Common.{sym, ap, subst, ◌∙◌}
 use Rattle.mm_base.specs.declared.symbols.Sym.{Sym}
 use Rattle.mm_base.specs.declared.symbols.Typecode.{Typecode}
 use Rattle.mm_base.specs.declared.tree.Tree.{Tree}
-use Rattle.mm_base.specs.declared.tree.Tree.TheVariants.{Node}
 use Rattle.mm_base.specs.Trees.{Each, code_of}
 use Rattle.mm_base.proofs.TreeInduction.{tree_ind}
 use Rattle.mm_base.proofs.TreeFacts.{node_held}
@@ -13,7 +12,7 @@ use Rattle.mm_model.specs.Productions.{TypedVariable}
 use Rattle.mm_model.specs.Typed.{IsTyped}
 use Rattle.mm_model.proofs.TypedLaws.{code-Var, code-Node, typed-Node, typed_here, typed_held}
 use Rattle.solve_model.specs.Trees.{Open, replace, leaf_tree}
-use Rattle.solve_model.specs.Solutions.{Asked, IsUnknown, copy}
+use Rattle.solve_model.specs.Solutions.{IsUnknown, copy}
 use Rattle.solve_model.proofs.TreeLaws.{replace-Var, replace-Node}
 use Rattle.solve_laws.specs.ReplacedTypes.{IsTypedAs}
 use Rattle.chain_laws.specs.Layout.{LayerIsOver, IsOver}
@@ -54,7 +53,7 @@ module _ (rows : List Production) (before : ℕ) (vars : List TypedVariable) (a 
 pub instance_is_typed : InstanceIsTyped
 instance_is_typed db bound asked v x valuation among t over typed =
     (over_typed db.rows bound.place x.assertion.vars (λ s c. v (copy x.step s c)) leaf_tree
-        (λ s c m.
-        let on = IsUnknown.in_frame x (record { sym = s; code = c }) among m in
-        record { code = valuation.code (copy x.step s c) on; typed = valuation.typed (copy x.step s c) on })
-        t over typed).typed
+    (λ s c m.
+    let on = IsUnknown.in_frame x (record { sym = s; code = c }) among m in
+    record { code = valuation.code (copy x.step s c) on; typed = valuation.typed (copy x.step s c) on })
+    t over typed).typed

@@ -1,12 +1,12 @@
 -- Typed trees are counted alike, and the formulas of a worksheet are typed under a valuation.
-use Rattle.std.specs.Prelude.{◌≡◌, ℕ, ◌+◌, List, [], ◌∷◌, count_by, if◌then◌else◌, slice_get, slice_index_or, Contains, Option, Some, None, refl}
+use Rattle.std.specs.Prelude.{◌≡◌, ℕ, ◌+◌, List, [], ◌∷◌, count_by, if◌then◌else◌, slice_get, Contains, Option, Some, None, refl}
 use Rattle.std.proofs.Common.{sym, ap, subst, ◌∙◌}
 use Rattle.std.proofs.lemmas.List.Sums.{sum_by-cons}
 use Rattle.mm_base.specs.declared.tree.Tree.{Tree}
 use Rattle.mm_base.specs.declared.tree.Tree.TheVariants.{Var}
 use Rattle.mm_model.specs.declared.rows.Item.{Item}
 use Rattle.mm_model.specs.declared.rows.Item.TheVariants as item
-use Rattle.mm_model.specs.Typed.{IsTyped}
+use Rattle.mm_model.specs.Typed.{IsTyped, HasNoFresh}
 use Rattle.mm_model.specs.Book.{Database}
 use Rattle.mm_model.proofs.TypedLaws.{code-Var, typed-Var}
 use Rattle.model_laws.specs.DatabaseLaws.{HasDatabaseFacts}
@@ -18,7 +18,6 @@ use Rattle.solve_laws.specs.ReplacedTypes.{IsTypedAs}
 use Rattle.solve_laws.proofs.NoFresh.{no_fresh_leaf}
 use Rattle.again_laws.proofs.Lists.{index_from_get}
 use Rattle.again_laws.proofs.TypedOn.{replaced_on}
-use Rattle.mm_model.specs.Typed.{HasNoFresh}
 use Rattle.writing_laws.specs.StoreCounts as store
 use Rattle.chain_laws.specs.Adding as chain
 use Rattle.chain_laws.specs.Layout.{IsReadyBound, IsReadyFormula}
@@ -36,7 +35,7 @@ same_count (item.Slot k ∷ is) =
 pub typed_is_counted : HasDatabaseFacts → ConstantsAreCounted → store.CountIsTokens → TypedIsCounted
 typed_is_counted facts counted tokens kinds text db is ok before t typed =
     tokens db.rows (chain.constants_in db.rows) before t (facts kinds text db is ok).grammar
-        (λ l r row. counted kinds text db is ok l r row ∙ same_count r.items) typed
+    (λ l r row. counted kinds text db is ok l r row ∙ same_count r.items) typed
 
 module _ (db : Database) (bound : Bound) (asked : List Asked) (v : Valuation) (valuation : IsValuation db bound.place (IsUnknown bound asked) v) where
   open_typed : (k : ℕ) (b : BoundStep) (t : Tree) → slice_get bound.steps k ≡ Some b → b.tree ≡ Some t → HasNoFresh t
@@ -54,7 +53,7 @@ module _ (db : Database) (bound : Bound) (asked : List Asked) (v : Valuation) (v
   step_typed : IsReadyBound db bound → (k : ℕ) (b : BoundStep) → slice_get bound.steps k ≡ Some b → IsTyped db.rows bound.place (formula bound v k)
   step_typed ready k b at =
       subst (λ o. IsTyped db.rows bound.place (formula_value v k o)) (sym (ap (λ (x : BoundStep). x.tree) (index_from_get bound.steps k b no_step at)))
-          (value_typed k b at b.tree refl (all_at (λ (s : BoundStep). IsReadyFormula db bound.place s.tree) bound.steps k b ready at))
+      (value_typed k b at b.tree refl (all_at (λ (s : BoundStep). IsReadyFormula db bound.place s.tree) bound.steps k b ready at))
 
 pub formula_is_typed : FormulaIsTyped
 formula_is_typed db bound asked v ready valuation k b at = step_typed db bound asked v valuation ready k b at
