@@ -1,6 +1,6 @@
 use mm_base::{
-    Bytes, HostSink, HostStore, Label, List, MOST_DATABASE_BYTES, MemSink, MemStore, Memory, Pair, ReadStop,
-    ReplaceStop, Sink, Store, Sym, Tree, Typecode,
+    Bytes, HostSink, HostStore, Label, List, MOST_DATABASE_BYTES, MemSink, MemStore, Memory, Pair,
+    ReadStop, ReplaceStop, Sink, Store, Sym, Tree, Typecode,
 };
 use std::alloc::{AllocError, Global};
 use std::io::Write;

@@ -44,7 +44,9 @@ fn names(alloc: Global, words: &[&'static [u8]]) -> Result<List<Name>, Memory> {
 // The code that a text spells where these are the mandatory hypotheses.
 fn decoded(alloc: Global, text: &[u8], mandatory: &[&'static [u8]]) -> Result<Code, CodeFault> {
     let mandatory = names(alloc, mandatory)?;
-    if text.len() as u64 > MOST_DATABASE_BYTES || mandatory.as_slice().len() as u64 > MOST_DATABASE_BYTES {
+    if text.len() as u64 > MOST_DATABASE_BYTES
+        || mandatory.as_slice().len() as u64 > MOST_DATABASE_BYTES
+    {
         return Err(CodeFault::Memory);
     }
     decode(alloc, text, &mandatory)
