@@ -1,6 +1,6 @@
 -- The typecodes of work variables, each once: the first that reads a token stays.
 use Rattle.std.specs.Prelude.{◌≡◌, ℕ, ◌==◌, ◌&&◌, ◌||◌, not, Bool, true, false, List, [], ◌∷◌, ◌++◌, fold, filter_map, slice_get, Option, Some, None, refl}
-use Rattle.std.specs.List.{cons_option, list_any}
+use Rattle.std.specs.List.{cons_option}
 use Rattle.std.specs.Option.{option_or}
 use Rattle.std.proofs.Common.{arith, sym, ap, ◌∙◌, cond, inl, inr}
 use Rattle.std.proofs.lemmas.Bool.{cases_Bool}

@@ -1,9 +1,7 @@
 -- Lists that are made element by element.
-use Rattle.std.specs.Prelude.{◌≡◌, ◌<◌, ◌≤◌, ◌+◌, ℕ, suc, nat_lt, option_map, position, Bool, true, false, List, [], ◌∷◌, ◌++◌, not, length, take, fold, filter, Option, Some, None, refl}
-use Rattle.std.specs.List.{filter_map, cons_option, position_or_len}
-use Rattle.std.proofs.Common.{arith, sym, ap, ◌∙◌, append-nil, get_or, cond, inl, inr}
-use Rattle.std.proofs.lemmas.Bool.{cases_lt, lt-ltb}
-use Rattle.std.proofs.lemmas.List.Sums.{prefix_len-le-length}
+use Rattle.std.specs.Prelude.{◌≡◌, ◌<◌, ◌+◌, ℕ, Bool, true, false, List, [], ◌∷◌, ◌++◌, not, length, take, fold, filter, Option, Some, None, refl}
+use Rattle.std.specs.List.{filter_map, cons_option}
+use Rattle.std.proofs.Common.{sym, ap, ◌∙◌, append-nil, get_or, cond}
 use Rattle.std.proofs.lemmas.List.{take_more}
 use Rattle.std.proofs.lemmas.List.Elements.{filter_map-append}
 use Rattle.sheet_bind.specs.Lists.{put_some}

@@ -1,5 +1,5 @@
 -- The theorem's place is one of the database.
-use Rattle.std.specs.Prelude.{◌≡◌, ◌<◌, ◌≤◌, ◌+◌, ◌-◌, ℕ, zero, suc, Bool, true, false, List, [], find, ◌^◌, length, min, nat_lt, unwrap_or, Option, Some, None, option_and_then, refl}
+use Rattle.std.specs.Prelude.{◌≡◌, ◌<◌, ◌≤◌, ◌+◌, ◌-◌, ℕ, zero, suc, Bool, true, false, List, [], find, length, min, unwrap_or, Option, Some, None, option_and_then, refl}
 use Rattle.std.specs.List.{range_with_len}
 use Rattle.std.specs.Option.{option_map_or}
 use Rattle.std.proofs.Common.{arith, sym, ap, subst, ◌∙◌, cond, inl, inr}
@@ -10,9 +10,7 @@ use Rattle.mm_base.specs.declared.symbols.Label.{Label}
 use Rattle.mm_model.specs.declared.frames.Frame.{Frame}
 use Rattle.mm_model.specs.Frames.{frame_of, place_after}
 use Rattle.mm_model.specs.Names.{Name, label_named}
-use Rattle.mm_model.specs.Faults.{Fault}
-use Rattle.mm_model.specs.Tokens.{token_fault}
-use Rattle.mm_model.specs.Statements.{Statement, statements, statement_fault, database_fault}
+use Rattle.mm_model.specs.Statements.{Statement, statements, database_fault}
 use Rattle.mm_frames.specs.Contents.{Contents, contents_of, frame_at}
 use Rattle.mm_frames.proofs.Queries.{frame-is}
 use Rattle.mm_database.specs.Books.{database_of}

@@ -1,9 +1,9 @@
 -- What tokens are at the theorem's place, as the definitions say it.
-use Rattle.std.specs.Prelude.{◌≡◌, ◌<◌, ◌≤◌, ℕ, ◌⊎◌, ◌==◌, Bool, true, false, List, [], ◌∷◌, length, drop, filter, filter_map, nat_lt, slice_get, slice_index_or, Option, Some, None, option_map, is_some, refl}
-use Rattle.std.specs.List.{cons_option, list_all, list_any, position_or_len}
+use Rattle.std.specs.Prelude.{◌≡◌, ◌<◌, ◌≤◌, ℕ, ◌⊎◌, ◌==◌, Bool, true, false, List, length, drop, filter_map, nat_lt, slice_get, slice_index_or, Option, Some, None, option_map, is_some, refl}
+use Rattle.std.specs.List.{list_all, list_any, position_or_len}
 use Rattle.std.specs.Option.{option_map_or}
 use Rattle.std.specs.Str.{bytes_eq}
-use Rattle.std.proofs.Common.{arith, sym, ap, subst, ◌∙◌, cond, inl, inr}
+use Rattle.std.proofs.Common.{arith, ap, subst, ◌∙◌, cond, inl, inr}
 use Rattle.std.proofs.lemmas.Bool.Decides.{nat_tests}
 use mathlib.Core.Path.{fun_ext}
 use Rattle.mm_base.specs.declared.kinds.Kinds.{Kinds}

@@ -1,5 +1,5 @@
 -- The theorem's place in a database, and what is kept of it.
-use Rattle.std.specs.Prelude.{ℕ, ◌==◌, ◌&&◌, not, Bool, false, List, [], ◌∷◌, ◌++◌, length, fold, filter, replicate, if◌then◌else◌, Option, None, option_map, option_and_then}
+use Rattle.std.specs.Prelude.{ℕ, ◌==◌, ◌&&◌, not, Bool, false, List, [], ◌∷◌, ◌++◌, length, fold, replicate, if◌then◌else◌, Option, None, option_map, option_and_then}
 use Rattle.std.specs.List.{list_any}
 use Rattle.std.specs.Option.{option_map_or}
 use Rattle.mm_base.specs.declared.symbols.Typecode.{Typecode}

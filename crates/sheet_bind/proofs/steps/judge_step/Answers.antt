@@ -1,7 +1,6 @@
-use Rattle.std.proofs.Common.{◌≡◌, ◌∙◌, ap, sym, option_map, Bool, List}
+use Rattle.std.proofs.Common.{◌∙◌, ap, sym, option_map, Bool}
 use Rattle.std.proofs.lemmas.Result.{IfOk-weaker}
 use Rattle.mm_model.specs.Faults.{fault, earlier}
-use Rattle.mm_model.specs.Names.{Name}
 use Rattle.mm_frames.specs.Contents.{Contents}
 use Rattle.sheet_bind.specs.Found.{found}
 use Rattle.sheet_bind.specs.Rules.{word_tests, asks}
