@@ -50,7 +50,7 @@ ORDER = [
         ("FaultLines", "the lines of faults", "FORMAT, Report and log lines"),
     ]),
     ("trial_texts", "The texts of the trial of the program by itself.", [
-        ("TrialTexts", "a database, and a worksheet of any number of blocks", "FORMAT, The trial"),
+        ("TrialTexts", "a database, and a worksheet of any number of blocks", ""),
     ]),
     ("proof_model", "Proofs.", [
         ("Proofs", "proofs as trees of labels", "book 4.3"),
@@ -91,11 +91,11 @@ ORDER = [
         ("WrittenAgain", "laws: written again as itself, and the answer is one", ""),
     ]),
     ("call_answers", "What a call of the program answers.", [
-        ("CommandLine", "the words of the command line", "FORMAT, Command words"),
+        ("CommandLine", "the words of the command line, with the options and the command `trial` that are not built yet; those of the program so far stand in `mmp/specs/CommandWords`", ""),
         ("Verified", "what `verify` says of a label", "FORMAT, The proof code, The stack machine"),
         ("Endings", "what an answer has for the output and for the log, and its status", "FORMAT, Statuses"),
-        ("Trial", "the trial of the program by itself", "FORMAT, The trial"),
-        ("CallAnswers", "the answer by cases: the main theorem", "FORMAT, Statuses"),
+        ("Trial", "the trial of the program by itself, not built yet", ""),
+        ("CallAnswers", "the answer by cases: the main theorem, which `run` does not cite yet", "FORMAT, Statuses"),
     ]),
 ]
 
