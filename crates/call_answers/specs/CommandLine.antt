@@ -104,7 +104,7 @@ abbrev pub most_trial_blocks : ℕ
 most_trial_blocks = 1000
 
 -- a number from 1, in decimal
-abbrev pub trial_number : Name → Option ℕ
+unfoldable pub trial_number : Name → Option ℕ
 trial_number word = find (λ n. bytes_eq (decimal n) word) (range_with_len 1 most_trial_blocks)
 
 abbrev pub trial_of : List Name → Option Command

@@ -5,7 +5,7 @@ use Rattle.proof_model.specs.ExampleFrames.{split}
 use Rattle.written_model.specs.declared.options.DvMode.TheVariants as dv
 use Rattle.written_model.specs.declared.options.Options.{Options}
 use Rattle.written_model.specs.declared.options.ProofStyle.TheVariants as style
-use Rattle.call_answers.specs.CommandLine.{Command, unify, verify, trial, command_of}
+use Rattle.call_answers.specs.CommandLine.{Command, unify, verify, trial, trial_number, command_of}
 
 abbrev command : List ℕ → Option Command
 command line = command_of (split line)
@@ -34,7 +34,7 @@ pub verified : command (codes "verify V.mm good") ≡ Some (verify (record { dat
 verified = refl
 
 pub tried : command (codes "trial 12") ≡ Some (trial 12)
-unfolding digits
+unfolding digits trial_number
 tried = refl
 
 abbrev is_command : List ℕ → Bool
@@ -58,9 +58,9 @@ pub no_words : map (λ words. is_some (command_of words)) ([] ∷ (codes "unify"
 no_words = refl
 
 pub no_trial : map is_command (codes "trial 0" ∷ codes "trial 01" ∷ codes "trial 1001" ∷ codes "trial +1" ∷ []) ≡ false ∷ false ∷ false ∷ false ∷ []
-unfolding digits
+unfolding digits trial_number
 no_trial = refl
 
 pub most_trial : is_command (codes "trial 1000") ≡ true
-unfolding digits
+unfolding digits trial_number
 most_trial = refl

@@ -2,6 +2,7 @@ pub mod CallAnswers
 pub mod CommandLine
 pub mod CommandLineExamples
 pub mod Endings
+pub mod Given
 pub mod Trial
 pub mod TrialAnswerExamples
 pub mod Verified

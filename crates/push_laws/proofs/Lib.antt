@@ -1,28 +1,28 @@
-mod ActiveHyps
-mod Books
+pub mod ActiveHyps
+pub mod Books
 mod CodeLaw
 mod Declared
 mod Distinct
 mod Entries
-mod Facts
+pub mod Facts
 mod FilledSheet
-mod FilledSteps
+pub mod FilledSteps
 mod Filling
 mod FrameApart
-mod Lists
+pub mod Lists
 mod NoOther
 mod Pairs
 mod Parts
-mod QedLaw
+pub mod QedLaw
 mod ReadHyps
 mod ReadTheorem
 mod ReadTrees
 mod Replaced
 mod Runs
-mod Searched
+pub mod Searched
 mod Solved
 mod StepLaw
-mod StepProofs
+pub mod StepProofs
 mod Substituted
 mod TheoremHyps
 mod Tokens
@@ -32,4 +32,4 @@ mod UseProofs
 mod Values
 mod WritableLaw
 mod WrittenProof
-mod WrittenSheet
+pub mod WrittenSheet

@@ -1,1 +1,3 @@
-pub mod LaidOut
+pub mod Answered
+pub mod Lines
+pub mod Told

@@ -1,23 +1,19 @@
-//! Unifies a worksheet with an opened database: finds for each step whether its reference fits, and writes the worksheet
-//! back, with its proof where it is finished.
-//!
-//! So far this is built for new theorems at the end of the database, whose formulas are all given. What is not built is
-//! answered by `NotBuilt`, and never by a wrong answer.
+//! Unifies a worksheet with an opened database, and writes it back with its report.
 #![tactic(auto)]
 
-mod assertion;
-mod compressed;
 mod faults;
-mod graph;
 mod judging;
-mod normal;
-mod proof;
-mod report;
-mod scope;
-mod steps;
-mod substitution;
+mod lines;
+mod outcome;
+mod refusal_line;
 mod unify;
+mod words;
 
 pub use faults::UnifyFault;
-pub use report::report_lines;
-pub use unify::{Outcome, unify_sheet};
+pub use lines::report_lines;
+pub use outcome::Outcome;
+pub use refusal_line::fault_line;
+pub use sheet_bind::BindCode;
+pub use sheet_read::SheetCode;
+pub use unify::{unify_read, unify_sheet};
+pub use written_model::{DvMode, Options, ProofStyle, ReportLine, ReportVerdict};

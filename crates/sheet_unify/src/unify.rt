@@ -1,101 +1,73 @@
-ghost use Rattle.std.specs.Prelude.{IfOk};
-ghost use Rattle.sheet_unify.specs.LaidOut.{IsLaidOut};
+ghost use Rattle.std.specs.Prelude.{ℕ, List as ListOf, IfOk, IfErr};
+ghost use Rattle.mm_database.specs.Books.{database_of};
+ghost use Rattle.mm_database.specs.Opened.{IsOpened};
+ghost use Rattle.sheet_unify.specs.Answered.{IsOutcome, IsFaultOf, SaysSheet};
 
 use crate::faults::UnifyFault;
-use crate::graph::ProofGraph;
-use crate::judging::{Judgement, judge_all};
-use crate::proof::proof_text;
-use crate::report::report_of;
-use crate::scope::Scope;
-use crate::steps::{Step, read_steps};
-use mm_base::{Bytes, List, MOST_SHEET_BYTES};
+use crate::judging::filled_items;
+use crate::outcome::Outcome;
+use mm_base::{Bytes, List, MOST_SHEET_BYTES, MOST_WORK_SIZE, Memory};
 use mm_database::Database;
+use sheet_bind::{bind_sheet, sheet_theorem};
 use sheet_print::{layout, layout_len};
+use sheet_proof::written_proof;
+use sheet_read::read_sheet;
 use sheet_text::Sheet;
+use sheet_writing::{ambiguous_step, written_sheet, written_size};
+use solve_model::Bound;
 use std::alloc::Global;
+use step_naming::name_items;
+use step_report::{is_finished, report_of, written_pairs};
+use step_searching::search_items;
 use written_model::{Options, ReportLine};
+use written_steps::DraftItem;
 
-/// What came of a worksheet.
-#[derive(Debug, Drop)]
-pub struct Outcome {
-    /// The written worksheet, with its proof where it is finished.
-    pub text: Bytes,
-    /// One line for each written step, in order.
-    pub report: List<ReportLine>,
-    /// Whether `qed` and all steps that it rests on are hypotheses or fit.
-    pub finished: bool,
-}
-
-/// Unifies a worksheet for a new theorem at the end of a database, whose formulas are all given, over the database that
-/// was opened with the kinds of the options. The worksheet is written with its comments and steps as they are, and with
-/// its proof where it is finished. It takes one pass over the statements of the database, and beyond that time that
-/// depends on the worksheet and the assertions that it names.
-///
-/// # Errors
-/// `NotBuilt` where the worksheet has a fault or something that is not built yet: another place than the end of the
-/// database, `$e` that are active there, work variables, blank formulas, `?`, `$d`, steps without a reference, with fewer
-/// places than it has `$e` or with places that fit in another order alone, and steps that fit an assertion with mandatory
-/// pairs; or where the worksheet or its proof is larger than the limits. `Memory` where memory ran out.
-pub fn unify_sheet(
+/// The steps as they are written: filled, with names for their new work variables and with the references that are found.
+fn written_items(
     alloc: Global,
     db: &Database,
     sheet: &Sheet,
+    bound: &Bound,
     options: &Options,
-) -> Result<Outcome, UnifyFault>
-    ensures { IfOk result (λ outcome. IsLaidOut sheet.now outcome.text) }
-{
-    let scope = Scope::at_end(alloc, db, &options.kinds)?;
-    unify_in(alloc, &scope, sheet, options)
+) -> Result<List<DraftItem>, UnifyFault> {
+    let filled = filled_items(alloc, db, &options.kinds, sheet, bound)?;
+    let named = name_items(alloc, db, bound, filled)?;
+    let given = &bound.pairs;
+    Ok(search_items(alloc, db, bound.place, options.dv, given, named)?)
 }
 
-/// Unifies a worksheet in a scope.
-fn unify_in(
+/// The first fault of what is to be written, of those that its steps alone have.
+fn check_items(
     alloc: Global,
-    scope: &Scope,
-    sheet: &Sheet,
-    options: &Options,
-) -> Result<Outcome, UnifyFault>
-    ensures { IfOk result (λ outcome. IsLaidOut sheet.now outcome.text) }
-{
-    let steps = read_steps(alloc, scope, sheet)?;
-    unify_steps(alloc, scope, sheet, options, steps.as_slice())
-}
-
-/// Unifies a worksheet that has these steps.
-fn unify_steps(
-    alloc: Global,
-    scope: &Scope,
-    sheet: &Sheet,
-    options: &Options,
-    steps: &[Step],
-) -> Result<Outcome, UnifyFault>
-    ensures { IfOk result (λ outcome. IsLaidOut sheet.now outcome.text) }
-{
-    let judgements = judge_all(alloc, scope, steps)?;
-    outcome_of(alloc, scope, sheet, options, steps, judgements.as_slice())
-}
-
-/// What comes of a worksheet from the judgements on its steps.
-fn outcome_of(
-    alloc: Global,
-    scope: &Scope,
-    sheet: &Sheet,
-    options: &Options,
-    steps: &[Step],
-    judgements: &[Judgement],
-) -> Result<Outcome, UnifyFault>
-    ensures { IfOk result (λ outcome. IsLaidOut sheet.now outcome.text) }
-{
-    let proof = proof_of(alloc, options, scope, steps, judgements)?;
-    let text = written_text(alloc, sheet, bytes_of(&proof))?;
-    match report_of(alloc, steps, judgements) {
-        Ok(report) => Ok(Outcome {
-            text,
-            report,
-            finished: proof.is_some(),
-        }),
-        Err(_) => Err(UnifyFault::Memory),
+    db: &Database,
+    place: u32,
+    items: &[DraftItem],
+) -> Result<(), UnifyFault> {
+    if let Some(name) = ambiguous_step(alloc, db, place, items)? {
+        return Err(UnifyFault::WrittenTwoTrees(name));
     }
+    let size = written_size(db, place, items);
+    if size > MOST_WORK_SIZE {
+        return Err(UnifyFault::TooMuchWritten(size));
+    }
+    Ok(())
+}
+
+/// The proof of a finished worksheet; none of another.
+fn proof_of(
+    alloc: Global,
+    db: &Database,
+    options: &Options,
+    written: &Sheet,
+    items: List<DraftItem>,
+    finished: bool,
+) -> Result<Option<Bytes>, UnifyFault> {
+    if !finished {
+        return Ok(None);
+    }
+    let theorem = sheet_theorem(alloc, db, &options.kinds, written)?;
+    let proof = written_proof(alloc, db, options.style, &theorem, items)?;
+    Ok(Some(proof))
 }
 
 fn bytes_of(text: &Option<Bytes>) -> Option<&[u8]> {
@@ -105,60 +77,124 @@ fn bytes_of(text: &Option<Bytes>) -> Option<&[u8]> {
     }
 }
 
-/// The worksheet as it is written.
-fn written_text(alloc: Global, sheet: &Sheet, proof: Option<&[u8]>) -> Result<Bytes, UnifyFault>
-    ensures { IfOk result (IsLaidOut sheet.now) }
-{
-    if layout_len(sheet, proof) > MOST_SHEET_BYTES {
-        return Err(UnifyFault::NotBuilt);
+/// The text of a worksheet with its proof.
+fn laid_out(alloc: Global, written: &Sheet, proof: &Option<Bytes>) -> Result<Bytes, UnifyFault> {
+    let proof = bytes_of(proof);
+    let length = layout_len(written, proof);
+    if length > MOST_SHEET_BYTES {
+        return Err(UnifyFault::TooLarge(length));
     }
-    Ok(layout(alloc, sheet, proof)?)
+    Ok(layout(alloc, written, proof)?)
 }
 
-/// The proof of a worksheet that is finished; none where it is not.
-fn proof_of(
+/// The worksheet that is written, without its proof.
+fn sheet_of(
     alloc: Global,
+    db: &Database,
+    sheet: &Sheet,
+    bound: &Bound,
     options: &Options,
-    scope: &Scope,
-    steps: &[Step],
-    judgements: &[Judgement],
-) -> Result<Option<Bytes>, UnifyFault> {
-    let below = below_qed(alloc, steps)?;
-    if !is_finished(&below, judgements) {
-        return Ok(None);
-    }
-    let graph = ProofGraph::of(alloc, scope, steps, judgements, &below)?;
-    Ok(Some(proof_text(alloc, options.style, scope, steps, &graph)?))
+    items: &[DraftItem],
+) -> Result<Sheet, Memory> {
+    let pairs = written_pairs(alloc, db, options.dv, &bound.pairs, items)?;
+    let provable = options.kinds.provable.as_slice();
+    written_sheet(alloc, db, provable, sheet, items, pairs.as_slice())
 }
 
-/// Whether each step is `qed`, or listed on the way to it.
-fn below_qed(alloc: Global, steps: &[Step]) -> Result<Vec<bool>, UnifyFault> {
-    let mut below = vec![in alloc; false; steps.len()]?;
-    if let Some(qed) = below.last_mut() {
-        *qed = true;
-    }
-    for (number, step) in steps.iter().enumerate().rev() {
-        if below.get(number) == Some(&true) {
-            mark(&mut below, step.places.as_slice());
-        }
-    }
-    Ok(below)
+/// The text of the written worksheet.
+fn text_of(
+    alloc: Global,
+    db: &Database,
+    sheet: &Sheet,
+    bound: &Bound,
+    options: &Options,
+    items: List<DraftItem>,
+    finished: bool,
+) -> Result<Bytes, UnifyFault> {
+    let written = sheet_of(alloc, db, sheet, bound, options, items.as_slice())?;
+    let proof = proof_of(alloc, db, options, &written, items, finished)?;
+    laid_out(alloc, &written, &proof)
 }
 
-fn mark(below: &mut [bool], places: &[u32]) {
-    for place in places {
-        if let Some(mark) = below.get_mut(*place as usize) {
-            *mark = true;
-        }
+/// The report on the written steps, and whether the worksheet is finished.
+fn report_on(
+    alloc: Global,
+    db: &Database,
+    bound: &Bound,
+    options: &Options,
+    items: &[DraftItem],
+) -> Result<(List<ReportLine>, bool), Memory> {
+    let report = report_of(alloc, db, options.dv, &bound.pairs, items)?;
+    match is_finished(alloc, db, items, &report) {
+        Ok(finished) => Ok((report, finished)),
+        Err(_) => Err(Memory),
     }
 }
 
-/// Whether each of these steps is a hypothesis or fits.
-fn is_finished(below: &[bool], judgements: &[Judgement]) -> bool {
-    for (is_below, judgement) in below.iter().zip(judgements) {
-        if *is_below && matches!(judgement, Judgement::SetAside(_)) {
-            return false;
-        }
+/// What comes of a worksheet that becomes these steps.
+fn outcome_of(
+    alloc: Global,
+    db: &Database,
+    sheet: &Sheet,
+    bound: &Bound,
+    options: &Options,
+    items: List<DraftItem>,
+) -> Result<Outcome, UnifyFault> {
+    check_items(alloc, db, bound.place, items.as_slice())?;
+    let (report, finished) = report_on(alloc, db, bound, options, items.as_slice())?;
+    match text_of(alloc, db, sheet, bound, options, items, finished) {
+        Ok(text) => Ok(Outcome {
+            text,
+            report,
+            finished,
+        }),
+        Err(fault) => Err(fault),
     }
-    true
+}
+
+/// Unifies a worksheet that was read over the database that was opened with the kinds of the options. It takes a pass over the
+/// statements of the database, and beyond that time that depends on the worksheet, on the assertions that it names and on
+/// those that a search looks at.
+///
+/// # Errors
+/// The first fault against the database, and then the first of what is to be written, in this order: a formula that is too
+/// long, one that has two trees, the work size, the labels of a normal proof, the bytes; and `Memory` where memory runs out.
+pub fn unify_read(
+    alloc: Global,
+    db: &Database,
+    sheet: &Sheet,
+    options: &Options,
+) -> Result<Outcome, UnifyFault>
+    ensures outcome { (database text : ListOf ℕ) → IsOpened options.now.kinds database db.now → SaysSheet text sheet.now
+        → IfOk result (IsOutcome (database_of options.now.kinds database db.now.rows db.now.parsed) text options.now) }
+    ensures fault { (database text : ListOf ℕ) → IsOpened options.now.kinds database db.now → SaysSheet text sheet.now
+        → IfErr result (IsFaultOf (database_of options.now.kinds database db.now.rows db.now.parsed) text options.now) }
+{
+    let bound = bind_sheet(alloc, db, &options.kinds, sheet)?;
+    let items = written_items(alloc, db, sheet, &bound, options)?;
+    outcome_of(alloc, db, sheet, &bound, options, items)
+}
+
+/// Reads the text of a worksheet, and unifies it over the database that was opened with the kinds of the options.
+///
+/// # Errors
+/// `TooBig` where the text has more than 2^24 bytes; then the first fault of the text; then those of `unify_read`.
+pub fn unify_sheet(
+    alloc: Global,
+    db: &Database,
+    text: &[u8],
+    options: &Options,
+) -> Result<Outcome, UnifyFault>
+    ensures outcome { (database : ListOf ℕ) → IsOpened options.now.kinds database db.now
+        → IfOk result (IsOutcome (database_of options.now.kinds database db.now.rows db.now.parsed) text.now options.now) }
+    ensures fault { (database : ListOf ℕ) → IsOpened options.now.kinds database db.now
+        → IfErr result (IsFaultOf (database_of options.now.kinds database db.now.rows db.now.parsed) text.now options.now) }
+{
+    if text.len() as u64 > MOST_SHEET_BYTES {
+        return Err(UnifyFault::TooBig);
+    }
+    match read_sheet(alloc, text) {
+        Ok(sheet) => unify_read(alloc, db, &sheet, options),
+        Err(fault) => Err(UnifyFault::from(fault)),
+    }
 }

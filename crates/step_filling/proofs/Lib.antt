@@ -1,6 +1,9 @@
-pub mod WantedLaws
-pub mod NameLaws
-pub mod DraftLaws
-pub mod StepLaws
-pub mod ItemLaws
+mod ChainCountLaws
+mod OverTyped
+mod TypedLaws
 pub mod CountLaws
+pub mod DraftLaws
+pub mod ItemLaws
+pub mod NameLaws
+pub mod StepLaws
+pub mod WantedLaws

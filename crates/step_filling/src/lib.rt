@@ -14,4 +14,4 @@ mod wanted;
 
 pub use fault::FillFault;
 pub use filling::fill_items;
-pub use laws::long_is_first;
+pub use laws::{chain_is_counted, long_is_first, typed_is_counted};

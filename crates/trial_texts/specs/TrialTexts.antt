@@ -13,7 +13,7 @@ database_lines =
     ∷ codes "${" ∷ codes "  min $e |- ph $." ∷ codes "  maj $e |- ( ph -> ps ) $." ∷ codes "  ax-mp $a |- ps $." ∷ codes "$}"
     ∷ codes "ax-1 $a |- ( ph -> ( ps -> ph ) ) $." ∷ codes "ax-2 $a |- ( ( ph -> ( ps -> ch ) ) -> ( ( ph -> ps ) -> ( ph -> ch ) ) ) $." ∷ []
 
-abbrev pub trial_database : List ℕ
+unfoldable pub trial_database : List ℕ
 trial_database = flat_map ended database_lines
 
 -- ---- formulas
@@ -37,7 +37,7 @@ formula_within (suc n) k =
     else (if k % 2 == 1 then implies (formula_within n ((k - 1) / 2)) ph
     else not_ (formula_within n (k / 2)))))
 
-abbrev pub trial_formula : ℕ → List Name
+unfoldable pub trial_formula : ℕ → List Name
 trial_formula k = formula_within (suc k) k
 
 -- ---- the worksheet
@@ -82,5 +82,5 @@ block_lines count k =
     else identity_lines k (in_block (codes "f") k) (trial_formula (k - 1)) ++ joining_lines k (end_name count k)
 
 -- the worksheet of so many blocks
-abbrev pub trial_sheet : ℕ → List ℕ
+unfoldable pub trial_sheet : ℕ → List ℕ
 trial_sheet count = flat_map ended (codes "$( <MM> <PROOF_ASST> THEOREM=trial LOC_AFTER=?" ∷ flat_map (block_lines count) (range_with_len 1 count) ++ codes "$)" ∷ [])

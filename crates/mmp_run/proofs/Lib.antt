@@ -1,0 +1,11 @@
+mod Blocks
+mod Delivered
+mod Letters
+mod MayEnd
+mod OptionWords
+mod Refusals
+mod Stands
+mod Theorems
+mod Trials
+mod Unified
+mod Verdicts

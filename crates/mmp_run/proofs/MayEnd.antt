@@ -1,0 +1,165 @@
+-- How a call may end, from what was found under the names of its files and what the texts gave.
+use Rattle.std.proofs.Common.{◌≡◌, ◌≢◌, ◌⊎◌, ◌≤◌, ℕ, Bool, true, false, List, Option, Some, None, Result, Ok, Err, IfSome, IsSomeAnd, IfOk, refl, sym, ◌∙◌, ap, subst, inl, inr, arith}
+use Rattle.std.specs.Option.{option_and_then}
+use Rattle.call_answers.specs.declared.ending.Ending.{Ending}
+use Rattle.call_answers.specs.CallAnswers.{CallAnswer, bad_words, bad_database, bad_worksheet, unified, verdict, tried, HasDatabase, database_of}
+use Rattle.call_answers.specs.CommandLine.{Command, SheetCommand, TheoremCommand, unify, verify, trial}
+use Rattle.call_answers.specs.Endings.{Refuses, Tells, Unifies}
+use Rattle.call_answers.specs.Given.{Reads, IsReadFault, read_fault}
+use Rattle.call_answers.specs.Trial.{IsTried}
+use Rattle.call_answers.specs.Verified as said
+use Rattle.fault_lines.specs.FaultLines.{no_theorem_line, code_line, proof_line}
+use Rattle.mm_base.specs.Outside.{Files, Rose, NoneFell}
+use Rattle.mm_base.specs.declared.errors.Memory as memory
+use Rattle.mm_base.specs.declared.status.Status.{Status}
+use Rattle.mm_base.specs.declared.status.Status.TheVariants.{Words, Read, Write, Memory, Proof}
+use Rattle.mm_model.specs.Names.{Name}
+use Rattle.mmp_run.specs.Answers.{MayEnd}
+use Rattle.mmp_run.specs.Opened.{Has, IsRefused, IsUnread, IsOpen}
+use Rattle.mmp_run.specs.OpenedSheet.{IsSheetRefused, IsOpenSheet}
+use Rattle.mmp_run.specs.Refused.{IsDatabaseRefusal, IsSheetRefusal, IsUnified, IsTextStatus, IsTextEnding}
+use Rattle.mmp_run.specs.Verify.{IsVerified, ending_of}
+use Rattle.mmp_run.proofs.Refusals.{refuses}
+use Rattle.sheet_text.specs.declared.sheet.Sheet as sheets
+use Rattle.sheet_unify.specs.Answered.{SaysSheet}
+
+-- ---- statuses
+
+text_not_read : (s : Status) → IsTextStatus s → s ≢ Read
+text_not_read s is e = subst IsTextStatus e is
+
+text_not_words : (s : Status) → IsTextStatus s → s ≢ Words
+text_not_words s is e = subst IsTextStatus e is
+
+text_not_write : (s : Status) → IsTextStatus s → s ≢ Write
+text_not_write s is e = subst IsTextStatus e is
+
+text_not_memory : (s : Status) → IsTextStatus s → s ≢ Memory
+text_not_memory s is e = subst IsTextStatus e is
+
+-- ---- by an answer, or by a file that failed to be read
+
+module _ (command : Command) (told : Option Files) (before now : Name → ℕ) where
+  may_from_due : (end : Ending) → IsTextEnding end → IfSome told (λ files. CallAnswer files (Some command) end) → MayEnd command told before now end
+  may_from_due end is due = record {
+    due = λ _. due;
+    read = λ e. absurd (text_not_read end.status is.status e);
+    not_words = text_not_words end.status is.status;
+    not_write = text_not_write end.status is.status;
+    not_memory = text_not_memory end.status is.status;
+    silent = is.silent;
+  }
+
+  may_not_read : (name : Name) (end : Ending) → Reads command name → Rose (before name) (now name) → end ≡ read_fault name → MayEnd command told before now end
+  may_not_read name end named rose says =
+      let is_read : end.status ≡ Read = ap (λ (x : Ending). x.status) says in
+      record {
+        due = λ not_read. absurd (not_read is_read);
+        read = λ _. record { name = name; named = named; rose = rose; says = says };
+        not_words = λ e. cc;
+        not_write = λ e. cc;
+        not_memory = λ e. cc;
+        silent = λ _. ap (λ (x : Ending). x.out) says;
+      }
+
+-- a count that rose after one that did not fall
+pub rose_since : (before mid now : ℕ) → before ≤ mid → Rose mid now → Rose before now
+rose_since before mid now fell rose = omega arith
+
+-- ---- databases
+
+has_database : (command : Command) (files : Files) (name text : Name) → database_of command ≡ Some name → files name ≡ Some text → HasDatabase files command text
+has_database command files name text named e = ap (option_and_then files) named ∙ e
+
+due_refused_at : (command : Command) (files : Files) (name : Name) (end : Ending) (file : Option (List ℕ)) → files name ≡ file → database_of command ≡ Some name
+    → IsSomeAnd file (λ text. IsDatabaseRefusal text end) → CallAnswer files (Some command) end
+due_refused_at command files name end None e named h = absurd h
+due_refused_at command files name end (Some text) e named h = bad_database {database = text} {f = h.fault} (has_database command files name text named e) h.stands h.refuses
+
+due_refused : (command : Command) (told : Option Files) (name : Name) (end : Ending) → database_of command ≡ Some name → IfSome told (λ files. IsSomeAnd (files name) (λ text. IsDatabaseRefusal text end))
+    → IfSome told (λ files. CallAnswer files (Some command) end)
+due_refused command None name end named h = tt
+due_refused command (Some files) name end named h = due_refused_at command files name end (files name) refl named h
+
+-- the file of the database is refused
+pub may_refuse : (command : Command) (told : Option Files) (before now : Name → ℕ) (name : Name) (end : Ending) → database_of command ≡ Some name → Reads command name
+    → IsRefused told name end ⊎ IsUnread before now name end → MayEnd command told before now end
+may_refuse command told before now name end named read (inl is) =
+    may_from_due command told before now end (record { status = subst IsTextStatus (sym is.status) tt; silent = λ _. is.out }) (due_refused command told name end named is.due)
+may_refuse command told before now name end named read (inr is) = may_not_read command told before now name end read is.rose is.says
+
+-- ---- worksheets
+
+module _ (command : SheetCommand) (there : Bool) (database : List ℕ) where
+  due_bad_sheet : (files : Files) (end : Ending) (file : Option (List ℕ)) → files command.sheet ≡ file → IsOpen (Some files) command.database database
+      → IsSomeAnd file (λ text. IsSheetRefusal text end) → CallAnswer files (Some (unify command there)) end
+  due_bad_sheet files end None e opened h = absurd h
+  due_bad_sheet files end (Some text) e opened h = bad_worksheet {database = database} {sheet = text} {f = h.fault} opened.has opened.accepted.no_fault e h.stands h.refuses
+
+  due_sheet_refused : (told : Option Files) (end : Ending) → IsOpen told command.database database → IfSome told (λ files. IsSomeAnd (files command.sheet) (λ text. IsSheetRefusal text end))
+      → IfSome told (λ files. CallAnswer files (Some (unify command there)) end)
+  due_sheet_refused None end opened h = tt
+  due_sheet_refused (Some files) end opened h = due_bad_sheet files end (files command.sheet) refl opened h
+
+  -- the file of the worksheet is refused, behind a database without a fault
+  pub may_refuse_sheet : (told : Option Files) (before mid now : Name → ℕ) (end : Ending) → IsOpen told command.database database → NoneFell before mid
+      → IsSheetRefused told command.sheet end ⊎ IsUnread mid now command.sheet end → MayEnd (unify command there) told before now end
+  may_refuse_sheet told before mid now end opened fell (inl is) =
+      may_from_due (unify command there) told before now end (record { status = subst IsTextStatus (sym is.status) tt; silent = λ _. is.out }) (due_sheet_refused told end opened is.due)
+  may_refuse_sheet told before mid now end opened fell (inr is) =
+      may_not_read (unify command there) told before now command.sheet end (inr refl) (rose_since (before command.sheet) (mid command.sheet) (now command.sheet) (fell command.sheet) is.rose) is.says
+
+  due_unified : (told : Option Files) (text : List ℕ) (end : Ending) → IsOpen told command.database database → Has told command.sheet text → IsUnified command.options database text end
+      → IfSome told (λ files. CallAnswer files (Some (unify command there)) end)
+  due_unified None text end opened has is = tt
+  due_unified (Some files) text end opened has is = unified {database = database} {sheet = text} {db = is.db} opened.has opened.accepted.no_fault has is.is_database is.unifies
+
+  -- the worksheet is unified
+  pub may_unify : (told : Option Files) (before now : Name → ℕ) (sheet : sheets.Sheet) (end : Result Ending memory.Memory) → IsOpen told command.database database → IsOpenSheet told command.sheet sheet
+      → ((text : List ℕ) → SaysSheet text sheet → IfOk end (IsUnified command.options database text)) → IfOk end IsTextEnding
+      → IfOk end (MayEnd (unify command there) told before now)
+  may_unify told before now sheet (Err e) opened read is st = tt
+  may_unify told before now sheet (Ok end) opened read is st =
+      may_from_due (unify command there) told before now end st
+      (due_unified told read.text end opened read.has (is read.text (record { sound = read.readable.no_fault; reads = read.reads })))
+
+-- ---- theorems
+
+written_otherwise : true ≡ false → ⊥
+written_otherwise e = cc
+
+verdict_ending : (theorem : Name) (v : said.Verdict) → IsTextEnding (ending_of theorem v)
+verdict_ending theorem said.no_theorem = record { status = tt; silent = λ _. refl }
+verdict_ending theorem said.accepted = record { status = tt; silent = λ e. absurd (written_otherwise e) }
+verdict_ending theorem (said.bad_code f) = record { status = tt; silent = λ _. refl }
+verdict_ending theorem (said.refused f) = record { status = tt; silent = λ _. refl }
+
+tells : (theorem : Name) (v : said.Verdict) (end : Ending) → end ≡ ending_of theorem v → Tells theorem v end
+tells theorem said.no_theorem end e = refuses end Proof (no_theorem_line theorem) e
+tells theorem said.accepted end e = e
+tells theorem (said.bad_code f) end e = refuses end Proof (code_line f) e
+tells theorem (said.refused f) end e = refuses end Proof (proof_line f) e
+
+due_theorem : (command : TheoremCommand) (told : Option Files) (database : List ℕ) (end : Ending) → IsOpen told command.database database → IsVerified command.theorem database end
+    → IfSome told (λ files. CallAnswer files (Some (verify command)) end)
+due_theorem command None database end opened is = tt
+due_theorem command (Some files) database end opened is = verdict {database = database} is.verdict opened.has opened.accepted.no_fault is.is_verdict (tells command.theorem is.verdict end is.says)
+
+-- the proof of a theorem is judged
+pub may_verify : (command : TheoremCommand) (told : Option Files) (before now : Name → ℕ) (database : List ℕ) (end : Result Ending memory.Memory)
+    → IsOpen told command.database database → IfOk end (IsVerified command.theorem database) → IfOk end (MayEnd (verify command) told before now)
+may_verify command told before now database (Err e) opened is = tt
+may_verify command told before now database (Ok end) opened is =
+    may_from_due (verify command) told before now end (subst IsTextEnding (sym is.says) (verdict_ending command.theorem is.verdict))
+    (due_theorem command told database end opened is)
+
+-- ---- trials
+
+due_trial : (count : ℕ) (told : Option Files) (end : Ending) → IsTried count end → IfSome told (λ files. CallAnswer files (Some (trial count)) end)
+due_trial count None end is = tt
+due_trial count (Some files) end is = tried is
+
+pub may_try : (count : ℕ) (told : Option Files) (before now : Name → ℕ) (end : Result Ending memory.Memory) → IfOk end (IsTried count) → IfOk end IsTextEnding
+    → IfOk end (MayEnd (trial count) told before now)
+may_try count told before now (Err e) is st = tt
+may_try count told before now (Ok end) is st = may_from_due (trial count) told before now end st (due_trial count told end is)

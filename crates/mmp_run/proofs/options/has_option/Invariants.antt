@@ -1,0 +1,7 @@
+use Rattle.std.proofs.Common.{◌≡◌, drop, map}
+use Rattle.std.specs.String.{string_bytes}
+use Rattle.mm_model.specs.Names.{contains}
+use Rattle.mmp_run.proofs.options.has_option.Given as goal
+
+abbrev pub invariant-loop-option : goal.invariant-loop-option
+invariant-loop-option l = contains (map string_bytes l.options) l.word ≡ contains (map string_bytes (drop l.option-index l.options)) l.word

@@ -1,0 +1,12 @@
+pub mod Answers
+pub mod Faults
+pub mod Found
+pub mod Opened
+pub mod OpenedSheet
+pub mod Refusals
+pub mod Refused
+pub mod Shown
+pub mod Theorems
+pub mod Tried
+pub mod Verdicts
+pub mod Verify

@@ -1,0 +1,19 @@
+-- What the program says of a proof.
+use Rattle.fault_lines.specs.FaultLines.{code_faults, proof_faults}
+use Rattle.call_answers.specs.Verified as said
+use Rattle.mmp_run.specs.declared.verify.Verdict.{Verdict}
+use Rattle.mmp_run.specs.declared.verify.Verdict.TheVariants as verdict
+use Rattle.mmp_run.specs.Faults.{told, IsNamed}
+
+abbrev pub told_verdict : Verdict → said.Verdict
+told_verdict verdict.NoTheorem = said.no_theorem
+told_verdict (verdict.BadCode f) = said.bad_code (told f)
+told_verdict (verdict.Refused f) = said.refused (told f)
+told_verdict verdict.Accepted = said.accepted
+
+-- its fault has the name of its code
+abbrev pub IsNamedVerdict : Verdict → Type 0
+IsNamedVerdict verdict.NoTheorem = Unit {0}
+IsNamedVerdict (verdict.BadCode f) = IsNamed code_faults f
+IsNamedVerdict (verdict.Refused f) = IsNamed proof_faults f
+IsNamedVerdict verdict.Accepted = Unit {0}

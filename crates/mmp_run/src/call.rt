@@ -1,0 +1,259 @@
+//! A whole call.
+
+ghost use Rattle.std.specs.Prelude.{◌≡◌, ◌≢◌, ◌⊎◌, ℕ, List, Option, None, false, map, option_map, string_bytes, IfOk, IfSome, IsNone, IsSome, IsSomeAnd};
+ghost use Rattle.std.specs.Option.{option_copied};
+ghost use Rattle.call_answers.specs.CommandLine.{command_of};
+ghost use Rattle.call_answers.specs.Given.{told, target, in_place_of, IsSettled, Gives, IsGiven, NoReadFault, SaysReadFault, IsCutShort, is_written};
+ghost use Rattle.mm_base.specs.Outside.{Files, NoneFell, Rose};
+ghost use Rattle.mm_frames.specs.Contents.{contents_of};
+ghost use Rattle.mm_model.specs.Statements.{database_fault};
+ghost use Rattle.mmp_run.specs.Answers.{MayEnd, MayEndFor};
+ghost use Rattle.mmp_run.specs.Opened.{IsOpen};
+ghost use Rattle.mmp_run.specs.OpenedSheet.{IsOpenedSheet};
+ghost use Rattle.mmp_run.specs.Refusals.{usage};
+ghost use Rattle.mmp_run.specs.Shown.{shown, options_shown, unify_command, verify_command};
+ghost use Rattle.written_model.specs.declared.options.Options.{Options};
+
+use crate::command::{Command, read_words};
+use crate::deliver::deliver;
+use crate::endings::refuse;
+use crate::opening::{Opened, open};
+use crate::options::{Choice, make_options};
+use crate::sheet::{OpenedSheet, open_sheet};
+use crate::trial::end_trial;
+use crate::unify::end_sheet;
+use crate::verify::end_theorem;
+use call_answers::Ending;
+use mm_base::{Memory, Sink, Status, Store};
+use mm_frames::Frames;
+use std::alloc::Global;
+use written_model::Options;
+
+// Unifies a worksheet that was opened over the text of a database without a fault, which has these statements.
+fn end_opened_sheet(
+    alloc: Global,
+    text: &[u8],
+    frames: Frames,
+    opened: OpenedSheet,
+    options: &Options,
+) -> Result<Ending, Memory>
+    requires contents { frames ≡ contents_of text.now }
+    requires no_fault { database_fault text.now ≡ None }
+    ensures { (told : Option Files) (before mid now : List ℕ → ℕ) (choice : Choice) (name file : List ℕ) → options_shown choice ≡ options.now → IsOpen told name text.now → NoneFell before mid
+        → IsOpenedSheet told mid now file opened → IfOk result (MayEnd (unify_command choice name file) told before now) }
+{
+    match opened {
+        OpenedSheet::Sheet(sheet) => end_sheet(alloc, text, frames, &sheet, options),
+        OpenedSheet::Refused(end) => Ok(end),
+    }
+}
+
+// Unifies the worksheet of a file over the text of a database without a fault, which has these statements.
+fn end_over<S: Store>(
+    alloc: Global,
+    store: &mut S,
+    options: &Options,
+    text: &[u8],
+    frames: Frames,
+    sheet: &str,
+) -> Result<Ending, Memory>
+    requires contents { frames ≡ contents_of text.now }
+    requires no_fault { database_fault text.now ≡ None }
+    ensures answer { (before : List ℕ → ℕ) (choice : Choice) (name : List ℕ) → options_shown choice ≡ options.now → IsOpen (S.told store.old) name text.now → NoneFell before (S.read_faults store.old)
+        → IfOk result (MayEnd (unify_command choice name sheet.now) (S.told store.old) before (S.read_faults store.new)) }
+    ensures same_files { S.told store.new ≡ S.told store.old }
+    ensures replace_faults { NoneFell (S.replace_faults store.old) (S.replace_faults store.new) }
+{
+    match open_sheet(alloc, store, sheet) {
+        Ok(opened) => end_opened_sheet(alloc, text, frames, opened, options),
+        Err(_) => Err(Memory),
+    }
+}
+
+// Unifies the worksheet of a file over the database of another.
+fn end_unify<S: Store>(
+    alloc: Global,
+    store: &mut S,
+    options: &Options,
+    database: &str,
+    sheet: &str,
+) -> Result<Ending, Memory>
+    ensures answer { (choice : Choice) → options_shown choice ≡ options.now
+        → IfOk result (MayEnd (unify_command choice database.now sheet.now) (S.told store.old) (S.read_faults store.old) (S.read_faults store.new)) }
+    ensures same_files { S.told store.new ≡ S.told store.old }
+    ensures replace_faults { NoneFell (S.replace_faults store.old) (S.replace_faults store.new) }
+{
+    match open(alloc, store, database)? {
+        Opened::Database(text, frames) => {
+            end_over(alloc, store, options, text.as_slice(), frames, sheet)
+        }
+        Opened::Refused(end) => Ok(end),
+    }
+}
+
+// The same with what the options ask for.
+fn end_chosen<S: Store>(
+    alloc: Global,
+    store: &mut S,
+    choice: Choice<'_>,
+    database: &str,
+    sheet: &str,
+) -> Result<Ending, Memory>
+    ensures answer { IfOk result (MayEnd (unify_command choice.entry database.now sheet.now) (S.told store.old) (S.read_faults store.old) (S.read_faults store.new)) }
+    ensures same_files { S.told store.new ≡ S.told store.old }
+    ensures replace_faults { NoneFell (S.replace_faults store.old) (S.replace_faults store.new) }
+{
+    match make_options(alloc, choice) {
+        Ok(options) => end_unify(alloc, store, &options, database, sheet),
+        Err(_) => Err(Memory),
+    }
+}
+
+// Checks the proof of a theorem of the database of a file.
+fn end_verify<S: Store>(
+    alloc: Global,
+    store: &mut S,
+    database: &str,
+    theorem: &str,
+) -> Result<Ending, Memory>
+    ensures answer { IfOk result (MayEnd (verify_command database.now theorem.now) (S.told store.old) (S.read_faults store.old) (S.read_faults store.new)) }
+    ensures same_files { S.told store.new ≡ S.told store.old }
+    ensures replace_faults { NoneFell (S.replace_faults store.old) (S.replace_faults store.new) }
+{
+    match open(alloc, store, database)? {
+        Opened::Database(text, frames) => end_theorem(alloc, text.as_slice(), &frames, theorem),
+        Opened::Refused(end) => Ok(end),
+    }
+}
+
+// Reads the files that a command names, and gives its ending.
+fn end_command<S: Store>(
+    alloc: Global,
+    store: &mut S,
+    command: Command<'_>,
+) -> Result<Ending, Memory>
+    ensures answer { IfOk result (MayEnd (shown command.entry) (S.told store.old) (S.read_faults store.old) (S.read_faults store.new)) }
+    ensures same_files { S.told store.new ≡ S.told store.old }
+    ensures replace_faults { NoneFell (S.replace_faults store.old) (S.replace_faults store.new) }
+{
+    match command {
+        Command::Unify {
+            choice,
+            database,
+            sheet,
+        } => end_chosen(alloc, store, choice, database, sheet),
+        Command::Verify { database, theorem } => end_verify(alloc, store, database, theorem),
+        Command::Trial(blocks) => end_trial(alloc, blocks),
+    }
+}
+
+// The ending for a command, or the usage line where there is none. It writes nothing.
+fn end_words<S: Store>(
+    alloc: Global,
+    store: &mut S,
+    command: Option<Command<'_>>,
+) -> Result<Ending, Memory>
+    ensures answer { IfOk result (MayEndFor (option_map shown command.entry) (S.told store.old) (S.read_faults store.old) (S.read_faults store.new)) }
+    ensures not_called { IsNone command.entry → store.new ≡ store.old }
+    ensures same_files { S.told store.new ≡ S.told store.old }
+    ensures replace_faults { NoneFell (S.replace_faults store.old) (S.replace_faults store.new) }
+{
+    match command {
+        Some(command) => end_command(alloc, store, command),
+        None => refuse(
+            alloc,
+            Status::Words,
+            "usage: mmp unify [--proof=normal|compressed] [--in-place] [--dv=add|given] [--provable=T] [--logic=T] DB SHEET | mmp verify DB LABEL | mmp trial N",
+        ),
+    }
+}
+
+// Whether a call ends with a worksheet.
+fn ends_written(status: Status) -> bool
+    ensures { result ≡ is_written status }
+{
+    match status {
+        Status::Finished => true,
+        Status::Unfinished => true,
+        _ => false,
+    }
+}
+
+// The file whose bytes the text of an ending becomes, where a worksheet is written in its own place.
+fn place_of<'a>(command: Option<Command<'a>>, status: Status) -> Option<&'a str>
+    ensures { option_copied result ≡ target (option_map shown command.entry) status }
+{
+    match command {
+        Some(Command::Unify { choice, sheet, .. }) => {
+            if choice.in_place && ends_written(status) {
+                Some(sheet)
+            } else {
+                None
+            }
+        }
+        _ => None,
+    }
+}
+
+/// All that the program does for the words behind its name: it reads the files that they name, and writes one text to
+/// `out` and one to `log`, each made whole before anything is written. With `--in-place` the worksheet is put under its own
+/// name, and nothing is written to `out`.
+///
+/// # Statuses
+/// For `unify` `Finished` and `Unfinished`: the worksheet is in `out`, or in its file, and the report in `log`. For `verify`
+/// `Finished`: the proof is accepted, as one line in `out` says; `Proof`: there is no such theorem or its proof is refused, by
+/// one line in `log`. For `trial` `Finished` and `Unfinished`: four lines are in `out`. `Database` and `Sheet`: the file is
+/// refused, by one line in `log`. `Words`: the words fit no command, and `log` has the usage line. `Read`: a file could not be
+/// read, and `log` names it. `Write`: a sink failed, or the store where the worksheet was to be put; nothing is in `log` unless
+/// the first text is whole. `Memory`: memory ran out, and nothing was written.
+pub fn run<S: Store, O: Sink, L: Sink>(
+    alloc: Global,
+    words: &[String],
+    store: &mut S,
+    out: &mut O,
+    log: &mut L,
+) -> Status
+    // Over told files each status but Read, Write and Memory is that of the answer to the words, which is given whole.
+    ensures due { IsSettled result → IfSome (S.told store.old) (λ files. IsGiven (map string_bytes words.now) files result
+        (told (S.told store.old) (O.told out.old) (L.told log.old)) (told (S.told store.new) (O.told out.new) (L.told log.new))) }
+
+    // Where nothing failed, the answer is given, or memory is wanting. It follows from the clauses on the single statuses,
+    // and says their sum.
+    ensures complete { IfSome (command_of (map string_bytes words.now)) (λ command. IfSome (S.told store.old) (λ files.
+        NoReadFault command (S.read_faults store.old) (S.read_faults store.new)
+        → IfSome (in_place_of (Some command)) (λ name. ¬ Rose (S.replace_faults store.old name) (S.replace_faults store.new name))
+        → ¬ Rose (O.faults out.old) (O.faults out.new)
+        → ¬ Rose (L.faults log.old) (L.faults log.new)
+        → (result ≡ Status.Memory) ⊎ IsGiven (map string_bytes words.now) files result
+        (told (S.told store.old) (O.told out.old) (L.told log.old)) (told (S.told store.new) (O.told out.new) (L.told log.new)))) }
+
+    // The words, over every store.
+    ensures words_only { result ≡ Status.Words → IsNone (command_of (map string_bytes words.now)) }
+    ensures words_always { IsNone (command_of (map string_bytes words.now)) → (result ≡ Status.Words) ⊎ ((result ≡ Status.Memory) ⊎ (result ≡ Status.Write)) }
+    ensures words_texts { result ≡ Status.Words → Gives None usage result
+        (told (S.told store.old) (O.told out.old) (L.told log.old)) (told (S.told store.new) (O.told out.new) (L.told log.new)) }
+    ensures words_output { result ≡ Status.Words → out.new ≡ out.old }
+    ensures not_called { IsNone (command_of (map string_bytes words.now)) → store.new ≡ store.old }
+
+    // The failures, over every store.
+    ensures read { result ≡ Status.Read → IsSomeAnd (command_of (map string_bytes words.now)) (λ command.
+        SaysReadFault command (S.read_faults store.old) (S.read_faults store.new)
+        (told (S.told store.old) (O.told out.old) (L.told log.old)) (told (S.told store.new) (O.told out.new) (L.told log.new))) }
+    ensures read_output { result ≡ Status.Read → out.new ≡ out.old }
+    ensures write { result ≡ Status.Write → Rose (O.faults out.old) (O.faults out.new) ⊎ (Rose (L.faults log.old) (L.faults log.new)
+        ⊎ IsSomeAnd (in_place_of (command_of (map string_bytes words.now))) (λ name. Rose (S.replace_faults store.old name) (S.replace_faults store.new name))) }
+    ensures write_part { result ≡ Status.Write → IsCutShort (map string_bytes words.now) (S.read_faults store.old) (S.read_faults store.new)
+        (told (S.told store.old) (O.told out.old) (L.told log.old)) (told (S.told store.new) (O.told out.new) (L.told log.new)) }
+    ensures memory { result ≡ Status.Memory → (S.told store.new ≡ S.told store.old) × (out.new ≡ out.old) × (log.new ≡ log.old) }
+
+    // Where the worksheet is not written in its own place, no file changes; where it is, nothing is written to the output.
+    ensures kept_files { is_written result ≡ false → result ≢ Status.Write → S.told store.new ≡ S.told store.old }
+    ensures same_files { IsNone (in_place_of (command_of (map string_bytes words.now))) → S.told store.new ≡ S.told store.old }
+    ensures in_place { IsSome (in_place_of (command_of (map string_bytes words.now))) → out.new ≡ out.old }
+{
+    let command = read_words(words);
+    match end_words(alloc, store, command) {
+        Ok(end) => deliver(&end, place_of(command, end.status), store, out, log),
+        Err(_) => Status::Memory,
+    }
+}

@@ -1,0 +1,17 @@
+//! Answers a call of the program: reads the files that its words name, and writes what comes of them.
+#![tactic(auto)]
+
+mod call;
+mod command;
+mod deliver;
+mod endings;
+mod fault;
+mod files;
+mod opening;
+mod options;
+mod sheet;
+mod trial;
+mod unify;
+mod verify;
+
+pub use call::run;

@@ -1,0 +1,122 @@
+//! A call of the program, and what is wanted of it.
+
+use mm_base::{List, MemSink, MemStore, Memory, Status};
+use mmp_run::run;
+use std::alloc::{AllocError, Global};
+use std::process::Abort;
+use std::test::Fail;
+
+// Modus ponens over implications.
+pub const P: &str = "\
+$c ( ) -> -. wff |- $.\n\
+$v ph ps ch $.\n\
+wph $f wff ph $.\n\
+wps $f wff ps $.\n\
+wch $f wff ch $.\n\
+wn $a wff -. ph $.\n\
+wi $a wff ( ph -> ps ) $.\n\
+${\n\
+  min $e |- ph $.\n\
+  maj $e |- ( ph -> ps ) $.\n\
+  ax-mp $a |- ps $.\n\
+$}\n\
+ax-1 $a |- ( ph -> ( ps -> ph ) ) $.\n\
+ax-2 $a |- ( ( ph -> ( ps -> ch ) ) -> ( ( ph -> ps ) -> ( ph -> ch ) ) ) $.\n\
+";
+
+/// The texts under two names, and which calls of the outside fail.
+#[derive(Clone, Copy)]
+pub struct Outside<'a> {
+    /// Under `P.mm`.
+    pub database: &'a [u8],
+    /// Under `r.mmp`.
+    pub sheet: &'a [u8],
+    pub store_fails: &'a [u64],
+    pub out_room: u64,
+    pub out_fails: &'a [u64],
+    pub log_fails: &'a [u64],
+}
+
+/// What a call ends with, and what the output and the log then have.
+#[derive(Clone, Copy)]
+pub struct Want<'a> {
+    pub status: Status,
+    pub out: &'a [u8],
+    pub log: &'a str,
+}
+
+/// These two texts, and one write to each sink.
+pub fn honest<'a>(database: &'a [u8], sheet: &'a [u8]) -> Outside<'a> {
+    Outside {
+        database,
+        sheet,
+        store_fails: &[],
+        out_room: 1000,
+        out_fails: &[2],
+        log_fails: &[2],
+    }
+}
+
+/// Nothing in the output.
+pub fn refused<'a>(status: Status, log: &'a str) -> Want<'a> {
+    Want {
+        status,
+        out: b"",
+        log,
+    }
+}
+
+/// Texts, one behind the other.
+pub fn joined(alloc: Global, parts: &[&str]) -> Result<Vec<u8>, AllocError> {
+    let mut text = Vec::new(alloc);
+    for part in parts {
+        text.extend_from_slice(part.as_bytes())?;
+    }
+    Ok(text)
+}
+
+fn words_of(alloc: Global, words: &[&str]) -> Result<Vec<String>, AllocError> {
+    let mut all = Vec::new(alloc);
+    for word in words {
+        all.push(word.to_string(alloc)?)?;
+    }
+    Ok(all)
+}
+
+fn bytes_of(alloc: Global, text: &[u8]) -> Result<List<u8>, AllocError> {
+    Ok(List::from_vec(Vec::from_slice(alloc, text)?))
+}
+
+fn sink(alloc: Global, room: u64, fails: &[u64]) -> Result<MemSink, Memory> {
+    MemSink::new(alloc, room, List::from_vec(Vec::from_slice(alloc, fails)?))
+}
+
+fn store(alloc: Global, outside: Outside<'_>) -> Result<MemStore, Memory> {
+    let mut files = Vec::new(alloc);
+    files.push((
+        bytes_of(alloc, b"P.mm")?,
+        bytes_of(alloc, outside.database)?,
+    ))?;
+    files.push((bytes_of(alloc, b"r.mmp")?, bytes_of(alloc, outside.sheet)?))?;
+    let fails = List::from_vec(Vec::from_slice(alloc, outside.store_fails)?);
+    MemStore::new(alloc, List::from_vec(files), 0, fails)
+}
+
+/// Calls the program with these words.
+pub fn check(
+    rt: &impl Abort,
+    alloc: Global,
+    words: &[&str],
+    outside: Outside<'_>,
+    want: Want<'_>,
+) -> Result<(), Fail> {
+    let words = words_of(alloc, words)?;
+    let mut store = store(alloc, outside)?;
+    let mut out = sink(alloc, outside.out_room, outside.out_fails)?;
+    let mut log = sink(alloc, 1000, outside.log_fails)?;
+    let status = run(alloc, &words, &mut store, &mut out, &mut log);
+    assert_eq!(rt; log.bytes(), want.log.as_bytes());
+    assert_eq!(rt; out.bytes(), want.out);
+    assert_eq!(rt; status, want.status);
+    Ok(())
+}

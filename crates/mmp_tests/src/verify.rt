@@ -1,0 +1,151 @@
+//! Proofs that are checked.
+
+use crate::calls::{Outside, P, Want, check, honest, joined};
+use mm_base::Status;
+use std::test::Fail;
+
+// The first example of the Metamath book: it has a `$p`.
+const DEMO0: &str = "\
+$c 0 + = -> ( ) term wff |- $.\n\
+$v t r s P Q $.\n\
+tt $f term t $.\n\
+tr $f term r $.\n\
+ts $f term s $.\n\
+wp $f wff P $.\n\
+wq $f wff Q $.\n\
+tze $a term 0 $.\n\
+tpl $a term ( t + r ) $.\n\
+weq $a wff t = r $.\n\
+wim $a wff ( P -> Q ) $.\n\
+a1 $a |- ( t = r -> ( t = s -> r = s ) ) $.\n\
+a2 $a |- ( t + 0 ) = t $.\n\
+${\n\
+  min $e |- P $.\n\
+  maj $e |- ( P -> Q ) $.\n\
+  mp $a |- Q $.\n\
+$}\n\
+th1 $p |- t = t $=\n\
+  tt tze tpl tt weq tt tt weq tt a2 tt tze tpl\n\
+  tt weq tt tze tpl tt weq tt tt weq wim tt a2\n\
+  tt tze tpl tt tt a1 mp mp $.\n\
+";
+
+// Theorems over P, with a right proof and with wrong ones.
+const THEOREMS: &str = "\
+good $p |- ( ph -> ( ps -> ph ) ) $= ( ax-1 ) ABC $.\n\
+bad $p |- ( ph -> ( ps -> ph ) ) $= ( ) ZA $.\n\
+wrong $p |- ( ph -> ( ph -> ph ) ) $= wph wps ax-1 $.\n\
+open $p |- ph $= ? $.\n\
+empty $p |- ph $= $.\n\
+late $p |- ( ph -> ( ps -> ph ) ) $= wph wps last $.\n\
+last $p |- ( ph -> ( ps -> ph ) ) $= $( the same $) wph wps ax-1 $.\n\
+";
+
+// A theorem, and what is said of its proof.
+#[derive(Clone, Copy)]
+struct Verified {
+    theorem: &'static str,
+    status: Status,
+    out: &'static str,
+    log: &'static str,
+}
+
+const VERIFIED: [Verified; 10] = [
+    Verified {
+        theorem: "good",
+        status: Status::Finished,
+        out: "good accepted\n",
+        log: "",
+    },
+    Verified {
+        theorem: "bad",
+        status: Status::Proof,
+        out: "",
+        log: "code error 3 MarkAtStart at 0\n",
+    },
+    Verified {
+        theorem: "wrong",
+        status: Status::Proof,
+        out: "",
+        log: "proof error 8 ResultDiffers at 3\n",
+    },
+    Verified {
+        theorem: "open",
+        status: Status::Proof,
+        out: "",
+        log: "proof error 9 Unknown at 0\n",
+    },
+    Verified {
+        theorem: "empty",
+        status: Status::Proof,
+        out: "",
+        log: "proof error 7 LeftOver at 0\n",
+    },
+    Verified {
+        theorem: "late",
+        status: Status::Proof,
+        out: "",
+        log: "proof error 6 NotEarlier at 2\n",
+    },
+    Verified {
+        theorem: "last",
+        status: Status::Finished,
+        out: "last accepted\n",
+        log: "",
+    },
+    Verified {
+        theorem: "ax-1",
+        status: Status::Proof,
+        out: "",
+        log: "no theorem ax-1\n",
+    },
+    Verified {
+        theorem: "wph",
+        status: Status::Proof,
+        out: "",
+        log: "no theorem wph\n",
+    },
+    Verified {
+        theorem: "nosuch",
+        status: Status::Proof,
+        out: "",
+        log: "no theorem nosuch\n",
+    },
+];
+
+// What is said of the theorems over P, and of one of another database.
+#[test]
+fn proofs_are_checked(rt: HostRuntime) -> Result<(), Fail> {
+    let database = joined(rt.alloc(), &[P, THEOREMS])?;
+    for row in VERIFIED {
+        let outside = Outside {
+            // the one read of a call
+            store_fails: &[2],
+            ..honest(database.as_slice(), b"")
+        };
+        let want = Want {
+            status: row.status,
+            out: row.out.as_bytes(),
+            log: row.log,
+        };
+        check(
+            &rt,
+            rt.alloc(),
+            &["verify", "P.mm", row.theorem],
+            outside,
+            want,
+        )?;
+    }
+    let want = Want {
+        status: Status::Finished,
+        out: b"th1 accepted\n",
+        log: "",
+    };
+    check(
+        &rt,
+        rt.alloc(),
+        &["verify", "P.mm", "th1"],
+        honest(DEMO0.as_bytes(), b""),
+        want,
+    )
+}

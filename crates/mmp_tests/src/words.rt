@@ -1,0 +1,93 @@
+//! Words that fit no command, and words that do.
+
+use crate::calls::{Outside, P, check, honest, refused};
+use mm_base::Status;
+use std::test::Fail;
+
+const USAGE: &str =
+    "usage: mmp unify [--proof=normal|compressed] [--in-place] [--dv=add|given] [--provable=T] [--logic=T] DB SHEET | \
+mmp verify DB LABEL | mmp trial N\n";
+
+const WRONG: [&[&str]; 30] = [
+    &[],
+    &[""],
+    &["check", "P.mm", "r.mmp"],
+    &["unify", "P.mm"],
+    &["unify", "P.mm", "r.mmp", "s.mmp"],
+    &["unify", "--proof=normal", "--proof=normal", "P.mm", "r.mmp"],
+    &[
+        "unify",
+        "--proof=normal",
+        "--proof=compressed",
+        "P.mm",
+        "r.mmp",
+    ],
+    &["unify", "--in-place", "--in-place", "P.mm", "r.mmp"],
+    &["unify", "--in-place=yes", "P.mm", "r.mmp"],
+    &["unify", "--dv=add", "--dv=given", "P.mm", "r.mmp"],
+    &["unify", "--dv=some", "P.mm", "r.mmp"],
+    &["unify", "--provable=", "P.mm", "r.mmp"],
+    &["unify", "--provable", "P.mm", "r.mmp"],
+    &["unify", "--provable=wff", "P.mm", "r.mmp"],
+    &["unify", "--logic=|-", "P.mm", "r.mmp"],
+    &["unify", "--logic=T", "--provable=T", "P.mm", "r.mmp"],
+    &["unify", "P.mm", "r.mmp", "--proof=normal"],
+    &["unify", "P.mm", "--in-place", "r.mmp"],
+    &["unify", "--proof=short", "P.mm", "r.mmp"],
+    &["unify", "--proof=normal", "", "r.mmp"],
+    &["verify", "P.mm"],
+    &["verify", "P.mm", ""],
+    &["verify", "P.mm", "--th"],
+    &["verify", "--proof=normal", "P.mm", "th"],
+    &["verify", "P.mm", "th", "th"],
+    &["trial"],
+    &["trial", "0"],
+    &["trial", "01"],
+    &["trial", "1001"],
+    &["trial", "1", "2"],
+];
+
+// Words of `unify` that are answered by the first fault of the database.
+const RIGHT: [&[&str]; 6] = [
+    &["unify", "P.mm", "r.mmp"],
+    &["unify", "--proof=normal", "P.mm", "r.mmp"],
+    &["unify", "--in-place", "--proof=compressed", "P.mm", "r.mmp"],
+    &["unify", "--dv=given", "--in-place", "P.mm", "r.mmp"],
+    &[
+        "unify",
+        "--logic=form",
+        "--dv=add",
+        "--provable=T=U",
+        "--proof=normal",
+        "--in-place",
+        "P.mm",
+        "r.mmp",
+    ],
+    &["unify", "--provable=wff", "--logic=|-", "P.mm", "r.mmp"],
+];
+
+#[test]
+fn wrong_words_are_refused(rt: HostRuntime) -> Result<(), Fail> {
+    for words in WRONG {
+        let outside = Outside {
+            store_fails: &[1],
+            out_fails: &[1],
+            ..honest(P.as_bytes(), b"")
+        };
+        check(
+            &rt,
+            rt.alloc(),
+            words,
+            outside,
+            refused(Status::Words, USAGE),
+        )?;
+    }
+    for words in RIGHT {
+        let want = refused(
+            Status::Database,
+            "database error 26 EmptyFormula at byte 3\n",
+        );
+        check(&rt, rt.alloc(), words, honest(b"$c $.", b""), want)?;
+    }
+    Ok(())
+}
