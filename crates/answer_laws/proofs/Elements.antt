@@ -2,26 +2,10 @@
 use Rattle.std.specs.Prelude.{◌≡◌, ◌⊎◌, ◌++◌, ℕ, zero, suc, List, [], ◌∷◌, Contains, drop, slice_get, Option, Some, None, map, refl}
 use Rattle.std.specs.List.{filter_map, flat_map, cons_option, AllByRecursion}
 use Rattle.std.proofs.Common.{arith, sym, ap, subst, inl, inr}
+pub use Rattle.solve_laws.proofs.Elements.{nothing, first, later, parted, only}
 use Rattle.std.proofs.lemmas.List.Elements.{Contains-append_left, Contains-append_right, Contains-append_cases}
 
 module _ {X : Type 0} where
-  pub nothing : (x : X) → Contains [] x → ⊥
-  nothing x h = omega (arith, h.1)
-
-  pub first : (x y : X) (ys : List X) → y ≡ x → Contains (y ∷ ys) x
-  first x y ys e = (0, omega arith, e)
-
-  pub later : (x y : X) (ys : List X) → Contains ys x → Contains (y ∷ ys) x
-  later x y ys (k, l, e) = (suc k, omega (arith, l), e)
-
-  pub parted : (x y : X) (ys : List X) → Contains (y ∷ ys) x → (y ≡ x) ⊎ Contains ys x
-  parted x y ys (zero, l, e) = inl e
-  parted x y ys (suc k, l, e) = inr (k, omega (arith, l), e)
-
-  pub only : (x y : X) → Contains (y ∷ []) x → y ≡ x
-  only x y (zero, l, e) = e
-  only x y (suc k, l, e) = absurd (omega (arith, l))
-
   pub all_contained : (P : X → Type 0) (xs : List X) → ((x : X) → Contains xs x → P x) → AllByRecursion P xs
   all_contained P [] h = tt
   all_contained P (x ∷ xs) h = (h x (first x x xs refl), all_contained P xs (λ y o. h y (later y x xs o)))

@@ -6,6 +6,7 @@ use Rattle.std.proofs.lemmas.Bool.{cases_Bool, and_parts, and_left, and_right, a
 use Rattle.std.proofs.lemmas.Bool.Decides.{nat_tests}
 use Rattle.mm_model.specs.Faults.{Fault, fault, or_else, first_code, first_fault}
 use Rattle.compressed_proof.proofs.FaultLemmas.{first_code-skip, first_code-take, first_fault-later, first_fault-here}
+use Rattle.proof_laws.proofs.LetterLaws.{within, bounds, below, above, inside}
 use Rattle.proof_model.specs.ProofCode.{is_last, is_leading, digits_before, number_at, marks_before, just_after, bad_letter, number_too_large, mark_at_start, mark_twice, unended_number, letter_rules, index, letters_end}
 use Rattle.proof_model.specs.declared.code.What.TheVariants.{Unknown}
 use Rattle.proof_model.specs.declared.code.Step.{Step}
@@ -58,22 +59,6 @@ abbrev pub fault_from : ℕ → List ℕ → List ℕ → Option Fault
 fault_from there before letters = or_else (first_fault index (letter_rules there) before letters) (letters_end (reverse_aux letters before))
 
 -- kinds of letters
--- the numbers from low to high
-abbrev pub within : ℕ → ℕ → ℕ → Bool
-within low high b = leb low b && leb b high
-
-pub bounds : (low high b : ℕ) → within low high b ≡ true → (low ≤ b) × (b ≤ high)
-bounds low high b e = let p = and_parts (leb low b) (leb b high) e in (leb-true low b p.0, leb-true b high p.1)
-
-below : (low high b : ℕ) → b < low → within low high b ≡ false
-below low high b h = and_left (leb low b) (leb b high) (lt-leb low b h)
-
-above : (low high b : ℕ) → high < b → within low high b ≡ false
-above low high b h = and_right (leb low b) (leb b high) (lt-leb b high h)
-
-inside : (low high b : ℕ) → low ≤ b → b ≤ high → within low high b ≡ true
-inside low high b h k = and_from (leb low b) (leb b high) (le-leb low b h) (le-leb b high k)
-
 not_bad : (b : ℕ) → 65 ≤ b → b ≤ 90 → (not (within 65 90 b) && not (eqb b 63)) ≡ false
 not_bad b h k = and_left (not (within 65 90 b)) (not (eqb b 63)) (ap (λ (t : Bool). not t) (inside 65 90 b h k))
 

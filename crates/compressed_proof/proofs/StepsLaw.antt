@@ -11,7 +11,8 @@ use Rattle.compressed_proof.specs.Decoded.{capped}
 use Rattle.compressed_proof.specs.Reading.{value_of, with_digit, with_last, with_front, pending, is_digits, read_letters, marked, plain, what_of}
 use Rattle.compressed_proof.specs.declared.fault.CodeFault.{CodeFault}
 use Rattle.compressed_proof.specs.declared.fault.CodeFault.TheVariants as faults
-use Rattle.compressed_proof.proofs.FaultLaw.{fault_in, fault_law, cond_then, cond_else, mark_is, digit_is, bounds}
+use Rattle.compressed_proof.proofs.FaultLaw.{fault_in, fault_law, cond_then, cond_else, mark_is, digit_is}
+use Rattle.proof_laws.proofs.LetterLaws.{bounds}
 
 -- leading digits that take the value from v to t
 abbrev Leads : ℕ → List ℕ → ℕ → Type 0

@@ -5,7 +5,7 @@ use Rattle.std.proofs.lemmas.Bool.Decides.{nat_tests}
 use Rattle.std.specs.List.{ends_with}
 use Rattle.std.specs.Cmp.Lexicographic.{pointwise}
 use Rattle.mm_model.specs.Statements.{Statement, has_keyword, path, active_on, labels_in}
-use Rattle.mm_model.proofs.Scopes.{Below, cond_then, cond_else, ends_with-same, ends_with-longer, path-below, path-open, path-close, path-plain, length-drop-lt, drop-tail}
+use Rattle.mm_model.proofs.Scopes.{Below, ends_with-new, cond_then, cond_else, ends_with-same, ends_with-longer, path-below, path-open, path-close, path-plain, length-drop-lt, drop-tail}
 
 -- how many labels statements have
 abbrev pub count : List Statement → ℕ
@@ -39,26 +39,6 @@ on-is p (s ∷ e) =
     ]
 
 -- ---- paths that end alike
-
-pointwise-longer : (q p : List ℕ) → length p < length q → pointwise nat_eq q p ≡ false
-pointwise-longer [] p h = let bad : ⊥ = omega arith in absurd bad
-pointwise-longer (m ∷ q) [] h = refl
-pointwise-longer (m ∷ q) (n ∷ p) h =
-    let rest : pointwise nat_eq q p ≡ false = pointwise-longer q p (omega arith) in
-    elim (cases_Bool (nat_eq m n)) [ inl e ↦ rw (e, rest) refl | inr e ↦ rw e refl ]
-
-ends_with-new : (n : ℕ) (p q : List ℕ) → Below n q → ends_with nat_eq (n ∷ p) q ≡ ends_with nat_eq p q
-ends_with-new n p [] below = let e : suc (length p) - 0 ≡ suc (length p) = omega arith in let e' : length p - 0 ≡ length p = omega arith in rw (e, e') refl
-ends_with-new n p (m ∷ q) below =
-    let differ : nat_eq m n ≡ false = grind (arith, nat_tests, below.0) in
-    elim (cases_lt (length q) (length p)) [
-      | inl h ↦ let e : suc (length p) - suc (length q) ≡ suc (length p - suc (length q)) = omega arith in rw e refl
-      | inr h ↦
-          let none : length p - suc (length q) ≡ 0 = omega arith in
-          let none' : suc (length p) - suc (length q) ≡ 0 = omega arith in
-          let shorter : pointwise nat_eq (m ∷ q) p ≡ false = pointwise-longer (m ∷ q) p (omega arith) in
-          rw (none', none, differ, shorter) refl
-    ]
 
 below-more : (n m : ℕ) (q : List ℕ) → n ≤ m → Below n q → Below m q
 below-more n m [] h b = tt

@@ -6,6 +6,7 @@ use Rattle.std.proofs.lemmas.Bool.{cases_Bool, or_cases, or_left, or_right, or_p
 use Rattle.std.proofs.lemmas.Bool.Decides.{nat_tests}
 use Rattle.std.proofs.lemmas.List.{map-append, reverse-append}
 use Rattle.std.proofs.lemmas.List.Folds.{list_any-append}
+use Rattle.mm_base.proofs.Positions.{position-cons}
 use Rattle.mm_base.specs.declared.symbols.Sym.{Sym}
 use Rattle.mm_model.specs.Names.{Name, contains}
 use Rattle.mm_model.specs.Statements.{Statement, has_keyword, labels_in, labelled, symbols_in, second, active, path, with_keyword}
@@ -88,17 +89,6 @@ seconds ps = map (λ (p : ℕ × ℕ). p.1) ps
 abbrev pub look : ℕ → List (ℕ × ℕ) → Option ℕ
 look v [] = None
 look v (p ∷ ps) = cond (nat_eq v p.0) (Some p.1) (look v ps)
-
-position-cons : (p : ℕ → Bool) (x : ℕ) (xs : List ℕ) → position p (x ∷ xs) ≡ cond (p x) (Some 0) (option_map (λ n. suc n) (position p xs))
-position-cons p x xs =
-    let one : 1 + position_or_len p xs ≡ suc (position_or_len p xs) = omega arith in
-    elim (cases_Bool (p x)) [
-      | inl h ↦ let z : ltb 0 (suc (length xs)) ≡ true = grind (arith, nat_tests) in rw (h, z) refl
-      | inr h ↦ elim (cases_Bool (ltb (position_or_len p xs) (length xs))) [
-        | inl l ↦ let m : ltb (suc (position_or_len p xs)) (suc (length xs)) ≡ true = grind (arith, nat_tests) in rw (h, one, m, l) refl
-        | inr l ↦ let m : ltb (suc (position_or_len p xs)) (suc (length xs)) ≡ false = grind (arith, nat_tests) in rw (h, one, m, l) refl
-      ]
-    ]
 
 look-is : (v : ℕ) (ps : List (ℕ × ℕ)) → option_and_then (λ k. slice_get (seconds ps) k) (position (nat_eq v) (firsts ps)) ≡ look v ps
 look-is v [] = refl

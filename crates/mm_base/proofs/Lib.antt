@@ -1,5 +1,6 @@
 pub mod NumberTests
 mod Places
+pub mod Positions
 pub mod SameTrees
 pub mod TreeFacts
 pub mod TreeFolds

@@ -5,19 +5,9 @@ use Rattle.std.specs.Str.{bytes_eq}
 use Rattle.std.proofs.lemmas.Bool.{cases_Bool, or_parts}
 use Rattle.std.proofs.lemmas.Bool.Decides.{nat_tests}
 use Rattle.std.proofs.lemmas.Slice.Eq.{bytes_eq-Decides}
+use Rattle.mm_base.proofs.Positions.{position-cons}
 use Rattle.mm_frames.proofs.Numbers.{name_of, Injective, Within}
 use Rattle.mm_model.proofs.Scopes.{cond_then, cond_else}
-
-pub position-cons : {X : Type 0} (p : X → Bool) (x : X) (xs : List X) → position p (x ∷ xs) ≡ cond (p x) (Some 0) (option_map (λ n. suc n) (position p xs))
-position-cons p x xs =
-    let one : 1 + position_or_len p xs ≡ suc (position_or_len p xs) = omega arith in
-    elim (cases_Bool (p x)) [
-      | inl h ↦ let z : ltb 0 (suc (length xs)) ≡ true = grind (arith, nat_tests) in rw (h, z) refl
-      | inr h ↦ elim (cases_Bool (ltb (position_or_len p xs) (length xs))) [
-        | inl l ↦ let m : ltb (suc (position_or_len p xs)) (suc (length xs)) ≡ true = grind (arith, nat_tests) in rw (h, one, m, l) refl
-        | inr l ↦ let m : ltb (suc (position_or_len p xs)) (suc (length xs)) ≡ false = grind (arith, nat_tests) in rw (h, one, m, l) refl
-      ]
-    ]
 
 clash : (n : ℕ) → Some n ≡ None → ⊥
 clash n e = cc

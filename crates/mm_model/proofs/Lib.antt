@@ -12,3 +12,4 @@ pub mod TextLaws
 mod TreesExamples
 pub mod TypedLaws
 mod UsableExamples
+pub mod WordLaws

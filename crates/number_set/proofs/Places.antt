@@ -3,6 +3,7 @@ use Rattle.std.proofs.Common.{◌≡◌, ℕ, zero, suc, ◌+◌, ◌<◌, Bool,
 use Rattle.std.specs.List.{list_any, position_or_len}
 use Rattle.std.proofs.lemmas.Bool.{cases_Bool}
 use Rattle.std.proofs.lemmas.Bool.Decides.{nat_tests}
+use Rattle.mm_base.proofs.Positions.{position-cons}
 use Rattle.number_set.specs.Noted.{Noted}
 
 some_is : (a b : ℕ) → Some a ≡ Some b → a ≡ b
@@ -73,17 +74,6 @@ noted_new items places k noted absent inside i n e =
     ]
 
 -- ---- the place of a number
-
-position-cons : (p : ℕ → Bool) (x : ℕ) (xs : List ℕ) → position p (x ∷ xs) ≡ cond (p x) (Some 0) (option_map (λ n. suc n) (position p xs))
-position-cons p x xs =
-    let one : 1 + position_or_len p xs ≡ suc (position_or_len p xs) = omega arith in
-    elim (cases_Bool (p x)) [
-      | inl h ↦ let z : ltb 0 (suc (length xs)) ≡ true = grind (arith, nat_tests) in rw (h, z) refl
-      | inr h ↦ elim (cases_Bool (ltb (position_or_len p xs) (length xs))) [
-        | inl l ↦ let m : ltb (suc (position_or_len p xs)) (suc (length xs)) ≡ true = grind (arith, nat_tests) in rw (h, one, m, l) refl
-        | inr l ↦ let m : ltb (suc (position_or_len p xs)) (suc (length xs)) ≡ false = grind (arith, nat_tests) in rw (h, one, m, l) refl
-      ]
-    ]
 
 pub nowhere_placed : (n : ℕ) (xs : List ℕ) → list_any (nat_eq n) xs ≡ false → None ≡ position (nat_eq n) xs
 nowhere_placed n [] e = refl

@@ -26,19 +26,20 @@ skip {X} code rule table before x e =
 
 -- ---- kinds of letters
 
-abbrev within : ℕ → ℕ → ℕ → Bool
+-- the numbers from low to high
+abbrev pub within : ℕ → ℕ → ℕ → Bool
 within low high b = leb low b && leb b high
 
 pub bounds : (low high b : ℕ) → within low high b ≡ true → (low ≤ b) × (b ≤ high)
 bounds low high b e = let p = and_parts (leb low b) (leb b high) e in (leb-true low b p.0, leb-true b high p.1)
 
-below : (low high b : ℕ) → b < low → within low high b ≡ false
+pub below : (low high b : ℕ) → b < low → within low high b ≡ false
 below low high b h = and_left (leb low b) (leb b high) (lt-leb low b h)
 
-above : (low high b : ℕ) → high < b → within low high b ≡ false
+pub above : (low high b : ℕ) → high < b → within low high b ≡ false
 above low high b h = and_right (leb low b) (leb b high) (lt-leb b high h)
 
-inside : (low high b : ℕ) → low ≤ b → b ≤ high → within low high b ≡ true
+pub inside : (low high b : ℕ) → low ≤ b → b ≤ high → within low high b ≡ true
 inside low high b h k = and_from (leb low b) (leb b high) (le-leb low b h) (le-leb b high k)
 
 -- what a letter is not

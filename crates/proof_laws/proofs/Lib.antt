@@ -3,7 +3,7 @@ mod CodeBackLaws
 pub mod CodeEndsLaw
 mod CodeLaws
 pub mod LabelLaws
-mod LetterLaws
+pub mod LetterLaws
 pub mod NormalLaws
 pub mod NumberLaws
 mod ReadLaws

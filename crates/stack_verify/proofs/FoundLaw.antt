@@ -18,7 +18,8 @@ use Rattle.stack_verify.specs.declared.run.Found.{Found}
 use Rattle.stack_verify.specs.declared.run.Found.TheVariants as found
 use Rattle.stack_verify.specs.Founds.{found_fault, run_found, use_found, use_found_step, use_found_what, use_hyp_at}
 use Rattle.stack_verify.specs.Lookups.{AreFound, IsFound, place_of}
-use Rattle.stack_verify.proofs.Substitutes.{cond_then, cond_else, position-cons, position_within}
+use Rattle.mm_base.proofs.Positions.{position-cons}
+use Rattle.stack_verify.proofs.Substitutes.{cond_then, cond_else, position_within}
 
 bytes_turned : (a b : List ℕ) → bytes_eq a b ≡ bytes_eq b a
 bytes_turned a b =

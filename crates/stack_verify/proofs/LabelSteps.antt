@@ -22,7 +22,8 @@ use Rattle.stack_verify.specs.Lookups.{place_of}
 use Rattle.stack_verify.specs.Normals.{StepsSoFar, with_name, with_other}
 use Rattle.stack_verify.specs.Theorems.{labels_of_hyps}
 use Rattle.stack_verify.proofs.Lookup.{none_there, or_at, position_more}
-use Rattle.stack_verify.proofs.Substitutes.{cond_then, cond_else, position-cons, position_within}
+use Rattle.mm_base.proofs.Positions.{position-cons}
+use Rattle.stack_verify.proofs.Substitutes.{cond_then, cond_else, position_within}
 
 -- ---- numbers
 

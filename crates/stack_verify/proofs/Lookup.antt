@@ -9,7 +9,8 @@ use Rattle.std.proofs.Math.Seq.{take-suc}
 use Rattle.mm_model.specs.declared.frames.Hyp.{Hyp}
 use Rattle.stack_verify.specs.declared.found.HypLabels.{HypLabels}
 use Rattle.stack_verify.specs.Lookups.{IsIndexOf, look, place_of}
-use Rattle.stack_verify.proofs.Substitutes.{cond_then, cond_else, position-cons, position_within}
+use Rattle.mm_base.proofs.Positions.{position-cons}
+use Rattle.stack_verify.proofs.Substitutes.{cond_then, cond_else, position_within}
 
 -- the first, or else the second
 abbrev pub or_at : Option ℕ → Option ℕ → Option ℕ

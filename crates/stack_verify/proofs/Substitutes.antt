@@ -6,6 +6,7 @@ use Rattle.std.specs.Option.{option_map_or}
 use Rattle.std.proofs.lemmas.Bool.{cases_Bool, ltb-true}
 use Rattle.std.proofs.lemmas.Bool.Decides.{nat_tests}
 use Rattle.std.proofs.lemmas.List.{get_or-map, length-map}
+use Rattle.mm_base.proofs.Positions.{position-cons}
 use Rattle.mm_base.specs.declared.symbols.Sym.{Sym}
 use Rattle.mm_model.specs.declared.frames.Hyp.{Hyp}
 use Rattle.proof_model.specs.Machine.{Formula, Entry, is_float_of, substitute}
@@ -19,17 +20,6 @@ cond_then false x y e = absurd cc
 pub cond_else : {X : Type 0} (b : Bool) (x y : X) → b ≡ false → cond b x y ≡ y
 cond_else true x y e = absurd cc
 cond_else false x y e = refl
-
-pub position-cons : {X : Type 0} (p : X → Bool) (x : X) (xs : List X) → position p (x ∷ xs) ≡ cond (p x) (Some 0) (option_map (λ n. suc n) (position p xs))
-position-cons p x xs =
-    let one : 1 + position_or_len p xs ≡ suc (position_or_len p xs) = omega arith in
-    elim (cases_Bool (p x)) [
-      | inl h ↦ let z : ltb 0 (suc (length xs)) ≡ true = grind (arith, nat_tests) in rw (h, z) refl
-      | inr h ↦ elim (cases_Bool (ltb (position_or_len p xs) (length xs))) [
-        | inl l ↦ let m : ltb (suc (position_or_len p xs)) (suc (length xs)) ≡ true = grind (arith, nat_tests) in rw (h, one, m, l) refl
-        | inr l ↦ let m : ltb (suc (position_or_len p xs)) (suc (length xs)) ≡ false = grind (arith, nat_tests) in rw (h, one, m, l) refl
-      ]
-    ]
 
 -- the two at a place
 abbrev both : {H F : Type 0} → List H → List F → H → F → ℕ → H × F
