@@ -1,9 +1,7 @@
 -- The active statements with their numbers and the numbers of their labels, the nearest first.
-use Rattle.std.proofs.Common.{◌≡◌, ℕ, zero, suc, ◌+◌, ◌-◌, ◌<◌, ◌≤◌, Bool, true, false, cond, List, [], ◌∷◌, ◌++◌, length, drop, map, if◌then◌else◌, refl, sym, ap, ◌∙◌, arith, inl, inr, subst, codes, nat_eq}
-use Rattle.std.proofs.lemmas.Bool.{cases_Bool, cases_lt}
-use Rattle.std.proofs.lemmas.Bool.Decides.{nat_tests}
+use Rattle.std.proofs.Common.{◌≡◌, ℕ, zero, suc, ◌+◌, ◌<◌, ◌≤◌, Bool, true, false, cond, List, [], ◌∷◌, ◌++◌, length, drop, map, if◌then◌else◌, refl, sym, ap, ◌∙◌, arith, inl, inr, subst, codes, nat_eq}
+use Rattle.std.proofs.lemmas.Bool.{cases_Bool}
 use Rattle.std.specs.List.{ends_with}
-use Rattle.std.specs.Cmp.Lexicographic.{pointwise}
 use Rattle.mm_model.specs.Statements.{Statement, has_keyword, path, active_on, labels_in}
 use Rattle.mm_model.proofs.Scopes.{Below, ends_with-new, cond_then, cond_else, ends_with-same, ends_with-longer, path-below, path-open, path-close, path-plain, length-drop-lt, drop-tail}
 

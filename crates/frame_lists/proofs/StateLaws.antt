@@ -1,6 +1,6 @@
 -- What is kept of active statements, said of the statements.
-use Rattle.std.proofs.Common.{◌≡◌, ℕ, zero, suc, ◌+◌, ◌<◌, ◌≤◌, Bool, true, false, cond, ◌||◌, List, [], ◌∷◌, ◌++◌, append-nil, append_assoc, length, drop, map, reverse, flat_map, Option, Some, None, slice_get, option_map, option_and_then, position, nat_eq, ltb, refl, sym, ap, ◌∙◌, arith, inl, inr, subst, codes, ◌⊎◌}
-use Rattle.std.specs.List.{list_any, filter, AllByRecursion, ends_with, position_or_len}
+use Rattle.std.proofs.Common.{◌≡◌, ℕ, zero, suc, ◌<◌, ◌≤◌, Bool, true, false, cond, ◌||◌, List, [], ◌∷◌, ◌++◌, append-nil, append_assoc, length, drop, map, reverse, flat_map, Option, Some, None, slice_get, option_map, option_and_then, position, nat_eq, refl, sym, ap, ◌∙◌, arith, inl, inr, subst, codes, ◌⊎◌}
+use Rattle.std.specs.List.{list_any, filter, AllByRecursion, ends_with}
 use Rattle.std.specs.Str.{bytes_eq}
 use Rattle.std.proofs.lemmas.Bool.{cases_Bool, or_cases, or_left, or_right, or_parts}
 use Rattle.std.proofs.lemmas.Bool.Decides.{nat_tests}
