@@ -1,13 +1,11 @@
 -- What is put in is what a use needs.
-use Rattle.std.proofs.Common.{◌≡◌, ℕ, ◌==◌, ◌<◌, Bool, not, true, false, nat_lt, List, [], ◌∷◌, map, filter, fold, refl, sym, ap, subst, ◌∙◌, inl, inr, arith, ◌||◌, ◌&&◌}
+use Rattle.std.proofs.Common.{◌≡◌, ℕ, ◌==◌, Bool, not, true, false, List, [], ◌∷◌, map, filter, fold, refl, sym, ap, subst, ◌∙◌, inl, inr, arith, ◌||◌, ◌&&◌}
 use Rattle.std.specs.List.{flat_map, list_any}
-use Rattle.std.specs.Ordering.{nat_cmp, ordering_then}
+use Rattle.std.specs.Ordering.{nat_cmp}
 use Rattle.std.specs.BTreeSet.{insert_key}
-use Rattle.std.specs.declared.cmp.Ordering.{Ordering}
-use Rattle.std.specs.declared.cmp.Ordering.TheVariants.{Less, Equal, Greater}
 use Rattle.std.proofs.lemmas.Bool.{cases_Bool, cases_order}
 use Rattle.std.proofs.lemmas.Bool.Decides.{nat_tests}
-use Rattle.mm_base.proofs.NumberTests.{is_less, no_less, no_self, is_equal, differs, differs_above}
+use Rattle.mm_base.proofs.NumberTests.{is_less, no_less, no_self, is_equal, differs_above}
 use Rattle.std.proofs.lemmas.List.Folds.{fold-map, list_any-append}
 use Rattle.std.proofs.lemmas.List.Sums.{fold-append}
 use Rattle.mm_base.specs.declared.symbols.Sym.{Sym}
@@ -15,7 +13,7 @@ use Rattle.mm_base.specs.declared.symbols.Pair.{Pair}
 use Rattle.mm_base.specs.declared.tree.Tree.{Tree}
 use Rattle.mm_model.specs.Names.{sym as symbol}
 use Rattle.proof_model.specs.Machine.{is_shared}
-use Rattle.solve_model.specs.PairSets.{ordered, put_pair, same_pair, stands_before, is_pair_in}
+use Rattle.solve_model.specs.PairSets.{ordered, put_pair, same_pair, is_pair_in}
 use Rattle.solve_model.specs.Trees.{variables}
 use Rattle.solve_laws.specs.PairSetLaws.{AreInOrder, PairSetIsInOrder}
 use Rattle.written_model.specs.Pairs.{crossings, needed}

@@ -1,9 +1,7 @@
 -- Symbols by name, and the rows of frames.
-use Rattle.std.specs.Prelude.{◌≡◌, ℕ, not, Bool, true, false, List, [], ◌∷◌, length, map, position, nat_lt, Option, Some, None, option_map, option_and_then, refl}
-use Rattle.std.specs.List.{position_or_len, filter_map, cons_option}
-use Rattle.std.proofs.Common.{arith, sym, ap, ◌∙◌, cond, inl, inr}
-use Rattle.std.proofs.lemmas.Bool.{cases_lt, lt-ltb}
-use Rattle.std.proofs.lemmas.List.Sums.{prefix_len-le-length}
+use Rattle.std.specs.Prelude.{◌≡◌, List, [], ◌∷◌, map, Option, Some, None, option_and_then, refl}
+use Rattle.std.specs.List.{filter_map, cons_option}
+use Rattle.std.proofs.Common.{ap}
 
 one_row : {A B : Type 0} (h : A → Option B) (o : Option A) (rest : List B) (all : List A) → rest ≡ filter_map h all → cons_option (option_and_then h o) rest ≡ filter_map h (cons_option o all)
 one_row h None rest all e = e

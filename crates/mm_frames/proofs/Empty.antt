@@ -1,6 +1,6 @@
 -- No constant is the empty name.
-use Rattle.std.proofs.Common.{◌≡◌, ℕ, zero, suc, Bool, true, false, cond, ◌||◌, List, [], ◌∷◌, ◌++◌, take, drop, map, flat_map, reverse, refl, sym, ap, ◌∙◌, subst, inl, inr, codes}
-use Rattle.std.specs.List.{list_any, filter, prefix_len}
+use Rattle.std.proofs.Common.{◌≡◌, ℕ, zero, suc, false, ◌||◌, List, [], ◌∷◌, ◌++◌, take, drop, map, flat_map, reverse, refl, sym, ap, ◌∙◌, subst, inl, inr, codes}
+use Rattle.std.specs.List.{prefix_len}
 use Rattle.std.specs.Str.{bytes_eq}
 use Rattle.std.proofs.lemmas.Bool.{cases_Bool}
 use Rattle.std.proofs.lemmas.List.{reverse-append}

@@ -18,7 +18,6 @@ use Rattle.mm_frames.specs.declared.reader.Stage.{Stage}
 use Rattle.mm_frames.specs.declared.reader.Stage.TheVariants as stage
 use Rattle.mm_frames.specs.Reading.{last_code, last_code_at}
 use Rattle.frame_lists.specs.Entries.{entry_in}
-use Rattle.mm_frames.specs.Contents.{Contents, contents_of}
 use Rattle.mm_frames.specs.Kept.{IsKept}
 use Rattle.mm_frames.proofs.Numbers.{name_of, Injective, Within}
 use Rattle.mm_frames.proofs.State.{adds, label_names, flat-last}

@@ -1,5 +1,5 @@
 -- Symbols by name.
-use Rattle.std.specs.Prelude.{◌≡◌, ℕ, not, Bool, true, false, List, length, position, nat_lt, Option, Some, None, option_map, refl}
+use Rattle.std.specs.Prelude.{◌≡◌, ℕ, not, Bool, true, false, List, length, position, nat_lt, Some, None, option_map, refl}
 use Rattle.std.specs.List.{position_or_len}
 use Rattle.std.proofs.Common.{arith, sym, ◌∙◌, cond, inl, inr}
 use Rattle.std.proofs.lemmas.Bool.{cases_lt, lt-ltb}

@@ -1,6 +1,6 @@
 -- What the lists of a database tell is what the definitions say.
-use Rattle.std.proofs.Common.{◌≡◌, ℕ, zero, suc, ◌+◌, ◌-◌, ◌<◌, ◌≤◌, ◌==◌, ◌^◌, ◌&&◌, ◌||◌, Bool, true, false, cond, List, [], ◌∷◌, ◌++◌, length, take, drop, map, flat_map, reverse, Option, None, Some, refl, sym, ap, ◌∙◌, arith, subst, inl, inr, codes, get_or, nat_lt, ltb, eqb, slice_get, slice_range, option_map, option_and_then}
-use Rattle.std.specs.List.{list_any, range_with_len}
+use Rattle.std.proofs.Common.{◌≡◌, ℕ, zero, suc, ◌+◌, ◌<◌, ◌≤◌, ◌==◌, ◌&&◌, ◌||◌, Bool, true, false, cond, List, [], ◌∷◌, ◌++◌, length, take, drop, map, flat_map, reverse, Option, None, Some, refl, sym, ap, ◌∙◌, arith, inl, inr, codes, get_or, nat_lt, ltb, slice_get, option_map, option_and_then}
+use Rattle.std.specs.List.{range_with_len}
 use Rattle.std.specs.Str.{bytes_eq}
 use Rattle.std.proofs.lemmas.Bool.{cases_Bool, cases_lt}
 use Rattle.std.proofs.lemmas.Bool.Decides.{nat_tests}
@@ -13,8 +13,8 @@ use Rattle.mm_model.specs.declared.frames.Frame.{Frame}
 use Rattle.frame_lists.specs.Listings.{declared_by, constant_places, frames_of}
 use Rattle.mm_base.specs.declared.symbols.Label.{Label}
 use Rattle.mm_model.specs.Names.{Name}
-use Rattle.mm_model.specs.Statements.{Statement, statements, labels, labels_in, constants, symbols_in, has_keyword, with_keyword}
-use Rattle.mm_model.specs.Frames.{symbols, positions, positions_from, proof_range, frame_of, statement_of, is_assertion, frame_at as frame_there, below, is_constant_at}
+use Rattle.mm_model.specs.Statements.{Statement, statements, labels, labels_in, constants, symbols_in, has_keyword}
+use Rattle.mm_model.specs.Frames.{symbols, positions, positions_from, proof_range, frame_of, is_assertion, frame_at as frame_there, below, is_constant_at}
 use Rattle.frame_lists.specs.declared.entry.Entry.{Entry}
 use Rattle.frame_lists.specs.Entries.{entry_in, proof_of}
 use Rattle.mm_frames.proofs.Empty.{no-empty}

@@ -1,13 +1,12 @@
 -- An assertion takes the entries on top of the stack.
-use Rattle.std.proofs.Common.{◌≡◌, ◌≤◌, ◌<◌, ℕ, ◌+◌, Bool, true, false, cond, ltb, List, [], ◌∷◌, ◌++◌, length, take, drop, Option, Some, None, Result, Ok, Err, refl, sym, ap, ◌∙◌, arith, subst}
+use Rattle.std.proofs.Common.{◌≡◌, ◌<◌, ℕ, ◌+◌, true, false, ltb, List, [], ◌∷◌, ◌++◌, length, take, drop, Option, Some, None, Result, Ok, Err, sym, ap, ◌∙◌, arith, subst}
 use Rattle.std.specs.Prelude.{reverse}
-use Rattle.std.specs.List.{zip}
 use Rattle.std.proofs.lemmas.Bool.{lt-ltb, le-ltb}
 use Rattle.mm_base.specs.declared.symbols.Sym.{Sym}
 use Rattle.mm_model.specs.declared.frames.Frame.{Frame}
 use Rattle.mm_model.specs.declared.frames.Hyp.{Hyp}
 use Rattle.proof_model.specs.declared.theorem.Theorem.{Theorem}
-use Rattle.proof_model.specs.Machine.{Entry, Formula, MachineFault, State, underflow, and_then, unless, push, entries_fault, substituted, applied, apply_frame}
+use Rattle.proof_model.specs.Machine.{Formula, MachineFault, State, underflow, and_then, unless, push, entries_fault, substituted, applied, apply_frame}
 use Rattle.stack_verify.specs.declared.formula.Span.{Span}
 use Rattle.stack_verify.specs.declared.fault.StepFault.{StepFault}
 use Rattle.stack_verify.specs.declared.fault.StepFault.TheVariants as step

@@ -1,5 +1,5 @@
 -- The hypotheses with their entries, one after the other.
-use Rattle.std.proofs.Common.{◌≡◌, ◌≤◌, ◌<◌, ℕ, zero, suc, ◌+◌, Bool, true, false, cond, List, [], ◌∷◌, length, drop, get_or, Option, Some, None, refl, sym, ap, ◌∙◌, arith, subst}
+use Rattle.std.proofs.Common.{◌≡◌, ◌≤◌, ◌<◌, ℕ, zero, suc, ◌+◌, Bool, true, false, List, [], ◌∷◌, length, drop, get_or, Some, None, refl, sym, ap, ◌∙◌, arith, subst}
 use Rattle.std.specs.Prelude.{find, is_some, option_map}
 use Rattle.std.specs.List.{zip}
 use Rattle.std.proofs.lemmas.List.{drop_all, get_or-map, length-map}
@@ -7,7 +7,7 @@ use Rattle.std.proofs.lemmas.Slice.Zip.{length-zip}
 use Rattle.std.proofs.Math.Seq.{drop-cons}
 use Rattle.mm_base.specs.declared.symbols.Sym.{Sym}
 use Rattle.mm_model.specs.declared.frames.Hyp.{Hyp}
-use Rattle.proof_model.specs.Machine.{Entry, Formula, MachineFault, differs_in_formula, hyp_differs, hyp_fault, substituted}
+use Rattle.proof_model.specs.Machine.{Entry, Formula, differs_in_formula, hyp_differs, hyp_fault, substituted}
 use Rattle.stack_verify.specs.declared.fault.StepFault.{StepFault}
 use Rattle.stack_verify.specs.declared.fault.StepFault.TheVariants as step
 use Rattle.stack_verify.specs.declared.formula.Span.{Span}

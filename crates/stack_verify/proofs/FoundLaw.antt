@@ -1,5 +1,5 @@
 -- What was looked up is what the machine uses.
-use Rattle.std.proofs.Common.{◌≡◌, ◌≤◌, ◌<◌, ℕ, zero, suc, ◌+◌, Bool, true, false, cond, ltb, List, [], ◌∷◌, length, position, Option, Some, None, option_map, Result, Ok, Err, refl, sym, ap, ◌∙◌, arith, subst, inl, inr, Bor}
+use Rattle.std.proofs.Common.{◌≡◌, ◌≤◌, ◌<◌, ℕ, zero, suc, Bool, true, false, ltb, List, [], ◌∷◌, length, position, Option, Some, None, option_map, Result, Ok, Err, refl, sym, ap, ◌∙◌, arith, subst, inl, inr, Bor}
 use Rattle.std.specs.Prelude.{find, option_and_then, slice_get, slice_index_or}
 use Rattle.std.specs.Str.{bytes_eq}
 use Rattle.std.proofs.lemmas.Bool.{cases_Bool, le-ltb, lt-ltb, ltb-false, ltb-true}
@@ -13,10 +13,10 @@ use Rattle.proof_model.specs.declared.code.What.TheVariants as what
 use Rattle.proof_model.specs.declared.code.Step.{Step}
 use Rattle.proof_model.specs.declared.code.Code.{Code}
 use Rattle.proof_model.specs.declared.theorem.Theorem.{Theorem}
-use Rattle.proof_model.specs.Machine.{Frames, MachineFault, State, and_then, apply_frame, ended_fault, keep_top, not_earlier, numbered, proof_fault, push, run_steps, start, use_frame, use_hyp, use_label, use_step, use_what}
+use Rattle.proof_model.specs.Machine.{Frames, MachineFault, State, and_then, apply_frame, ended_fault, keep_top, not_earlier, numbered, proof_fault, run_steps, start, use_frame, use_hyp, use_label, use_step, use_what}
 use Rattle.stack_verify.specs.declared.run.Found.{Found}
 use Rattle.stack_verify.specs.declared.run.Found.TheVariants as found
-use Rattle.stack_verify.specs.Founds.{found_fault, run_found, use_found, use_found_step, use_found_what, use_hyp_at}
+use Rattle.stack_verify.specs.Founds.{found_fault, run_found, use_found_step, use_found_what, use_hyp_at}
 use Rattle.stack_verify.specs.Lookups.{AreFound, IsFound, place_of}
 use Rattle.mm_base.proofs.Positions.{position-cons}
 use Rattle.stack_verify.proofs.Substitutes.{cond_then, cond_else, position_within}

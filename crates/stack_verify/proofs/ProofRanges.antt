@@ -1,6 +1,6 @@
 -- Where the proof of a label begins, and its words.
-use Rattle.std.proofs.Common.{◌≡◌, ◌≤◌, ◌<◌, ℕ, zero, suc, ◌+◌, Bool, true, false, cond, leb, List, [], ◌∷◌, ◌++◌, length, length-append, drop, map, Option, Some, None, option_map, refl, sym, ap, ◌∙◌, arith, subst, inl, inr, ◌⊎◌, Bor}
-use Rattle.std.specs.Prelude.{codes, find, flat_map, min, option_and_then, slice_get, IsSome}
+use Rattle.std.proofs.Common.{◌≡◌, ◌≤◌, ◌<◌, ℕ, zero, suc, ◌+◌, Bool, false, cond, leb, List, [], ◌∷◌, length, length-append, drop, map, Option, Some, None, option_map, refl, sym, ap, ◌∙◌, arith, inl, inr, ◌⊎◌, Bor}
+use Rattle.std.specs.Prelude.{codes, find, flat_map, min, option_and_then, slice_get}
 use Rattle.std.proofs.lemmas.Bool.{cases_Bool, leb-false, leb-true}
 use Rattle.std.proofs.lemmas.List.{drop_all, length-map}
 use Rattle.std.specs.Option.{option_copied}

@@ -1,5 +1,5 @@
 -- The words of a proof are those between `$=` and `$.` of its statement, also where the text is read from there on.
-use Rattle.std.proofs.Common.{◌≡◌, ℕ, zero, suc, ◌+◌, Bool, true, false, cond, not, ◌||◌, List, [], ◌∷◌, ◌++◌, length, take, drop, Option, Some, None, refl, sym, ap, ◌∙◌, arith, subst, append_assoc, append-nil, inl, inr, ◌⊎◌}
+use Rattle.std.proofs.Common.{◌≡◌, ℕ, zero, suc, ◌+◌, Bool, true, false, not, ◌||◌, List, [], ◌∷◌, ◌++◌, length, take, drop, Some, None, refl, sym, ap, ◌∙◌, arith, subst, append_assoc, append-nil, inl, inr, ◌⊎◌}
 use Rattle.std.specs.Prelude.{find, reverse, codes, map, slice_get}
 use Rattle.std.specs.List.{list_any, before_first, after_first, prefix_len}
 use Rattle.std.specs.Str.{bytes_eq}
@@ -12,7 +12,7 @@ use Rattle.proof_model.specs.DatabaseProofs.{proof_words}
 use Rattle.stack_verify.specs.Proofs.{proof_names}
 use Rattle.std.proofs.lemmas.Slice.Eq.{bytes_eq-Decides}
 use Rattle.stack_verify.proofs.Substitutes.{cond_then, cond_else}
-use Rattle.stack_verify.proofs.WordsBehind.{Behind, behind, token_split}
+use Rattle.stack_verify.proofs.WordsBehind.{behind, token_split}
 
 -- ---- a statement among the tokens
 

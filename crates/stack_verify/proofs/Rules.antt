@@ -7,7 +7,7 @@ use Rattle.std.proofs.lemmas.Bool.Decides.{nat_tests}
 use Rattle.mm_base.specs.declared.symbols.Sym.{Sym}
 use Rattle.mm_base.specs.declared.symbols.Pair.{Pair}
 use Rattle.proof_model.specs.declared.theorem.Theorem.{Theorem}
-use Rattle.proof_model.specs.Machine.{Entry, MachineFault, first_pair, is_active_pair, is_shared, is_variable, least, not_distinct, or_later, shared, shared_fault, distinct_fault, substitute}
+use Rattle.proof_model.specs.Machine.{Entry, first_pair, is_active_pair, is_shared, is_variable, least, not_distinct, or_later, shared, shared_fault, distinct_fault, substitute}
 use Rattle.stack_verify.specs.declared.known.Known.{Known}
 use Rattle.stack_verify.specs.declared.pairs.Rule.{Rule}
 use Rattle.stack_verify.specs.declared.pairs.Rule.TheVariants as rule

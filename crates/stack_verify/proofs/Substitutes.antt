@@ -1,15 +1,14 @@
 -- What a symbol stands for, by the place of its `$f` among the hypotheses.
-use Rattle.std.proofs.Common.{◌≡◌, ◌≤◌, ◌<◌, ℕ, zero, suc, ◌+◌, Bool, true, false, cond, not, ltb, List, [], ◌∷◌, ◌++◌, length, get_or, position, Option, Some, None, option_map, refl, sym, ap, ◌∙◌, arith, subst, inl, inr}
-use Rattle.std.specs.Prelude.{find, drop, map, nat_lt}
-use Rattle.std.specs.List.{zip, prefix_len, position_or_len}
+use Rattle.std.proofs.Common.{◌≡◌, ◌<◌, ℕ, suc, Bool, true, false, cond, ltb, List, [], ◌∷◌, length, get_or, position, Option, Some, None, option_map, refl, sym, ap, ◌∙◌, arith, inl, inr}
+use Rattle.std.specs.Prelude.{find, drop}
+use Rattle.std.specs.List.{zip, position_or_len}
 use Rattle.std.specs.Option.{option_map_or}
 use Rattle.std.proofs.lemmas.Bool.{cases_Bool, ltb-true}
-use Rattle.std.proofs.lemmas.Bool.Decides.{nat_tests}
 use Rattle.std.proofs.lemmas.List.{get_or-map, length-map}
 use Rattle.mm_base.proofs.Positions.{position-cons}
 use Rattle.mm_base.specs.declared.symbols.Sym.{Sym}
 use Rattle.mm_model.specs.declared.frames.Hyp.{Hyp}
-use Rattle.proof_model.specs.Machine.{Formula, Entry, is_float_of, substitute}
+use Rattle.proof_model.specs.Machine.{Entry, is_float_of, substitute}
 use Rattle.stack_verify.specs.declared.formula.Span.{Span}
 use Rattle.stack_verify.specs.Stacks.{formula_in, formulas_in, entries_of}
 

@@ -1,5 +1,5 @@
 -- Pairs of variables by what is known of the theorem.
-use Rattle.std.specs.Prelude.{ℕ, Bool, not, ◌==◌, List, [], ◌∷◌, Option, Some, None, map, flat_map, filter, nat_eq}
+use Rattle.std.specs.Prelude.{Bool, not, ◌==◌, List, [], ◌∷◌, Option, Some, None, map, flat_map, filter, nat_eq}
 use Rattle.std.specs.List.{list_any}
 use Rattle.mm_base.specs.declared.symbols.Sym.{Sym}
 use Rattle.mm_base.specs.declared.symbols.Pair.{Pair}

@@ -1,6 +1,5 @@
 -- The state that a stack stands for.
-use Rattle.std.specs.Prelude.{◌≡◌, List, [], ◌∷◌, length, All, Option, Some, None}
-use Rattle.mm_base.specs.declared.symbols.Sym.{Sym}
+use Rattle.std.specs.Prelude.{List, [], ◌∷◌, length, All, Option, Some, None}
 use Rattle.proof_model.specs.Machine.{Formula, State}
 use Rattle.stack_verify.specs.declared.stack.Stack.{Stack}
 use Rattle.stack_verify.specs.Stacks.{IsWithin, state_of}

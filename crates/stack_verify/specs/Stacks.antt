@@ -1,5 +1,5 @@
 -- The stack as parts of one list of symbols.
-use Rattle.std.specs.Prelude.{ℕ, ◌≤◌, List, map, reverse, slice_range, length, All}
+use Rattle.std.specs.Prelude.{ℕ, ◌≤◌, List, map, reverse, slice_range}
 use Rattle.std.specs.List.{zip}
 use Rattle.mm_base.specs.declared.symbols.Sym.{Sym}
 use Rattle.mm_model.specs.declared.frames.Hyp.{Hyp}

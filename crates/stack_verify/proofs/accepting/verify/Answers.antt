@@ -1,4 +1,4 @@
-use Rattle.std.proofs.Common.{◌≡◌, ℕ, List, Option, None, subst}
+use Rattle.std.proofs.Common.{◌≡◌, ℕ, Option, None, subst}
 use Rattle.std.specs.Prelude.{IfErr, OnOk}
 use Rattle.mm_model.specs.Statements.{statements}
 use Rattle.proof_model.specs.DatabaseProofs.{frames_of_database}

@@ -1,4 +1,4 @@
-use Rattle.std.proofs.Common.{arith, ℕ, List, Option, ap, sym, ◌∙◌, ◌≤◌, length, option_map, subst}
+use Rattle.std.proofs.Common.{arith, ℕ, ap, sym, ◌∙◌, ◌≤◌, length, option_map}
 use Rattle.mm_model.specs.Statements.{labels, statements}
 use Rattle.mm_frames.specs.Contents.{Contents}
 use Rattle.stack_verify.proofs.ProofRanges.{no_label}

@@ -1,4 +1,4 @@
-use Rattle.std.proofs.Common.{◌≡◌, ℕ, List, length, ◌<◌, ◌∙◌, ap, subst, nat_lt, get_or}
+use Rattle.std.proofs.Common.{ℕ, List, length, ◌<◌, ◌∙◌, ap, subst, nat_lt, get_or}
 use Rattle.mm_frames.specs.Contents.{Contents}
 use Rattle.mm_frames.proofs.Queries.{constant-is}
 use Rattle.mm_frames.proofs.frames.Frames.constant_at.Goals as goal

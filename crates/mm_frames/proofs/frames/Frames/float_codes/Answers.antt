@@ -1,4 +1,4 @@
-use Rattle.std.proofs.Common.{◌≡◌, ◌∙◌, ap, take}
+use Rattle.std.proofs.Common.{◌∙◌, ap, take}
 use Rattle.mm_model.specs.Statements.{statements}
 use Rattle.mm_model.specs.Frames.{symbols}
 use Rattle.mm_frames.specs.Contents.{Contents}
