@@ -1,4 +1,4 @@
--- Laws (not proved yet): where the accepted steps can be solved, a most general valuation exists, and each worksheet has an answer.
+-- Laws: where the accepted steps can be solved, a most general valuation exists, and each worksheet has an answer.
 use Rattle.std.specs.Prelude.{◌≡◌, ℕ, ◌<◌, List, length, Some}
 use Rattle.std.specs.List.{AllByRecursion}
 use Rattle.mm_base.specs.declared.kinds.Kinds.{Kinds}

@@ -1,4 +1,4 @@
--- Laws (not proved yet): a written worksheet is written again as itself, in four parts, and the answer to a worksheet is one.
+-- Laws: a written worksheet is written again as itself, in four parts, and the answer to a worksheet is one.
 use Rattle.std.specs.Prelude.{◌≡◌, ◌↔◌, ℕ, List}
 use Rattle.std.specs.List.{AllZip}
 use Rattle.mm_model.specs.Book.{Database}
