@@ -2,6 +2,7 @@ ghost use Rattle.std.specs.Prelude.{ℕ, List as ListOf, IfOk, IfErr};
 ghost use Rattle.mm_database.specs.Books.{database_of};
 ghost use Rattle.mm_database.specs.Opened.{IsOpened};
 ghost use Rattle.sheet_unify.specs.Answered.{IsOutcome, IsFaultOf, SaysSheet};
+ghost use Rattle.sheet_unify.specs.Made.{HasText, IsSaid, HasTexts, ForTexts, IsDraft, IsDraftSound};
 
 use crate::faults::UnifyFault;
 use crate::judging::filled_items;
@@ -29,8 +30,13 @@ fn written_items(
     sheet: &Sheet,
     bound: &Bound,
     options: &Options,
-) -> Result<List<DraftItem>, UnifyFault> {
-    let filled = filled_items(alloc, db, &options.kinds, sheet, bound)?;
+) -> Result<List<DraftItem>, UnifyFault>
+    requires texts { HasTexts options.now.kinds db.now sheet.now bound.now }
+    ensures sound { IfOk result (IsDraftSound db.now) }
+    ensures drafted { ForTexts options.now.kinds db.now sheet.now bound.now (λ d text. IfOk result (IsDraft d db.now text options.now sheet.now bound.now)) }
+    ensures fault { ForTexts options.now.kinds db.now sheet.now bound.now (λ d text. IfErr result (IsFaultOf d text options.now)) }
+{
+    let filled = filled_items(alloc, db, sheet, bound, options)?;
     let named = name_items(alloc, db, bound, filled)?;
     let given = &bound.pairs;
     Ok(search_items(alloc, db, bound.place, options.dv, given, named)?)
@@ -139,7 +145,13 @@ fn outcome_of(
     bound: &Bound,
     options: &Options,
     items: List<DraftItem>,
-) -> Result<Outcome, UnifyFault> {
+) -> Result<Outcome, UnifyFault>
+    requires texts { HasTexts options.now.kinds db.now sheet.now bound.now }
+    requires sound { IsDraftSound db.now items }
+    requires drafted { ForTexts options.now.kinds db.now sheet.now bound.now (λ d text. IsDraft d db.now text options.now sheet.now bound.now items) }
+    ensures outcome { ForTexts options.now.kinds db.now sheet.now bound.now (λ d text. IfOk result (IsOutcome d text options.now)) }
+    ensures fault { ForTexts options.now.kinds db.now sheet.now bound.now (λ d text. IfErr result (IsFaultOf d text options.now)) }
+{
     check_items(alloc, db, bound.place, items.as_slice())?;
     let (report, finished) = report_on(alloc, db, bound, options, items.as_slice())?;
     match text_of(alloc, db, sheet, bound, options, items, finished) {
@@ -165,6 +177,8 @@ pub fn unify_read(
     sheet: &Sheet,
     options: &Options,
 ) -> Result<Outcome, UnifyFault>
+    requires opened { HasText options.now.kinds db.now }
+    requires said { IsSaid sheet.now }
     ensures outcome { (database text : ListOf ℕ) → IsOpened options.now.kinds database db.now → SaysSheet text sheet.now
         → IfOk result (IsOutcome (database_of options.now.kinds database db.now.rows db.now.parsed) text options.now) }
     ensures fault { (database text : ListOf ℕ) → IsOpened options.now.kinds database db.now → SaysSheet text sheet.now
@@ -185,6 +199,7 @@ pub fn unify_sheet(
     text: &[u8],
     options: &Options,
 ) -> Result<Outcome, UnifyFault>
+    requires opened { HasText options.now.kinds db.now }
     ensures outcome { (database : ListOf ℕ) → IsOpened options.now.kinds database db.now
         → IfOk result (IsOutcome (database_of options.now.kinds database db.now.rows db.now.parsed) text.now options.now) }
     ensures fault { (database : ListOf ℕ) → IsOpened options.now.kinds database db.now

@@ -17,7 +17,7 @@ use Rattle.step_chain.specs.Answers.{constants_of}
 use Rattle.step_filling.specs.declared.fault.FillFault.{FillFault}
 use Rattle.step_filling.specs.declared.fault.FillFault.TheVariants as fault
 use Rattle.step_filling.specs.Wanted.{AreShort}
-use Rattle.step_filling.specs.Filled.{IsLongNext, HasLongValue}
+use Rattle.step_filling.specs.Filled.{IsLongNext, IsLongValueNext}
 
 -- the items are those of the definitions
 pub record AreFilled (h : Held) (sheet : Sheet) (items : List DraftItem) : Type 0 where
@@ -33,7 +33,16 @@ pub record IsLong (h : Held) (sheet : Sheet) (name : Name) (n : ℕ) : Type 0 wh
   pub short : OfEachBook h (λ db. AreShort (constants_of h) (trees (steps_in (filled_front db (step_names sheet) h.bound (value_of h) (judgements_of h) front).items)))
   pub long : OfEachBook h (λ db. IsLongNext h (filled_front db (step_names sheet) h.bound (value_of h) (judgements_of h) front) (step_names sheet) step name n)
 
+-- no formula of a front and of the step behind it is too long, but a value of that step is
+pub record IsLongValueOf (h : Held) (sheet : Sheet) : Type 0 where
+  pub front : List SheetItem
+  pub step : SheetStep
+  pub rest : List SheetItem
+  pub items_are : sheet.items ≡ front ++ item.Step step ∷ rest
+  pub short : OfEachBook h (λ db. AreShort (constants_of h) (trees (steps_in (filled_front db (step_names sheet) h.bound (value_of h) (judgements_of h) front).items)))
+  pub value : OfEachBook h (λ db. IsLongValueNext h (filled_front db (step_names sheet) h.bound (value_of h) (judgements_of h) front))
+
 abbrev pub IsFillFault : Held → Sheet → FillFault → Type 0
 IsFillFault h sheet (fault.TooLong name n) = IsLong h sheet name n
-IsFillFault h sheet fault.LongValue = (i : ℕ) × HasLongValue h i
+IsFillFault h sheet fault.LongValue = IsLongValueOf h sheet
 IsFillFault h sheet fault.Memory = Unit {0}

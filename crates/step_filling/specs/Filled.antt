@@ -62,6 +62,12 @@ module _ (h : Held) (f : Filling) where
     wanted : (before : List Tree) (t : Tree) (more : List Tree) (name : Name) (n : ℕ) → next_wanted ≡ before ++ t ∷ more → AreShort (constants_of h) before → IsTooLong (constants_of h) t n
         → slice_get (derived_names (suc (new_before before)) (used_names used)) (new_before before) ≡ Some name → IsLongNext used s name n
 
+  -- no formula of the next step is too long, but a value of it is
+  pub record IsLongValueNext : Type 0 where
+    pub wanted : AreShort (constants_of h) next_wanted
+    pub own : IsShort (constants_of h) (formula_of h next_number)
+    pub long : (y : Asked) × IsAcceptedAs h next_number y × (AreShort (constants_of h) (values_of h next_number y) → ⊥)
+
 -- an item is put in, where the worksheet's steps have some names
 pub record IsPutWith (h : Held) (old new : Kept) (i : SheetItem) (used : List Name) : Type 0 where
   pub in_step : IsInStep h.book used new

@@ -1,0 +1,27 @@
+//! Laws of a chain whose steps are all judged, and of what its worksheet is filled to. Each is the contract of a function that
+//! does nothing.
+#![tactic(auto)]
+
+ghost use Rattle.filling_laws.specs.Counted.{AcceptedAreCandidates, FrontsAreCounted};
+ghost use Rattle.filling_laws.specs.Leaves.{LeavesAreSmall};
+ghost use Rattle.filling_laws.specs.Values.{ValuesAreShort};
+
+/// The accepted steps are candidates: their assertions are usable before the worksheet's place, and their places name steps.
+pub fn accepted_are_candidates()
+    ensures { AcceptedAreCandidates }
+{}
+
+/// What a front of the worksheet is filled to, and what is wanted for the next step, has as many tokens as the chain counts.
+pub fn fronts_are_counted()
+    ensures { FrontsAreCounted }
+{}
+
+/// The numbers of the fresh leaves of what is filled are those of nodes of the chain's store.
+pub fn leaves_are_small()
+    ensures { LeavesAreSmall }
+{}
+
+/// Where no formula is too long, no value of an accepted step is.
+pub fn values_are_short()
+    ensures { ValuesAreShort }
+{}
