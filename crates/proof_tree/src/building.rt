@@ -254,10 +254,10 @@ fn add_steps(
     Ok(proofs)
 }
 
-/// The proof of a step of these, as a graph. The hypotheses are the active ones of the theorem: their `$f` give the labels of
-/// variables.
+/// The proof of a step of these, as a graph. The root is the number of the step, which is there and is used. The hypotheses
+/// are the active ones of the theorem: their `$f` give the labels of variables.
 ///
-/// `Memory`: there is no room for it.
+/// `Memory`: there is no room for it, or it has 2^32 - 1 nodes or more, which no worksheet within the limits leads to.
 pub fn build(
     alloc: Global,
     db: &Database,

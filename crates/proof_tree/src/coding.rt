@@ -268,7 +268,8 @@ fn names_listed(alloc: Global, names: &Names) -> Result<List<Name>, Memory>
 
 /// The code of a graph's root for a theorem with these mandatory hypotheses, by their labels in order.
 ///
-/// `Memory`: there is no room for it.
+/// `Memory`: there is no room for it, or it has 2^32 - 1 labels or marked steps or more, which no worksheet within
+/// the limits leads to.
 pub fn code(alloc: Global, graph: &ProofGraph, mandatory: &[Name]) -> Result<Code, Memory>
     ensures { IfOk result (λ code. code ≡ code_of_proof mandatory.now (root_proof graph.now)) }
 {

@@ -145,7 +145,8 @@ fn listed(alloc: Global, numbers: &BTreeSet<u32>) -> Result<List<Label>, Memory>
 /// through the same assertions as `first` does, to the place.
 ///
 /// # Errors
-/// `Memory`: there is no room for the list, or for what `first` needs.
+/// `Memory`: there is no room for the list, or for what `first` needs, or there are 2^32 or more wanted hypotheses, which no
+/// worksheet within the limits has.
 pub fn all(
     alloc: Global,
     db: &Database,

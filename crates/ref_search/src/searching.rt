@@ -177,7 +177,8 @@ fn first_below(
 ///
 /// It goes through the assertions whose conclusion is a variable and those with the head of the wanted formula. It takes
 /// memory for one order, for the bindings of an assertion whose conclusion has the wanted formula's shape, and for copies
-/// of the values where all trees fit. `Memory`: there is no room for them.
+/// of the values where all trees fit. `Memory`: there is no room for them, or there are 2^32 or more wanted hypotheses, which
+/// no worksheet within the limits has.
 pub fn first(
     alloc: Global,
     db: &Database,

@@ -23,7 +23,8 @@ pub fn no_hyps(alloc: Global) -> HypSteps
     }
 }
 
-/// Notes one more step.
+/// Notes one more step. `Memory`: there is no room, or there are more than 2^32 - 2 labels, which no worksheet within the
+/// limits has.
 pub fn note(hyps: &mut HypSteps, step: &SheetStep) -> Result<(), Memory>
     ensures { OnOk result (hyps.new ≡ noted hyps.old step.now) }
 {

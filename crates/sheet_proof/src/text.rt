@@ -138,7 +138,8 @@ fn graph_of(
 ///
 /// # Errors
 /// `TooLong` with the labels of a normal proof, where they are more than 2^20; it is known before they are listed. `Memory`
-/// where memory runs out.
+/// where memory runs out, or where there are 2^32 - 1 steps, labels or nodes of the proof, or more, which no worksheet within
+/// the limits leads to.
 pub fn written_proof(
     alloc: Global,
     db: &Database,

@@ -81,7 +81,8 @@ fn first_ambiguous(
 }
 
 /// The name of the first step whose formula, as it is written, has two trees at the place; none where no formula has. It
-/// takes the time to parse the formulas up to that one.
+/// takes the time to parse the formulas up to that one. The formulas have at most 4,095 symbols each, the typecode not
+/// counted.
 ///
 /// Fails where memory runs out.
 pub fn ambiguous_step(

@@ -128,7 +128,8 @@ impl<'a> Chain<'a> {
     ghost use Rattle.step_chain.specs.Held.{judgements_of, front_of, OfEachBook, IsFirst, IsPushed};
 
     /// The chain over a bound worksheet, with the nodes of its formulas and no step pushed, where these are the names of the
-    /// two typecodes that have a meaning. `Memory`: there is no room for them.
+    /// two typecodes that have a meaning. The worksheet has fewer than 2^32 steps, and the places of each step name steps of
+    /// it, fewer than 2^32, as those of a worksheet that was bound do. `Memory`: there is no room for them.
     pub fn new(
         alloc: Global,
         db: &'a Database,

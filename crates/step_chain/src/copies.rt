@@ -14,7 +14,8 @@ use std::alloc::Global;
 use syntax_grammar::Grammar;
 use term_arena::{Arena, Id};
 
-/// Adds the variable of a `$f`, with the node that comes next.
+/// Adds the variable of a `$f`, with the node that comes next. `Memory`: there is no room, or the number of the node is 2^32
+/// or more, which no worksheet within the limits reaches.
 fn push_variable(variables: &mut Vec<VariableNode>, first: u32, hyp: &Hyp) -> Result<(), Memory>
     ensures { OnOk result (variables.new.items ≡ variables.old.items ++ numbered (first + length variables.old.items) (typed_of hyp.now)) }
 {

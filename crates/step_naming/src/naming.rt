@@ -54,7 +54,8 @@ fn names_of<'d>(
 /// named too, and all else stays. It takes time in proportion to the trees and to the formulas of the worksheet as it was
 /// read, and memory for one name for each new work variable and, where there is one, for the trees.
 ///
-/// Fails where memory runs out.
+/// The database has at most 2^28 symbols, the worksheet as it was read has at most 2^28 work variables in its formulas, and
+/// the fresh leaves have numbers below 2^31; so a free number is left for each leaf. Fails where memory runs out.
 pub fn name_items(
     alloc: Global,
     db: &Database,
