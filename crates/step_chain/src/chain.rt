@@ -125,7 +125,7 @@ impl<'a> Chain<'a> {
     ghost use Rattle.step_chain.specs.Values.{value_of, accepted_at, judged_at};
     ghost use Rattle.step_chain.specs.Levels.{IsUsedIf};
     ghost use Rattle.step_chain.specs.Answers.{IsAcceptedAs, OfAccepted, OfKept};
-    ghost use Rattle.step_chain.specs.Held.{judgements_of, front_of, OfEachBook, IsFirst, IsPushed};
+    ghost use Rattle.step_chain.specs.Held.{judgements_of, front_of, OfEachBook, IsFirst, IsHeld, IsPushed};
 
     /// The chain over a bound worksheet, with the nodes of its formulas and no step pushed, where these are the names of the
     /// two typecodes that have a meaning. The worksheet has fewer than 2^32 steps, and the places of each step name steps of
@@ -184,6 +184,7 @@ impl<'a> Chain<'a> {
     /// The store of terms. It has at most as many nodes as the worksheet's work size.
     pub fn arena(&self) -> &Arena
         ensures few { OfEachBook self.now (λ db. length self.now.nodes ≤ work_size db self.now.bound) }
+        ensures held { IsHeld self.now }
         ensures nodes { result.now.nodes ≡ self.now.nodes }
         ensures links { result.now.links ≡ self.now.links }
     {
