@@ -1,0 +1,3 @@
+mod LeafReading
+mod LeafFilling
+mod LeafLaws
