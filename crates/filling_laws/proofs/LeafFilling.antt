@@ -28,13 +28,14 @@ module _ (Q : Tree → Type 0) where
   of_trees (comment lines ∷ items) h = of_trees items h.1
   of_trees (step e ∷ items) h = (h.0, of_trees items h.1)
 
+  by_test : (some none : List Tree) (b : Bool) → AllByRecursion Q some → AllByRecursion Q none → AllByRecursion Q (cond b some none)
+  by_test some none true h k = h
+  by_test some none false h k = k
+
+  -- what is new is wanted
   of_new : (seen ws : List Tree) → AllByRecursion Q ws → AllByRecursion Q (new_trees seen ws)
   of_new seen [] h = tt
-  of_new seen (w ∷ ws) h = by (list_any (same_tree w) seen)
-    where
-      by : (b : Bool) → AllByRecursion Q (cond b (new_trees seen ws) (w ∷ new_trees (seen ++ w ∷ []) ws))
-      by true = of_new seen ws h.1
-      by false = (h.0, of_new (seen ++ w ∷ []) ws h.1)
+  of_new seen (w ∷ ws) h = by_test (new_trees seen ws) (w ∷ new_trees (seen ++ w ∷ []) ws) (list_any (same_tree w) seen) (of_new seen ws h.1) (h.0, of_new (seen ++ w ∷ []) ws h.1)
 
   of_made : (names : List Name) (ts : List Tree) → AllByRecursion Q ts → AllByRecursion OfItem (map step (map made_step (zip names ts)))
   of_made [] ts h = tt
@@ -50,8 +51,7 @@ module _ (Q : Tree → Type 0) where
     of_with used s t o f filled own made before =
         let new = map step (map made_step (zip (derived_names (length filled.made) used) filled.made)) in
         let last = step (filled_step f.numbers filled.places s t g o) in
-        all_join OfItem f.items (new ++ last ∷ []) before
-        (all_join OfItem new (last ∷ []) (of_made (derived_names (length filled.made) used) filled.made made) (of_step f.numbers filled.places s t o own, tt))
+        all_join OfItem (f.items ++ new) (last ∷ []) (all_join OfItem f.items new before (of_made (derived_names (length filled.made) used) filled.made made)) (of_step f.numbers filled.places s t o own, tt)
 
     module _ (names : List Name) (bound : Bound) (judgements : List Judgement)
         (own : (i : ℕ) → Q (formula bound g i))

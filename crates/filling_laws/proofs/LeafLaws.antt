@@ -14,6 +14,7 @@ use Rattle.mm_database.specs.Opened.{Opened, IsOpened}
 use Rattle.sheet_text.specs.declared.sheet.Sheet.{Sheet}
 use Rattle.sheet_text.specs.declared.sheet.SheetItem.{SheetItem}
 use Rattle.solve_model.specs.declared.bound.Bound.{Bound}
+use Rattle.solve_model.specs.declared.bound.BoundStep.{BoundStep}
 use Rattle.solve_model.specs.declared.verdict.Verdict.TheVariants as verdict
 use Rattle.solve_model.specs.Bound.{Binds}
 use Rattle.solve_model.specs.Solutions.{blank, Asked, no_step, formula, formula_value, instance}
@@ -34,7 +35,7 @@ use Rattle.step_chain.specs.Held.{Held, judgements_of, IsHeld}
 use Rattle.step_chain.specs.Values.{accepted_at, value_of}
 use Rattle.step_chain.specs.Answers.{IsAcceptedAs}
 use Rattle.step_chain.proofs.Lists.{all_has, all_each}
-use Rattle.step_chain.proofs.ChainLaws.{sound_of, node_within}
+use Rattle.step_chain.proofs.ChainLaws.{sound_of}
 use Rattle.step_chain.proofs.ValueLaws.{formula_is}
 use Rattle.step_chain.proofs.AnswerLaws.{accepted_true, hyp_value, own_count, hyp_inside}
 use Rattle.step_naming.specs.Named.{AreSmallLeaves}
@@ -61,6 +62,9 @@ all_map P f (x ∷ xs) h = (h.0, all_map P f xs h.1)
 some_of : {X : Type 0} (o : Option X) → IsTrue (is_some o) → (x : X) × (o ≡ Some x)
 some_of None h = let impossible : false ≡ true = h in absurd (cc)
 some_of (Some x) h = (x, refl)
+
+abbrev no_id : Id
+no_id = record { 0 = 0 }
 
 -- ---- the number of an accepted step
 
@@ -107,8 +111,8 @@ module _ (h : Held) (held : IsHeld h) (few : length h.nodes ≤ 2 ^ 24) where
       | inl below ↦ subst IsSmall (formula_is h db level i below) (small_node (formula_at h.formulas i).0 (level.formula_nodes i below).within)
       | inr past ↦
           let count = held.count in
-          let first : formula_at h.formulas i ≡ record { 0 = 0 } = past_end h.formulas i (record { 0 = 0 }) (omega (arith, past, count)) in
-          let last : formula h.bound (value_of h) i ≡ value_of h (blank i) = ap (λ s. formula_value (value_of h) i s.tree) (past_end h.bound.steps i no_step past) in
+          let first : formula_at h.formulas i ≡ no_id = past_end h.formulas i no_id (omega (arith, past, count)) in
+          let last : formula h.bound (value_of h) i ≡ value_of h (blank i) = ap (λ (s : BoundStep). formula_value (value_of h) i s.tree) (past_end h.bound.steps i no_step past) in
           let node : value_of h (blank i) ≡ value_at h.nodes h.links h.works 0 = ap (λ (id : Id). value_at h.nodes h.links h.works id.0) first in
           subst IsSmall (sym (last ∙ node)) small_first
     ]
@@ -121,12 +125,12 @@ module _ (h : Held) (held : IsHeld h) (few : length h.nodes ≤ 2 ^ 24) where
       small_hyp : (k : ℕ) (e : Tree) → slice_get y.assertion.hyps k ≡ Some e → IsSmall (instance (value_of h) i e)
       small_hyp k e at =
           let x = kept.0 in
-          let id : Id = get_or x.hyps k (record { 0 = 0 }) in
+          let id : Id = get_or x.hyps k no_id in
           let count = own_count h db level i y is x kept.1 in
           let within = slice_get_within y.assertion.hyps k e at in
           let below : k < length x.hyps = omega (arith, within, count) in
-          let inside : id.0 < length h.nodes = hyp_inside h h refl (record { nodes = h.nodes; links = h.links; works = h.works }) (record { held = held; trees = refl }) i x kept.1 x.hyps k (record { 0 = 0 }) refl below in
-          subst IsSmall (hyp_value h db level i y is x kept.1 k e id at (slice_get-get_or x.hyps k (record { 0 = 0 }) below)) (small_node id.0 inside)
+          let inside : id.0 < length h.nodes = hyp_inside h h refl (record { nodes = h.nodes; links = h.links; works = h.works }) (record { held = held; trees = refl }) i x kept.1 x.hyps k no_id refl below in
+          subst IsSmall (hyp_value h db level i y is x kept.1 k e id at (slice_get-get_or x.hyps k no_id below)) (small_node id.0 inside)
 
       small_asked : AllByRecursion IsSmall (wanted_by (value_of h) (accepted y))
       small_asked =

@@ -81,6 +81,10 @@ module _ (nodes : List Term) (links : List Link) (works : List WorkNode) (store 
   pub low_value : (i : ℕ) → i < length nodes → IsLow (length nodes) (value_at nodes links works i)
   low_value i h = low_read (length nodes) i h
 
+  low_unread : (m i : ℕ) → 0 < m → IsLow m (read nodes links (leaf_at links works) 0 i)
+  unfolding read
+  low_unread m i below = low_Fresh m no_code 0 below
+
   -- the first node, also where there is none
   pub low_first : (m : ℕ) → length nodes < m → IsLow m (value_at nodes links works 0)
   low_first m h = elim (cases_lt 0 (length nodes)) [
@@ -89,7 +93,3 @@ module _ (nodes : List Term) (links : List Link) (works : List WorkNode) (store 
         let empty : 0 ≡ length nodes = omega (arith, none) in
         subst (λ (d : ℕ). IsLow m (read nodes links (leaf_at links works) d 0)) empty (low_unread m 0 (omega (arith, h)))
   ]
-    where
-      low_unread : (k i : ℕ) → 0 < k → IsLow k (read nodes links (leaf_at links works) 0 i)
-      unfolding read
-      low_unread k i below = low_Fresh k no_code 0 below
