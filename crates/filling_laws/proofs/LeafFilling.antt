@@ -1,5 +1,5 @@
 -- A fact of each formula and of each wanted tree is one of each tree that is filled.
-use Rattle.std.specs.Prelude.{ℕ, Bool, true, false, List, [], ◌∷◌, ◌++◌, length, map, fold, zip, slice_index_or, Contains}
+use Rattle.std.specs.Prelude.{ℕ, Bool, true, false, List, [], ◌∷◌, ◌++◌, length, map, fold, zip, slice_index_or}
 use Rattle.std.specs.List.{AllByRecursion, list_any}
 use Rattle.std.proofs.Common.{cond}
 use Rattle.mm_base.specs.declared.tree.Tree.{Tree}

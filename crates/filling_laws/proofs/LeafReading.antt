@@ -1,7 +1,7 @@
 -- The fresh leaves of the tree of a node have numbers of nodes.
 use Rattle.std.specs.Prelude.{◌≡◌, ℕ, ◌<◌, List, [], ◌∷◌, length, map, Contains, Option, Some, None}
 use Rattle.std.specs.List.{AllByRecursion}
-use Rattle.std.proofs.Common.{zero, suc, sym, subst, arith, inl, inr}
+use Rattle.std.proofs.Common.{zero, suc, subst, arith, inl, inr}
 use Rattle.std.proofs.lemmas.Bool.{cases_lt}
 use Rattle.std.proofs.lemmas.List.Elements.{Contains-append_cases}
 use Rattle.mm_base.specs.declared.symbols.Sym.{Sym}
@@ -9,7 +9,7 @@ use Rattle.mm_base.specs.declared.symbols.Label.{Label}
 use Rattle.mm_base.specs.declared.symbols.Typecode.{Typecode}
 use Rattle.mm_base.specs.declared.tree.Tree.{Tree}
 use Rattle.mm_base.specs.declared.tree.Tree.TheVariants as tree
-use Rattle.solve_model.specs.Trees.{Open, work, fresh, open_leaves, flatten, Occurs}
+use Rattle.solve_model.specs.Trees.{work, fresh, open_leaves, flatten, Occurs}
 use Rattle.solve_model.proofs.TreeLaws.{open_leaves-Var, open_leaves-Work, open_leaves-Fresh, open_leaves-Node}
 use Rattle.solve_laws.proofs.Elements.{nothing, only}
 use Rattle.term_model.specs.declared.shape.Id.{Id}
