@@ -50,7 +50,7 @@ ORDER = [
         ("FaultLines", "the lines of faults", "FORMAT, Report and log lines"),
     ]),
     ("trial_texts", "The texts of the trial of the program by itself.", [
-        ("TrialTexts", "a database, and a worksheet of any number of blocks", ""),
+        ("TrialTexts", "a database, and a worksheet of any number of blocks", "FORMAT, The trial"),
     ]),
     ("proof_model", "Proofs.", [
         ("Proofs", "proofs as trees of labels", "book 4.3"),
@@ -87,23 +87,23 @@ ORDER = [
         ("Again", "what a written worksheet becomes when it is unified again", ""),
         ("ReadBack", "laws: what a text without a fault reads as, and that a laid out worksheet reads back", ""),
         ("ProofsPush", "laws: what a proof leaves on the stack", ""),
-        ("Existence", "laws: a most general valuation exists, and, not proved yet, each worksheet has an answer", ""),
+        ("Existence", "laws: a most general valuation exists, and, not proved, each worksheet has an answer", ""),
         ("WrittenAgain", "laws: written again as itself, and the answer is one", ""),
     ]),
     ("call_answers", "What a call of the program answers.", [
-        ("CommandLine", "the words of the command line, with the options and the command `trial` that are not built yet; those of the program so far stand in `mmp/specs/CommandWords`", ""),
+        ("CommandLine", "the words of the command line", "FORMAT, Command words"),
         ("Verified", "what `verify` says of a label", "FORMAT, The proof code, The stack machine"),
         ("Endings", "what an answer has for the output and for the log, and its status", "FORMAT, Statuses"),
-        ("Trial", "the trial of the program by itself, not built yet", ""),
-        ("CallAnswers", "the answer by cases: the main theorem, which `run` does not cite yet", "FORMAT, Statuses"),
+        ("Trial", "the trial of the program by itself", "FORMAT, The trial"),
+        ("CallAnswers", "the answer by cases: the main theorem", "FORMAT, Statuses"),
+        ("Given", "what a call leaves behind of its answer in files, output and log", "FORMAT, Statuses"),
     ]),
 ]
 
-LAWS = ["model_laws", "proof_laws", "solve_laws", "sheet_laws", "chain_laws", "again_laws", "answer_laws", "push_laws", "writing_laws", "headline_laws"]
+LAWS = ["model_laws", "theorem_laws", "proof_laws", "solve_laws", "sheet_laws", "chain_laws", "again_laws", "answer_laws", "push_laws", "writing_laws", "headline_laws", "phase_laws"]
 
-# The statements that no contract names yet, by crate and file.
+# The statements that no contract names, by crate and file.
 STATED = [
-    ("call_answers", "CallAnswers", ["IsAnswer"]),
     ("written_model", "Existence", ["HasAnswer"]),
 ]
 
@@ -113,7 +113,7 @@ What the contracts of this repository mean rests on the definitions in this list
 
 Of each file the list has, in its order, the definitions that other files rest on, the propositions and the rules of faults, each with the line that says what it is. The other definitions are parts of these and stand behind "Parts"; most have such a line in the file. `book` is *Metamath: A Computer Language for Mathematical Proofs*, second edition; FORMAT is [FORMAT.md](FORMAT.md). Where a section is named, the file states it.
 
-A definition is tried on worked examples, which stand beside it in `specs/` as files `..Examples.antt`, or in `proofs/` where they take a tactic. A law is claimed where the contract of a public function names it; the last two parts list these laws, and the statements that no contract names yet.
+A definition is tried on worked examples, which stand beside it in `specs/` as files `..Examples.antt`, or in `proofs/` where they take a tactic. A law is claimed where the contract of a public function names it; the last two parts list these laws, and the statements that no contract names. The main theorem is what the contract of `run` in `mmp_run` says of a call.
 
 This file is written by `docs/definitions.py` from the comments of the definitions.
 """
@@ -245,7 +245,8 @@ def main():
     for crate in LAWS:
         out.append(f"- **{crate}**")
         out.extend(f"  - `{name}`: {sentence(text)}" for name, text in laws(crate))
-    out.append("\n## Stated, not proved yet\n")
+    if STATED:
+        out.append("\n## Stated, not proved\n")
     for crate, name, stated in STATED:
         found = dict(definitions(os.path.join(CRATES, crate, "specs", name + ".antt")))
         out.append(f"- **{name}** of {crate}")
