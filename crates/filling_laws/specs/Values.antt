@@ -1,5 +1,5 @@
 -- The values of accepted steps.
-use Rattle.std.specs.Prelude.{◌≡◌, ⊥, List, length}
+use Rattle.std.specs.Prelude.{◌≡◌, List, length}
 use Rattle.sheet_text.specs.declared.sheet.Sheet.{Sheet}
 use Rattle.sheet_text.specs.Layout.{steps}
 use Rattle.step_chain.specs.Held.{Held, OfEachBook}
