@@ -121,7 +121,10 @@ module _ (P : Tree → Type 0) where
 
     pub good_front : (front : List SheetItem) → length (filter_map step_of_item front) ≤ n
         → IsGood (length (filter_map step_of_item front)) (fold (fill_item names bound g judgements) (record { items = []; numbers = [] }) front)
-    good_front front l = run front 0 (record { items = []; numbers = [] }) (record { all = tt; numbers = refl }) l
+    good_front front l =
+        let none : 0 + length (filter_map step_of_item front) ≡ length (filter_map step_of_item front) = omega arith in
+        subst (λ k. IsGood k (fold (fill_item names bound g judgements) (record { items = []; numbers = [] }) front)) none
+        (run front 0 (record { items = []; numbers = [] }) (record { all = tt; numbers = refl }) (omega (arith, l)))
 
 -- ---- a judged chain
 
