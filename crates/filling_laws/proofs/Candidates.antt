@@ -3,7 +3,6 @@ use Rattle.std.specs.Prelude.{◌≡◌, ◌<◌, ℕ, Bool, true, false, List, 
 use Rattle.std.specs.List.{AllByRecursion}
 use Rattle.std.proofs.Common.{sym, subst, arith}
 use Rattle.std.proofs.lemmas.Bool.{ltb-true}
-use Rattle.mm_base.specs.declared.kinds.Kinds.{Kinds}
 use Rattle.mm_model.specs.BookFacts.{IsDatabase}
 use Rattle.mm_model.specs.Book.{Database, Assertion, position_of}
 use Rattle.model_laws.specs.DatabaseLaws.{HasDatabaseFacts}

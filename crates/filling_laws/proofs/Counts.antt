@@ -1,7 +1,7 @@
 -- What a front of a worksheet is filled to has the trees of its steps and those that are wanted.
-use Rattle.std.specs.Prelude.{◌≡◌, ◌<◌, ◌≤◌, ◌+◌, ℕ, zero, suc, List, [], ◌∷◌, ◌++◌, length, map, drop, fold, zip, filter_map, slice_get, slice_index_or, Contains, Some, refl}
+use Rattle.std.specs.Prelude.{◌≡◌, ◌<◌, ◌≤◌, ◌+◌, ℕ, zero, suc, List, [], ◌∷◌, ◌++◌, length, map, drop, fold, zip, filter_map, slice_index_or, Contains, refl}
 use Rattle.std.specs.List.{AllByRecursion, list_any}
-use Rattle.std.proofs.Common.{sym, ap, subst, ◌∙◌, arith, inl, inr, length-append}
+use Rattle.std.proofs.Common.{sym, ap, subst, ◌∙◌, arith, inl, inr}
 use Rattle.std.proofs.lemmas.Bool.{cases_Bool}
 use Rattle.std.proofs.lemmas.List.Elements.{filter_map-append}
 use Rattle.mm_base.specs.declared.tree.Tree.{Tree}
@@ -19,7 +19,7 @@ use Rattle.solve_model.specs.Verdicts.{Judgement, accepted, stands, asked_of, ac
 use Rattle.written_model.specs.Existence.{IsCandidate}
 use Rattle.written_model.specs.WrittenSteps.{WrittenStep, WrittenItem, comment, step, step_of, steps_in, trees}
 use Rattle.written_model.specs.Filled.{Filling, new_trees, fill, derived_names, made_step, filled_step, wanted_by, fill_item}
-use Rattle.again_laws.proofs.Lists.{get_below, get_contains, into_filter_map, all_of}
+use Rattle.again_laws.proofs.Lists.{get_below, into_filter_map, all_of}
 use Rattle.step_chain.specs.Held.{Held, judgements_of}
 use Rattle.step_chain.specs.Values.{value_of}
 use Rattle.step_chain.specs.Answers.{constants_of}
