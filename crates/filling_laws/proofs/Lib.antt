@@ -1,3 +1,5 @@
-mod LeafReading
+pub mod Candidates
+pub mod Counts
 mod LeafFilling
 mod LeafLaws
+mod LeafReading

@@ -6,15 +6,23 @@ ghost use Rattle.filling_laws.specs.Counted.{AcceptedAreCandidates, FrontsAreCou
 ghost use Rattle.filling_laws.specs.Leaves.{LeavesAreSmall};
 ghost use Rattle.filling_laws.specs.Values.{ValuesAreShort};
 
+use model_laws::has_database_facts;
+use step_filling::chain_is_counted;
+
 /// The accepted steps are candidates: their assertions are usable before the worksheet's place, and their places name steps.
 pub fn accepted_are_candidates()
     ensures { AcceptedAreCandidates }
-{}
+{
+    has_database_facts();
+}
 
 /// What a front of the worksheet is filled to, and what is wanted for the next step, has as many tokens as the chain counts.
 pub fn fronts_are_counted()
     ensures { FrontsAreCounted }
-{}
+{
+    accepted_are_candidates();
+    chain_is_counted();
+}
 
 /// The numbers of the fresh leaves of what is filled are those of nodes of the chain's store.
 pub fn leaves_are_small()
