@@ -22,7 +22,7 @@ use Rattle.step_filling.specs.declared.fault.FillFault.{FillFault}
 use Rattle.step_filling.specs.declared.fault.FillFault.TheVariants as fault
 use Rattle.step_filling.specs.Kept.{Kept, IsBegun, with_comment, filling_in, IsInStep}
 use Rattle.step_filling.specs.Wanted.{AreShort}
-use Rattle.step_filling.specs.Filled.{step_count, IsPut, ArePut, IsItemFault, IsLongNext, IsFaultAmong, filled_behind}
+use Rattle.step_filling.specs.Filled.{step_count, IsPut, ArePut, IsItemFault, IsLongNext, IsLongValueNext, IsFaultAmong, filled_behind}
 use Rattle.step_filling.specs.Answers.{AreFilled, IsFillFault}
 use Rattle.step_filling.proofs.DraftLaws.{sound_join}
 
@@ -110,7 +110,18 @@ module _ (h : Held) where
           subst (λ (g : Filling). IsLongNext h g used s name n) same (f used with_names.in_step kinds text sheet opened binds code),
         );
   }
-  fault_item k mid front rest items (item.Step s) are split fault.LongValue f = (length mid.numbers, f)
+  fault_item k mid front rest items (item.Step s) are split fault.LongValue f = record {
+    front = front;
+    step = s;
+    rest = rest;
+    items_are = split;
+    long = λ used in_step kinds text sheet opened binds code short.
+        let with_names = are.with_names used in_step in
+        let same = with_names.filled kinds text sheet opened binds code in (
+          subst (λ (g : Filling). AreShort (constants_of h) (trees (steps_in g.items))) same (subst (AreShort (constants_of h)) with_names.in_step.trees (are.short kinds text sheet opened binds code short)),
+          subst (IsLongValueNext h) same (f kinds text sheet opened binds code),
+        );
+  }
   fault_item k mid front rest items (item.Step s) are split fault.Memory f = tt
 
 -- ---- by numbers
@@ -173,5 +184,14 @@ module _ (h : Held) (sheet : Sheet) (k : Kept) (begun : IsBegun sheet k) where
     long = λ kinds text s opened binds code.
         subst (λ (g : Filling). IsLongNext h (filled_behind h (step_names sheet) g f.front) (step_names sheet) f.step name n) empty_is (f.long (step_names sheet) at_first kinds text s opened binds code short_first).1;
   }
-  whole_fault fault.LongValue f = f
+  whole_fault fault.LongValue f = record {
+    front = f.front;
+    step = f.step;
+    rest = f.rest;
+    items_are = f.items_are;
+    short = λ kinds text s opened binds code.
+        subst (λ (g : Filling). AreShort (constants_of h) (trees (steps_in (filled_behind h (step_names sheet) g f.front).items))) empty_is (f.long (step_names sheet) at_first kinds text s opened binds code short_first).0;
+    value = λ kinds text s opened binds code.
+        subst (λ (g : Filling). IsLongValueNext h (filled_behind h (step_names sheet) g f.front)) empty_is (f.long (step_names sheet) at_first kinds text s opened binds code short_first).1;
+  }
   whole_fault fault.Memory f = tt

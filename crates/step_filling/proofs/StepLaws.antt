@@ -42,7 +42,7 @@ use Rattle.step_filling.specs.declared.fault.FillFault.{FillFault}
 use Rattle.step_filling.specs.declared.fault.FillFault.TheVariants as fault
 use Rattle.step_filling.specs.Kept.{Kept, draft_of, filling_in, names_in, IsInStep, AreMade, IsOwnPut}
 use Rattle.step_filling.specs.Wanted.{wanted_from, AreShort, IsTooLong, AreWanted}
-use Rattle.step_filling.specs.Filled.{formula_of, accepted_places, IsOwnRead, AreValuesRead, IsValueFault, IsUsedStep, IsOwnAccepted, IsOwnFault, IsLongNamed, IsLongNext, IsFilledPut, IsWantedPut, IsStandingPut, IsPut, HasLongValue, IsNextFault}
+use Rattle.step_filling.specs.Filled.{formula_of, accepted_places, IsOwnRead, AreValuesRead, IsValueFault, IsUsedStep, IsOwnAccepted, IsUseFault, IsOwnFault, IsLongNamed, IsLongNext, IsFilledPut, IsWantedPut, IsStandingPut, IsPut, IsNextFault}
 use Rattle.step_filling.proofs.WantedLaws.{short_join}
 use Rattle.step_filling.proofs.DraftLaws.{made_in, made_in_step, own_in, own_in_step}
 
@@ -64,7 +64,13 @@ module _ (h : Held) (i : ℕ) (name : Name) where
   formula_fault m same fault.LongValue read = λ kinds text sheet opened binds code y a. absurd (read kinds text sheet opened binds code)
   formula_fault m same fault.Memory read = tt
 
-  pub values_fault : (e : FillFault) → IsValueFault e → OfAccepted h i (λ y. AreValuesRead (constants_of h) (values_of h i y) (Err e)) → IsOwnFault h i name e
+  pub use_fault : OfEachBook h (λ db. IsShort (constants_of h) (formula_of h i)) → (e : FillFault) → IsUseFault h i e → IsOwnFault h i name e
+  use_fault short (fault.TooLong l n) f = absurd f
+  use_fault short fault.LongValue f = λ kinds text sheet opened binds code y a. (short kinds text sheet opened binds code, f kinds text sheet opened binds code y a)
+  use_fault short fault.Memory f = tt
+
+module _ (h : Held) (i : ℕ) where
+  pub values_fault : (e : FillFault) → IsValueFault e → OfAccepted h i (λ y. AreValuesRead (constants_of h) (values_of h i y) (Err e)) → IsUseFault h i e
   values_fault (fault.TooLong l n) is read = absurd is
   values_fault fault.LongValue is read = read
   values_fault fault.Memory is read = tt
@@ -312,5 +318,12 @@ module _ (h : Held) (i : ℕ) (s : SheetStep) (x : Accepted) (old : Kept) (next 
       let want = read kinds text sheet opened binds code y as_asked in
       subst (λ (z : Name). IsLongNext h (filling_in h.book old) used s z n) (sym told.0)
       (IsLongNext.own n (subst (AreShort (constants_of h)) (sym wanted_next) want.1) (subst (λ (k : ℕ). IsTooLong (constants_of h) (formula_of h k) n) next told.1))
-  own_fault found read fault.LongValue h' = subst (HasLongValue h) next (λ kinds text sheet opened binds code. (y, as_asked, h' kinds text sheet opened binds code y as_asked))
+  own_fault found read fault.LongValue h' = λ kinds text sheet opened binds code.
+      let told = h' kinds text sheet opened binds code y as_asked in
+      let want = read kinds text sheet opened binds code y as_asked in
+      record {
+        wanted = subst (AreShort (constants_of h)) (sym wanted_next) want.1;
+        own = subst (λ (k : ℕ). IsShort (constants_of h) (formula_of h k)) next told.0;
+        long = (y, subst (λ (k : ℕ). IsAcceptedAs h k y) next as_asked, subst (λ (k : ℕ). AreShort (constants_of h) (values_of h k y) → ⊥) next told.1);
+      }
   own_fault found read fault.Memory h' = tt

@@ -17,7 +17,7 @@ use Rattle.step_chain.specs.Answers.{constants_of}
 use Rattle.step_filling.specs.declared.fault.FillFault.{FillFault}
 use Rattle.step_filling.specs.declared.fault.FillFault.TheVariants as fault
 use Rattle.step_filling.specs.Wanted.{AreShort}
-use Rattle.step_filling.specs.Filled.{IsLongNext, IsLongValueNext, HasLongValue}
+use Rattle.step_filling.specs.Filled.{IsLongNext, IsLongValueNext}
 
 -- the items are those of the definitions
 pub record AreFilled (h : Held) (sheet : Sheet) (items : List DraftItem) : Type 0 where
@@ -44,5 +44,5 @@ pub record IsLongValueOf (h : Held) (sheet : Sheet) : Type 0 where
 
 abbrev pub IsFillFault : Held → Sheet → FillFault → Type 0
 IsFillFault h sheet (fault.TooLong name n) = IsLong h sheet name n
-IsFillFault h sheet fault.LongValue = (i : ℕ) × HasLongValue h i
+IsFillFault h sheet fault.LongValue = IsLongValueOf h sheet
 IsFillFault h sheet fault.Memory = Unit {0}

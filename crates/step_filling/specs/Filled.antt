@@ -82,14 +82,10 @@ pub record IsPut (h : Held) (old new : Kept) (i : SheetItem) : Type 0 where
   pub with_names : (used : List Name) → IsInStep h.book used old → IsPutWith h old new i used
   pub short : OfEachBook h (λ db. AreShort (constants_of h) old.trees → AreShort (constants_of h) new.trees)
 
--- a value of the next step is too long
-abbrev pub HasLongValue : Held → ℕ → Type 0
-HasLongValue h i = OfEachBook h (λ db. (y : Asked) × IsAcceptedAs h i y × (AreShort (constants_of h) (values_of h i y) → ⊥))
-
 -- why the next step is not put in
 abbrev pub IsNextFault : Held → Kept → SheetStep → FillFault → Type 0
 IsNextFault h k s (fault.TooLong name n) = (used : List Name) → IsInStep h.book used k → OfEachBook h (λ db. IsLongNext h (filling_in h.book k) used s name n)
-IsNextFault h k s fault.LongValue = HasLongValue h (length k.numbers)
+IsNextFault h k s fault.LongValue = OfEachBook h (λ db. IsLongValueNext h (filling_in h.book k))
 IsNextFault h k s fault.Memory = Unit {0}
 
 -- the values were read, unless one of them is too long
@@ -118,9 +114,16 @@ pub record IsUsedStep (h : Held) (i : ℕ) (s : SheetStep) (label : Label) (plac
   pub values_are : OfAccepted h i (λ y. values ≡ values_of h i y)
   pub count : OfKept h i (λ x. length values ≡ length x.variables)
 
+-- why the values are not put in
+abbrev pub IsUseFault : Held → ℕ → FillFault → Type 0
+IsUseFault h i (fault.TooLong m n) = ⊥
+IsUseFault h i fault.LongValue = OfAccepted h i (λ y. AreShort (constants_of h) (values_of h i y) → ⊥)
+IsUseFault h i fault.Memory = Unit {0}
+
+-- the formula is too long; or it is not, and a value is
 abbrev pub IsOwnFault : Held → ℕ → Name → FillFault → Type 0
 IsOwnFault h i name (fault.TooLong m n) = OfEachBook h (λ db. (m ≡ name) × IsTooLong (constants_of h) (formula_of h i) n)
-IsOwnFault h i name fault.LongValue = OfAccepted h i (λ y. AreShort (constants_of h) (values_of h i y) → ⊥)
+IsOwnFault h i name fault.LongValue = OfAccepted h i (λ y. IsShort (constants_of h) (formula_of h i) × (AreShort (constants_of h) (values_of h i y) → ⊥))
 IsOwnFault h i name fault.Memory = Unit {0}
 
 -- the name of the new step that would stand for a tree behind these
@@ -171,9 +174,18 @@ pub record IsLongAmong (h : Held) (old : Kept) (items : List SheetItem) (name : 
   pub long : (used : List Name) → IsInStep h.book used old → OfEachBook h (λ db. AreShort (constants_of h) old.trees
       → AreShort (constants_of h) (trees (steps_in (filled_behind h used (filling_in h.book old) front).items)) × IsLongNext h (filled_behind h used (filling_in h.book old) front) used step name n)
 
+-- behind a front of the items, of which no formula is too long, nor of the next step, a value of that step that is too long
+pub record IsLongValueAmong (h : Held) (old : Kept) (items : List SheetItem) : Type 0 where
+  pub front : List SheetItem
+  pub step : SheetStep
+  pub rest : List SheetItem
+  pub items_are : items ≡ front ++ item.Step step ∷ rest
+  pub long : (used : List Name) → IsInStep h.book used old → OfEachBook h (λ db. AreShort (constants_of h) old.trees
+      → AreShort (constants_of h) (trees (steps_in (filled_behind h used (filling_in h.book old) front).items)) × IsLongValueNext h (filled_behind h used (filling_in h.book old) front))
+
 abbrev pub IsFaultAmong : Held → Kept → List SheetItem → FillFault → Type 0
 IsFaultAmong h k items (fault.TooLong name n) = IsLongAmong h k items name n
-IsFaultAmong h k items fault.LongValue = (i : ℕ) × HasLongValue h i
+IsFaultAmong h k items fault.LongValue = IsLongValueAmong h k items
 IsFaultAmong h k items fault.Memory = Unit {0}
 
 -- why an item is not put in

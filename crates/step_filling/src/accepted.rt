@@ -8,7 +8,7 @@ ghost use Rattle.step_chain.specs.Values.{accepted_at};
 ghost use Rattle.step_chain.specs.Answers.{OfAccepted, OfKept, constants_of, values_of};
 ghost use Rattle.written_model.specs.declared.report.ReportVerdict.TheVariants as report;
 ghost use Rattle.step_filling.specs.Kept.{draft_of};
-ghost use Rattle.step_filling.specs.Filled.{IsOwnRead, AreValuesRead, IsValueFault, IsUsedStep, IsOwnAccepted, IsOwnFault, formula_of};
+ghost use Rattle.step_filling.specs.Filled.{IsOwnRead, AreValuesRead, IsValueFault, IsUsedStep, IsOwnAccepted, IsUseFault, IsOwnFault, formula_of};
 
 use crate::drafts::own_step;
 use crate::fault::FillFault;
@@ -99,7 +99,7 @@ fn used_step(
 ) -> Result<DraftStep, FillFault>
     requires { IsSome (accepted_at trees.now i) }
     ensures ok { IfOk result (IsUsedStep trees.now i step.now label places tree) }
-    ensures fault { IfErr result (IsOwnFault trees.now i step.now.name) }
+    ensures fault { IfErr result (IsUseFault trees.now i) }
 {
     match values(alloc, trees, i) {
         Err(fault) => Err(fault),

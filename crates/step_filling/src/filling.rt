@@ -210,7 +210,8 @@ fn fill_each(
 ///
 /// # Errors
 /// `TooLong` with the step's name and the tokens of the first formula, in the order of writing, that has more than 4,096
-/// tokens; it is known before a tree of that formula is built. `Memory` where memory runs out.
+/// tokens; it is known before a tree of that formula is built. `LongValue` where a value of an
+/// accepted step has more than 4,096, though no formula up to that step has. `Memory` where memory runs out.
 pub fn fill_items(
     alloc: Global,
     sheet: &Sheet,
