@@ -1,28 +1,23 @@
 -- No value is too long where no formula up to its step is.
-use Rattle.std.specs.Prelude.{◌≡◌, ◌<◌, ◌≤◌, ℕ, List, [], ◌∷◌, map, length, slice_get, Contains, Some, refl}
+use Rattle.std.specs.Prelude.{◌≡◌, ◌≤◌, ℕ, List, [], ◌∷◌, map, Contains, Some, refl}
 use Rattle.std.specs.List.{AllByRecursion}
-use Rattle.std.proofs.Common.{sym, subst, arith}
+use Rattle.std.proofs.Common.{arith}
 use Rattle.mm_base.specs.declared.kinds.Kinds.{Kinds}
 use Rattle.mm_base.specs.declared.symbols.Label.{Label}
 use Rattle.mm_base.specs.declared.tree.Tree.{Tree}
-use Rattle.mm_model.specs.Productions.{TypedVariable}
 use Rattle.mm_model.specs.Book.{Database}
 use Rattle.sheet_text.specs.Layout.{step_names}
-use Rattle.solve_model.specs.Solutions.{Asked, formula, copy}
+use Rattle.solve_model.specs.Solutions.{Asked, formula}
 use Rattle.solve_model.specs.Verdicts.{accepted_in}
-use Rattle.solve_model.specs.Bound.{Binds}
 use Rattle.solve_laws.specs.Instances.{IsClosed}
 use Rattle.solve_laws.proofs.Elements.{first, later}
 use Rattle.term_model.specs.Sizes.{tokens}
 use Rattle.written_model.specs.Opened.{IsOpened}
-use Rattle.written_model.specs.Existence.{IsCandidate}
 use Rattle.again_laws.specs.Whole.{AssertionsAreWhole}
 use Rattle.again_laws.proofs.Lists.{all_of, all_from}
-use Rattle.writing_laws.specs.HasLong.{filled_front, front_trees, next_number}
-use Rattle.step_chain.specs.Held.{Held, judgements_of}
+use Rattle.step_chain.specs.Held.{judgements_of}
 use Rattle.step_chain.specs.Values.{value_of}
-use Rattle.step_chain.specs.Answers.{IsShort, constants_of, values_of}
-use Rattle.step_filling.specs.Wanted.{AreShort}
+use Rattle.step_chain.specs.Answers.{IsShort, constants_of}
 use Rattle.filling_laws.specs.Counted.{AcceptedAreCandidates}
 use Rattle.filling_laws.specs.Values.{ValuesAreShort}
 use Rattle.filling_laws.proofs.ValueFronts.{formulas_stand}
@@ -39,7 +34,7 @@ all_mapped P f [] h = tt
 all_mapped P f (x ∷ xs) h = (h x (first x x xs refl), all_mapped P f xs (λ y m. h y (later y x xs m)))
 
 -- the assertions of candidates have no open leaf
-all_closed : (kinds : Kinds) (db : Database) → AssertionsAreWhole → IsOpened kinds db → (bound_asked : List Asked) → ((x : Asked) → Contains bound_asked x → db.usable x.assertion.label ≡ Some x.assertion) → AllByRecursion IsClosed bound_asked
+all_closed : (kinds : Kinds) (db : Database) → AssertionsAreWhole → IsOpened kinds db → (asked : List Asked) → ((x : Asked) → Contains asked x → db.usable x.assertion.label ≡ Some x.assertion) → AllByRecursion IsClosed asked
 all_closed kinds db whole opened xs usable = all_from IsClosed xs (λ x m. let is = whole kinds db x.assertion.label x.assertion opened (usable x m) in (is.closed, is.hyps_closed))
 
 pub values_are_short : AssertionsAreWhole → AcceptedAreCandidates → ValuesAreShort
