@@ -3,3 +3,9 @@ pub mod Counts
 mod LeafFilling
 mod LeafLaws
 mod LeafReading
+pub mod ValueEarlier
+pub mod ValueFronts
+pub mod ValueLaws
+pub mod ValuePlaces
+pub mod ValueSizes
+pub mod ValueTokens

@@ -4,9 +4,11 @@
 
 ghost use Rattle.filling_laws.specs.Counted.{AcceptedAreCandidates, FrontsAreCounted};
 ghost use Rattle.filling_laws.specs.Leaves.{LeavesAreSmall};
-ghost use Rattle.filling_laws.specs.Values.{ValuesAreShort};
+ghost use Rattle.filling_laws.specs.Values.{BoundComesBefore, ValuesAreShort};
 
+use again_laws::assertions_are_whole;
 use model_laws::has_database_facts;
+use sheet_laws::read_is_spellable;
 use step_filling::chain_is_counted;
 
 /// The accepted steps are candidates: their assertions are usable before the worksheet's place, and their places name steps.
@@ -29,7 +31,13 @@ pub fn leaves_are_small()
     ensures { LeavesAreSmall }
 {}
 
-/// Where no formula is too long, no value of an accepted step is.
+/// Where no formula is too long, no value of an accepted step is, if each place names an earlier step; and so it is with what
+/// a text says.
 pub fn values_are_short()
-    ensures { ValuesAreShort }
-{}
+    ensures short { ValuesAreShort }
+    ensures earlier { BoundComesBefore }
+{
+    assertions_are_whole();
+    accepted_are_candidates();
+    read_is_spellable();
+}
