@@ -87,7 +87,7 @@ ORDER = [
         ("Again", "what a written worksheet becomes when it is unified again", ""),
         ("ReadBack", "laws: what a text without a fault reads as, and that a laid out worksheet reads back", ""),
         ("ProofsPush", "laws: what a proof leaves on the stack", ""),
-        ("Existence", "laws: a most general valuation exists, and, not proved, each worksheet has an answer", ""),
+        ("Existence", "laws: a most general valuation exists, and each worksheet has an answer", ""),
         ("WrittenAgain", "laws: written again as itself, and the answer is one", ""),
     ]),
     ("call_answers", "What a call of the program answers.", [
@@ -100,12 +100,10 @@ ORDER = [
     ]),
 ]
 
-LAWS = ["model_laws", "theorem_laws", "proof_laws", "solve_laws", "sheet_laws", "chain_laws", "again_laws", "answer_laws", "push_laws", "writing_laws", "headline_laws", "phase_laws"]
+LAWS = ["model_laws", "theorem_laws", "proof_laws", "solve_laws", "sheet_laws", "chain_laws", "again_laws", "answer_laws", "push_laws", "writing_laws", "headline_laws", "phase_laws", "filling_laws", "whole_laws"]
 
 # The statements that no contract names, by crate and file.
-STATED = [
-    ("written_model", "Existence", ["HasAnswer"]),
-]
+STATED = []
 
 HEAD = """# Definitions
 
@@ -113,7 +111,7 @@ What the contracts of this repository mean rests on the definitions in this list
 
 Of each file the list has, in its order, the definitions that other files rest on, the propositions and the rules of faults, each with the line that says what it is. The other definitions are parts of these and stand behind "Parts"; most have such a line in the file. `book` is *Metamath: A Computer Language for Mathematical Proofs*, second edition; FORMAT is [FORMAT.md](FORMAT.md). Where a section is named, the file states it.
 
-A definition is tried on worked examples, which stand beside it in `specs/` as files `..Examples.antt`, or in `proofs/` where they take a tactic. A law is claimed where the contract of a public function names it; the last two parts list these laws, and the statements that no contract names. The main theorem is what the contract of `run` in `mmp_run` says of a call.
+A definition is tried on worked examples, which stand beside it in `specs/` as files `..Examples.antt`, or in `proofs/` where they take a tactic. A law is claimed where the contract of a public function names it; the last part lists these laws. The main theorem is what the contract of `run` in `mmp_run` says of a call.
 
 This file is written by `docs/definitions.py` from the comments of the definitions.
 """
