@@ -1,5 +1,30 @@
 use crate::databases::{ANY, DEMO, FORMS, PROP, Q, Q_TWICE, SETS};
-use crate::row::{Choice, Row};
+use crate::row::{GIVEN, NAMED, NORMAL, Row, USUAL};
+use mm_base::Status;
+
+/// Modus ponens.
+pub const MODUS_PONENS: &str = "h1::r.1 |- ph
+h2::r.2 |- ( ph -> ps )
+qed:1,2:ax-mp |- ps
+";
+
+/// The proof of the first example of the book.
+pub const DEMO_STEPS: &str = "1::a2 |- ( t + 0 ) = t
+2::a1 |- ( ( t + 0 ) = t -> ( ( t + 0 ) = t -> t = t ) )
+3:1,2:mp |- ( ( t + 0 ) = t -> t = t )
+qed:1,3:mp |- t = t
+";
+
+// A step that asks that two variables differ, and one that leaves it out.
+const DROPPED: &str = "1::ax-5 |- ( ph -> A. x ph )
+qed:1:drop |- ( ph -> ph )
+";
+
+// Modus ponens with other typecodes.
+const NAMED_STEPS: &str = "h1::r.1 T ph
+h2::r.2 T ( ph -> ps )
+qed:1,2:ax-mp T ps
+";
 
 /// Worksheets over small databases, and what comes of them.
 pub const ROWS: &[Row] = &[
@@ -7,15 +32,11 @@ pub const ROWS: &[Row] = &[
     Row {
         database: &[PROP],
         header: "r LOC_AFTER=?",
-        lines: "h1::r.1 |- ph
-h2::r.2 |- ( ph -> ps )
-qed:1,2:ax-mp |- ps
-",
-        choice: Choice::Normal,
-        written: "h1::r.1 |- ph
-h2::r.2 |- ( ph -> ps )
-qed:1,2:ax-mp |- ps
-$= wph wps r.1 r.2 ax-mp $.
+        lines: MODUS_PONENS,
+        options: NORMAL,
+        status: Status::Finished,
+        written: None,
+        tail: "$= wph wps r.1 r.2 ax-mp $.
 ",
         log: "1 hyp
 2 hyp
@@ -26,15 +47,49 @@ finished
     Row {
         database: &[PROP],
         header: "r LOC_AFTER=?",
+        lines: MODUS_PONENS,
+        options: USUAL,
+        status: Status::Finished,
+        written: None,
+        tail: "$= ( ax-mp ) ABCDE $.
+",
+        log: "1 hyp
+2 hyp
+qed fits ax-mp
+finished
+",
+    },
+    // A conclusion that does not fit.
+    Row {
+        database: &[PROP],
+        header: "r LOC_AFTER=?",
         lines: "h1::r.1 |- ph
+h2::r.2 |- ( ph -> ps )
+qed:1,2:ax-mp |- ch
+",
+        options: USUAL,
+        status: Status::Unfinished,
+        written: None,
+        tail: "",
+        log: "1 hyp
+2 hyp
+qed no fit ax-mp
+not finished
+",
+    },
+    // A comment stays before its step.
+    Row {
+        database: &[PROP],
+        header: "r LOC_AFTER=?",
+        lines: "* hello
+h1::r.1 |- ph
 h2::r.2 |- ( ph -> ps )
 qed:1,2:ax-mp |- ps
 ",
-        choice: Choice::Plain,
-        written: "h1::r.1 |- ph
-h2::r.2 |- ( ph -> ps )
-qed:1,2:ax-mp |- ps
-$= ( ax-mp ) ABCDE $.
+        options: USUAL,
+        status: Status::Finished,
+        written: None,
+        tail: "$= ( ax-mp ) ABCDE $.
 ",
         log: "1 hyp
 2 hyp
@@ -46,17 +101,11 @@ finished
     Row {
         database: &[DEMO],
         header: "th1 LOC_AFTER=?",
-        lines: "1::a2 |- ( t + 0 ) = t
-2::a1 |- ( ( t + 0 ) = t -> ( ( t + 0 ) = t -> t = t ) )
-3:1,2:mp |- ( ( t + 0 ) = t -> t = t )
-qed:1,3:mp |- t = t
-",
-        choice: Choice::Plain,
-        written: "1::a2 |- ( t + 0 ) = t
-2::a1 |- ( ( t + 0 ) = t -> ( ( t + 0 ) = t -> t = t ) )
-3:1,2:mp |- ( ( t + 0 ) = t -> t = t )
-qed:1,3:mp |- t = t
-$= ( tze tpl weq a2 wim a1 mp ) ABCZADZAADZAEZJJKFLIAAGHH $.
+        lines: DEMO_STEPS,
+        options: USUAL,
+        status: Status::Finished,
+        written: None,
+        tail: "$= ( tze tpl weq a2 wim a1 mp ) ABCZADZAADZAEZJJKFLIAAGHH $.
 ",
         log: "1 fits a2
 2 fits a1
@@ -68,17 +117,11 @@ finished
     Row {
         database: &[DEMO],
         header: "th1 LOC_AFTER=?",
-        lines: "1::a2 |- ( t + 0 ) = t
-2::a1 |- ( ( t + 0 ) = t -> ( ( t + 0 ) = t -> t = t ) )
-3:1,2:mp |- ( ( t + 0 ) = t -> t = t )
-qed:1,3:mp |- t = t
-",
-        choice: Choice::Normal,
-        written: "1::a2 |- ( t + 0 ) = t
-2::a1 |- ( ( t + 0 ) = t -> ( ( t + 0 ) = t -> t = t ) )
-3:1,2:mp |- ( ( t + 0 ) = t -> t = t )
-qed:1,3:mp |- t = t
-$= tt tze tpl tt weq tt tt weq tt a2 tt tze tpl tt weq tt tze tpl tt weq tt tt weq wim tt a2 tt tze tpl tt tt a1 mp mp $.
+        lines: DEMO_STEPS,
+        options: NORMAL,
+        status: Status::Finished,
+        written: None,
+        tail: "$= tt tze tpl tt weq tt tt weq tt a2 tt tze tpl tt weq tt tze tpl tt weq tt tt weq wim tt a2 tt tze tpl tt tt a1 mp mp $.
 ",
         log: "1 fits a2
 2 fits a1
@@ -96,12 +139,10 @@ finished
 3:1,2:mp
 qed:1,3:mp |- t = t
 ",
-        choice: Choice::Plain,
-        written: "1::a2 |- ( t + 0 ) = t
-2::a1 |- ( ( t + 0 ) = t -> ( ( t + 0 ) = t -> t = t ) )
-3:1,2:mp |- ( ( t + 0 ) = t -> t = t )
-qed:1,3:mp |- t = t
-$= ( tze tpl weq a2 wim a1 mp ) ABCZADZAADZAEZJJKFLIAAGHH $.
+        options: USUAL,
+        status: Status::Finished,
+        written: Some(DEMO_STEPS),
+        tail: "$= ( tze tpl weq a2 wim a1 mp ) ABCZADZAADZAEZJJKFLIAAGHH $.
 ",
         log: "1 fits a2
 2 fits a1
@@ -120,13 +161,17 @@ finished
 4:2,3:ax-mp
 qed:1,4:ax-mp |- ( ph -> ph )
 ",
-        choice: Choice::Plain,
-        written: "1::ax-1 |- ( ph -> ( &W1 -> ph ) )
+        options: USUAL,
+        status: Status::Unfinished,
+        written: Some(
+            "1::ax-1 |- ( ph -> ( &W1 -> ph ) )
 2::ax-1 |- ( ph -> ( ( &W1 -> ph ) -> ph ) )
 3::ax-2 |- ( ( ph -> ( ( &W1 -> ph ) -> ph ) ) -> ( ( ph -> ( &W1 -> ph ) ) -> ( ph -> ph ) ) )
 4:2,3:ax-mp |- ( ( ph -> ( &W1 -> ph ) ) -> ( ph -> ph ) )
 qed:1,4:ax-mp |- ( ph -> ph )
 ",
+        ),
+        tail: "",
         log: "1 fits ax-1
 2 fits ax-1
 3 fits ax-2
@@ -144,13 +189,10 @@ not finished
 4:2,3:ax-mp |- ( ( ph -> ( &W1 -> ph ) ) -> ( ph -> ph ) )
 qed:1,4:ax-mp |- ( ph -> ph )
 ",
-        choice: Choice::Plain,
-        written: "1::ax-1 |- ( ph -> ( &W1 -> ph ) )
-2::ax-1 |- ( ph -> ( ( &W1 -> ph ) -> ph ) )
-3::ax-2 |- ( ( ph -> ( ( &W1 -> ph ) -> ph ) ) -> ( ( ph -> ( &W1 -> ph ) ) -> ( ph -> ph ) ) )
-4:2,3:ax-mp |- ( ( ph -> ( &W1 -> ph ) ) -> ( ph -> ph ) )
-qed:1,4:ax-mp |- ( ph -> ph )
-",
+        options: USUAL,
+        status: Status::Unfinished,
+        written: None,
+        tail: "",
         log: "1 fits ax-1
 2 fits ax-1
 3 fits ax-2
@@ -168,13 +210,17 @@ not finished
 4:2,3:ax-mp
 qed:1,4:ax-mp |- ( ph -> ph )
 ",
-        choice: Choice::Plain,
-        written: "1::ax-1 |- ( ph -> ( ph -> ph ) )
+        options: USUAL,
+        status: Status::Finished,
+        written: Some(
+            "1::ax-1 |- ( ph -> ( ph -> ph ) )
 2::ax-1 |- ( ph -> ( ( ph -> ph ) -> ph ) )
 3::ax-2 |- ( ( ph -> ( ( ph -> ph ) -> ph ) ) -> ( ( ph -> ( ph -> ph ) ) -> ( ph -> ph ) ) )
 4:2,3:ax-mp |- ( ( ph -> ( ph -> ph ) ) -> ( ph -> ph ) )
 qed:1,4:ax-mp |- ( ph -> ph )
-$= ( wi ax-1 ax-2 ax-mp ) AAABZBZFAACAFABBGFBAFCAFADEE $.
+",
+        ),
+        tail: "$= ( wi ax-1 ax-2 ax-mp ) AAABZBZFAACAFABBGFBAFCAFADEE $.
 ",
         log: "1 fits ax-1
 2 fits ax-1
@@ -191,10 +237,10 @@ finished
         lines: "h1::c.1 |- &W1
 qed:1,1:ax-mp |- ps
 ",
-        choice: Choice::Plain,
-        written: "h1::c.1 |- &W1
-qed:1,1:ax-mp |- ps
-",
+        options: USUAL,
+        status: Status::Unfinished,
+        written: None,
+        tail: "",
         log: "1 hyp
 qed no fit ax-mp
 not finished
@@ -208,11 +254,15 @@ not finished
 2::ax-1 |- ( &W2 -> &W1 )
 qed:: |- ph
 ",
-        choice: Choice::Plain,
-        written: "1::ax-1 |- ( &W1 -> ( &W3 -> &W1 ) )
+        options: USUAL,
+        status: Status::Unfinished,
+        written: Some(
+            "1::ax-1 |- ( &W1 -> ( &W3 -> &W1 ) )
 2::ax-1 |- ( ( &W3 -> &W1 ) -> &W1 )
 qed:: |- ph
 ",
+        ),
+        tail: "",
         log: "1 fits ax-1
 2 no fit ax-1
 qed no reference
@@ -228,12 +278,16 @@ not finished
 3::ax-1 |- ( &W2 -> ( ps -> &W2 ) )
 qed:: |- ( ph -> ps )
 ",
-        choice: Choice::Plain,
-        written: "1::ax-1 |- ( ph -> ( &W3 -> ph ) )
+        options: USUAL,
+        status: Status::Unfinished,
+        written: Some(
+            "1::ax-1 |- ( ph -> ( &W3 -> ph ) )
 2:1,1:ax-mp |- &W2
 3::ax-1 |- ( &W2 -> ( ps -> &W2 ) )
 qed:: |- ( ph -> ps )
 ",
+        ),
+        tail: "",
         log: "1 fits ax-1
 2 no fit ax-mp
 3 fits ax-1
@@ -247,9 +301,13 @@ not finished
         header: "f LOC_AFTER=?",
         lines: "qed::ax-1 |- ( &W3 -> ( ps -> &W1 ) )
 ",
-        choice: Choice::Plain,
-        written: "qed::ax-1 |- ( &W1 -> ( ps -> &W1 ) )
+        options: USUAL,
+        status: Status::Unfinished,
+        written: Some(
+            "qed::ax-1 |- ( &W1 -> ( ps -> &W1 ) )
 ",
+        ),
+        tail: "",
         log: "qed fits ax-1
 not finished
 ",
@@ -260,11 +318,15 @@ not finished
         header: "g LOC_AFTER=?",
         lines: "qed::ax-mp |- ps
 ",
-        choice: Choice::Plain,
-        written: "d1:: |- &W1
+        options: USUAL,
+        status: Status::Unfinished,
+        written: Some(
+            "d1:: |- &W1
 d2:: |- ( &W1 -> ps )
 qed:d1,d2:ax-mp |- ps
 ",
+        ),
+        tail: "",
         log: "d1 no reference
 d2 no reference
 qed fits ax-mp
@@ -278,11 +340,10 @@ not finished
 h2::r.2 |- ( ph -> ps )
 qed:1:ax-mp |- ps
 ",
-        choice: Choice::Plain,
-        written: "h1::r.1 |- ph
-h2::r.2 |- ( ph -> ps )
-qed:1,2:ax-mp |- ps
-$= ( ax-mp ) ABCDE $.
+        options: USUAL,
+        status: Status::Finished,
+        written: Some(MODUS_PONENS),
+        tail: "$= ( ax-mp ) ABCDE $.
 ",
         log: "1 hyp
 2 hyp
@@ -296,11 +357,15 @@ finished
         lines: "h1::u.1 |- ph
 qed:1:ax-mp |- ( ps -> ph )
 ",
-        choice: Choice::Plain,
-        written: "h1::u.1 |- ph
+        options: USUAL,
+        status: Status::Finished,
+        written: Some(
+            "h1::u.1 |- ph
 d1::ax-1 |- ( ph -> ( ps -> ph ) )
 qed:1,d1:ax-mp |- ( ps -> ph )
-$= ( wi ax-1 ax-mp ) ABADCABEF $.
+",
+        ),
+        tail: "$= ( wi ax-1 ax-mp ) ABADCABEF $.
 ",
         log: "1 hyp
 d1 found ax-1
@@ -313,10 +378,14 @@ finished
         header: "o LOC_AFTER=?",
         lines: "qed:?:ax-mp |- ps
 ",
-        choice: Choice::Plain,
-        written: "d1:: |- ( &W1 -> ps )
+        options: USUAL,
+        status: Status::Unfinished,
+        written: Some(
+            "d1:: |- ( &W1 -> ps )
 qed:?,d1:ax-mp |- ps
 ",
+        ),
+        tail: "",
         log: "d1 no reference
 qed fits ax-mp
 not finished
@@ -328,9 +397,13 @@ not finished
         header: "s LOC_AFTER=?",
         lines: "qed:: |- ( ph -> ( ps -> ph ) )
 ",
-        choice: Choice::Plain,
-        written: "qed::ax-1 |- ( ph -> ( ps -> ph ) )
-$= ( ax-1 ) ABC $.
+        options: USUAL,
+        status: Status::Finished,
+        written: Some(
+            "qed::ax-1 |- ( ph -> ( ps -> ph ) )
+",
+        ),
+        tail: "$= ( ax-1 ) ABC $.
 ",
         log: "qed found ax-1
 finished
@@ -343,10 +416,10 @@ finished
         lines: "h1::k.1 |- ph
 qed:1,1,1:ax-mp |- ps
 ",
-        choice: Choice::Plain,
-        written: "h1::k.1 |- ph
-qed:1,1,1:ax-mp |- ps
-",
+        options: USUAL,
+        status: Status::Unfinished,
+        written: None,
+        tail: "",
         log: "1 hyp
 qed too many hypotheses ax-mp
 not finished
@@ -357,9 +430,10 @@ not finished
         header: "k LOC_AFTER=?",
         lines: "qed::nosuch |- ps
 ",
-        choice: Choice::Plain,
-        written: "qed::nosuch |- ps
-",
+        options: USUAL,
+        status: Status::Unfinished,
+        written: None,
+        tail: "",
         log: "qed unknown nosuch
 not finished
 ",
@@ -370,9 +444,10 @@ not finished
         header: "l LOC_AFTER=ax-1",
         lines: "qed::ax-2 |- ( ( ph -> ( ps -> ch ) ) -> ( ( ph -> ps ) -> ( ph -> ch ) ) )
 ",
-        choice: Choice::Plain,
-        written: "qed::ax-2 |- ( ( ph -> ( ps -> ch ) ) -> ( ( ph -> ps ) -> ( ph -> ch ) ) )
-",
+        options: USUAL,
+        status: Status::Unfinished,
+        written: None,
+        tail: "",
         log: "qed not usable ax-2
 not finished
 ",
@@ -380,15 +455,11 @@ not finished
     Row {
         database: &[PROP],
         header: "r LOC_AFTER=min",
-        lines: "h1::r.1 |- ph
-h2::r.2 |- ( ph -> ps )
-qed:1,2:ax-mp |- ps
-",
-        choice: Choice::Plain,
-        written: "h1::r.1 |- ph
-h2::r.2 |- ( ph -> ps )
-qed:1,2:ax-mp |- ps
-$= ( ax-mp ) ABCDE $.
+        lines: MODUS_PONENS,
+        options: USUAL,
+        status: Status::Finished,
+        written: None,
+        tail: "$= ( ax-mp ) ABCDE $.
 ",
         log: "1 hyp
 2 hyp
@@ -399,12 +470,11 @@ finished
     Row {
         database: &[PROP],
         header: "r LOC_AFTER=none",
-        lines: "h1::r.1 |- ph
-h2::r.2 |- ( ph -> ps )
-qed:1,2:ax-mp |- ps
-",
-        choice: Choice::Plain,
-        written: "",
+        lines: MODUS_PONENS,
+        options: USUAL,
+        status: Status::Sheet,
+        written: None,
+        tail: "",
         log: "sheet error 60 LocUnknown at line 1
 ",
     },
@@ -414,9 +484,10 @@ qed:1,2:ax-mp |- ps
         header: "abid LOC_AFTER=?",
         lines: "qed::eqid |- { x | ph } = { x | ph }
 ",
-        choice: Choice::Plain,
-        written: "qed::eqid |- { x | ph } = { x | ph }
-$= ( cab eqid ) ABCD $.
+        options: USUAL,
+        status: Status::Finished,
+        written: None,
+        tail: "$= ( cab eqid ) ABCD $.
 ",
         log: "qed fits eqid
 finished
@@ -426,13 +497,11 @@ finished
     Row {
         database: Q,
         header: "dm LOC_AFTER=?",
-        lines: "1::ax-5 |- ( ph -> A. x ph )
-qed:1:drop |- ( ph -> ph )
-",
-        choice: Choice::Plain,
-        written: "1::ax-5 |- ( ph -> A. x ph )
-qed:1:drop |- ( ph -> ph )
-$= ( vx ax-5 drop ) ABABCD $.
+        lines: DROPPED,
+        options: USUAL,
+        status: Status::Finished,
+        written: None,
+        tail: "$= ( vx ax-5 drop ) ABABCD $.
 $d ph x
 ",
         log: "1 fits ax-5
@@ -445,9 +514,10 @@ finished
         header: "cl LOC_AFTER=?",
         lines: "qed::ax-5 |- ( A. x ph -> A. x A. x ph )
 ",
-        choice: Choice::Plain,
-        written: "qed::ax-5 |- ( A. x ph -> A. x A. x ph )
-$d ph x
+        options: USUAL,
+        status: Status::Unfinished,
+        written: None,
+        tail: "$d ph x
 ",
         log: "qed fits ax-5 clash x
 not finished
@@ -458,9 +528,13 @@ not finished
         header: "g5 LOC_AFTER=?",
         lines: "qed:: |- ( ph -> A. x ph )
 ",
-        choice: Choice::Plain,
-        written: "qed::ax-5 |- ( ph -> A. x ph )
-$= ( ax-5 ) ABC $.
+        options: USUAL,
+        status: Status::Finished,
+        written: Some(
+            "qed::ax-5 |- ( ph -> A. x ph )
+",
+        ),
+        tail: "$= ( ax-5 ) ABC $.
 $d ph x
 ",
         log: "qed found ax-5
@@ -471,13 +545,11 @@ finished
     Row {
         database: Q,
         header: "dm LOC_AFTER=?",
-        lines: "1::ax-5 |- ( ph -> A. x ph )
-qed:1:drop |- ( ph -> ph )
-",
-        choice: Choice::Given,
-        written: "1::ax-5 |- ( ph -> A. x ph )
-qed:1:drop |- ( ph -> ph )
-",
+        lines: DROPPED,
+        options: GIVEN,
+        status: Status::Unfinished,
+        written: None,
+        tail: "",
         log: "1 fits ax-5 needs ph x
 qed fits drop
 not finished
@@ -490,10 +562,10 @@ not finished
 qed:1:drop |- ( ph -> ph )
 $d x ph
 ",
-        choice: Choice::Given,
-        written: "1::ax-5 |- ( ph -> A. x ph )
-qed:1:drop |- ( ph -> ph )
-$= ( vx ax-5 drop ) ABABCD $.
+        options: GIVEN,
+        status: Status::Finished,
+        written: Some(DROPPED),
+        tail: "$= ( vx ax-5 drop ) ABABCD $.
 $d ph x
 ",
         log: "1 fits ax-5
@@ -506,9 +578,10 @@ finished
         header: "g5 LOC_AFTER=?",
         lines: "qed:: |- ( ph -> A. x ph )
 ",
-        choice: Choice::Given,
-        written: "qed:: |- ( ph -> A. x ph )
-",
+        options: GIVEN,
+        status: Status::Unfinished,
+        written: None,
+        tail: "",
         log: "qed no reference
 not finished
 ",
@@ -519,8 +592,10 @@ not finished
         header: "w LOC_AFTER=?",
         lines: "qed:: |- x = y
 ",
-        choice: Choice::Plain,
-        written: "",
+        options: USUAL,
+        status: Status::Sheet,
+        written: None,
+        tail: "",
         log: "sheet error 68 TwoTrees at line 2
 ",
     },
@@ -529,9 +604,10 @@ not finished
         header: "w LOC_AFTER=?",
         lines: "qed::eqv |- A = A
 ",
-        choice: Choice::Plain,
-        written: "qed::eqv |- A = A
-",
+        options: USUAL,
+        status: Status::Unfinished,
+        written: None,
+        tail: "",
         log: "qed not usable eqv
 not finished
 ",
@@ -541,8 +617,10 @@ not finished
         header: "v LOC_AFTER=?",
         lines: "qed::sel |- { x | ph } = y
 ",
-        choice: Choice::Plain,
-        written: "",
+        options: USUAL,
+        status: Status::Sheet,
+        written: None,
+        tail: "",
         log: "sheet error 78 WrittenTwoTrees step d1
 ",
     },
@@ -550,13 +628,22 @@ not finished
     Row {
         database: &[],
         header: "th1 LOC_AFTER=?",
-        lines: "1::a2 |- ( t + 0 ) = t
-2::a1 |- ( ( t + 0 ) = t -> ( ( t + 0 ) = t -> t = t ) )
-3:1,2:mp |- ( ( t + 0 ) = t -> t = t )
-qed:1,3:mp |- t = t
+        lines: DEMO_STEPS,
+        options: USUAL,
+        status: Status::Sheet,
+        written: None,
+        tail: "",
+        log: "sheet error 66 UnknownSymbol at line 2
 ",
-        choice: Choice::Plain,
-        written: "",
+    },
+    Row {
+        database: &[DEMO],
+        header: "r LOC_AFTER=?",
+        lines: MODUS_PONENS,
+        options: USUAL,
+        status: Status::Sheet,
+        written: None,
+        tail: "",
         log: "sheet error 66 UnknownSymbol at line 2
 ",
     },
@@ -565,8 +652,10 @@ qed:1,3:mp |- t = t
         header: "th1 LOC_AFTER=?",
         lines: "qed:: |- t = r
 ",
-        choice: Choice::Plain,
-        written: "",
+        options: USUAL,
+        status: Status::Sheet,
+        written: None,
+        tail: "",
         log: "sheet error 62 HypsDiffer at line 2
 ",
     },
@@ -575,44 +664,11 @@ qed:1,3:mp |- t = t
         header: "a1 LOC_AFTER=?",
         lines: "qed:: |- t = r
 ",
-        choice: Choice::Plain,
-        written: "",
+        options: USUAL,
+        status: Status::Sheet,
+        written: None,
+        tail: "",
         log: "sheet error 61 TheoremTaken at line 1
-",
-    },
-    // A worksheet in the style of mmj2.
-    Row {
-        database: Q,
-        header: "syl LOC_AFTER=?",
-        lines: "
-* An inference version of the transitive laws for implication.
-
-h1::syl.1           |- ( ph -> ps )
-h2::syl.2           |- ( ps -> ch )
-3:2:a1i            |- ( ph ->
-                       ( ps -> ch ) )
-4:3:a2i           |- ( ( ph -> ps ) -> ( ph -> ch ) )
-qed:1,4:ax-mp    |- ( ph -> ch )
-
-$=  wph wps wi
-    ax-mp $.
-
-",
-        choice: Choice::Plain,
-        written: "* An inference version of the transitive laws for implication.
-h1::syl.1 |- ( ph -> ps )
-h2::syl.2 |- ( ps -> ch )
-3:2:a1i |- ( ph -> ( ps -> ch ) )
-4:3:a2i |- ( ( ph -> ps ) -> ( ph -> ch ) )
-qed:1,4:ax-mp |- ( ph -> ch )
-$= ( wi a1i a2i ax-mp ) ABFACFDABCBCFAEGHI $.
-",
-        log: "1 hyp
-2 hyp
-3 fits a1i
-4 fits a2i
-qed fits ax-mp
-finished
 ",
     },
     // Work variables of another typecode.
@@ -621,9 +677,13 @@ finished
         header: "z LOC_AFTER=?",
         lines: "qed::a2 |- ( &term.1 + 0 ) = t
 ",
-        choice: Choice::Plain,
-        written: "qed::a2 |- ( t + 0 ) = t
-$= ( a2 ) AB $.
+        options: USUAL,
+        status: Status::Finished,
+        written: Some(
+            "qed::a2 |- ( t + 0 ) = t
+",
+        ),
+        tail: "$= ( a2 ) AB $.
 ",
         log: "qed fits a2
 finished
@@ -635,9 +695,13 @@ finished
         header: "n LOC_AFTER=?",
         lines: "qed:: |- -. ps
 ",
-        choice: Choice::Plain,
-        written: "qed::any |- -. ps
-$= ( wn any ) ABC $.
+        options: USUAL,
+        status: Status::Finished,
+        written: Some(
+            "qed::any |- -. ps
+",
+        ),
+        tail: "$= ( wn any ) ABC $.
 ",
         log: "qed found any
 finished
@@ -648,9 +712,13 @@ finished
         header: "n LOC_AFTER=?",
         lines: "qed:: |- ( ph -> ( ps -> ph ) )
 ",
-        choice: Choice::Plain,
-        written: "qed::ax-1 |- ( ph -> ( ps -> ph ) )
-$= ( ax-1 ) ABC $.
+        options: USUAL,
+        status: Status::Finished,
+        written: Some(
+            "qed::ax-1 |- ( ph -> ( ps -> ph ) )
+",
+        ),
+        tail: "$= ( ax-1 ) ABC $.
 ",
         log: "qed found ax-1
 finished
@@ -664,11 +732,10 @@ finished
 h2::r.2 |- ( ph -> ps )
 qed:2,1:ax-mp |- ps
 ",
-        choice: Choice::Plain,
-        written: "h1::r.1 |- ph
-h2::r.2 |- ( ph -> ps )
-qed:1,2:ax-mp |- ps
-$= ( ax-mp ) ABCDE $.
+        options: USUAL,
+        status: Status::Finished,
+        written: Some(MODUS_PONENS),
+        tail: "$= ( ax-mp ) ABCDE $.
 ",
         log: "1 hyp
 2 hyp
@@ -683,11 +750,10 @@ finished
 h2::r.2 |- ( ph -> ps )
 qed:2,1: |- ps
 ",
-        choice: Choice::Plain,
-        written: "h1::r.1 |- ph
-h2::r.2 |- ( ph -> ps )
-qed:1,2:ax-mp |- ps
-$= ( ax-mp ) ABCDE $.
+        options: USUAL,
+        status: Status::Finished,
+        written: Some(MODUS_PONENS),
+        tail: "$= ( ax-mp ) ABCDE $.
 ",
         log: "1 hyp
 2 hyp
@@ -702,11 +768,15 @@ finished
 h2::o.2 |- &W2
 qed:2,1:ax-mp |- ps
 ",
-        choice: Choice::Plain,
-        written: "h1::o.1 |- ( &W2 -> ps )
+        options: USUAL,
+        status: Status::Unfinished,
+        written: Some(
+            "h1::o.1 |- ( &W2 -> ps )
 h2::o.2 |- &W2
 qed:2,1:ax-mp |- ps
 ",
+        ),
+        tail: "",
         log: "1 hyp
 2 hyp
 qed fits ax-mp
@@ -717,15 +787,11 @@ not finished
     Row {
         database: &[FORMS],
         header: "r LOC_AFTER=?",
-        lines: "h1::r.1 T ph
-h2::r.2 T ( ph -> ps )
-qed:1,2:ax-mp T ps
-",
-        choice: Choice::Forms,
-        written: "h1::r.1 T ph
-h2::r.2 T ( ph -> ps )
-qed:1,2:ax-mp T ps
-$= ( ax-mp ) ABCDE $.
+        lines: NAMED_STEPS,
+        options: NAMED,
+        status: Status::Finished,
+        written: None,
+        tail: "$= ( ax-mp ) ABCDE $.
 ",
         log: "1 hyp
 2 hyp
@@ -736,12 +802,11 @@ finished
     Row {
         database: &[FORMS],
         header: "r LOC_AFTER=?",
-        lines: "h1::r.1 T ph
-h2::r.2 T ( ph -> ps )
-qed:1,2:ax-mp T ps
-",
-        choice: Choice::Plain,
-        written: "",
+        lines: NAMED_STEPS,
+        options: USUAL,
+        status: Status::Sheet,
+        written: None,
+        tail: "",
         log: "sheet error 65 NotProvable at line 2
 ",
     },

@@ -1,13 +1,22 @@
+//! Texts that are too large to be listed.
+
 use itoa::Buffer;
 use mm_base::Memory;
 use std::alloc::Global;
 
-/// Puts in a text so many times.
-pub fn put_times(text: &mut Vec<u8>, part: &[u8], times: u32) -> Result<(), Memory> {
+// Puts in a text so many times.
+fn put_times(text: &mut Vec<u8>, part: &[u8], times: u32) -> Result<(), Memory> {
     for _ in 0..times {
         text.extend_from_slice(part)?;
     }
     Ok(())
+}
+
+/// A text, so many times.
+pub fn repeated(alloc: Global, part: &[u8], times: u32) -> Result<Vec<u8>, Memory> {
+    let mut text = Vec::new(alloc);
+    put_times(&mut text, part, times)?;
+    Ok(text)
 }
 
 fn put_number(text: &mut Vec<u8>, number: u32) -> Result<(), Memory> {

@@ -1,5 +1,6 @@
 use crate::databases::{DECLARED, GOOD, PROP, Q, TURNED};
-use crate::row::{Choice, Row};
+use crate::row::{Row, USUAL};
+use mm_base::Status;
 
 /// Further worksheets: what is not below `qed`, names of new steps and new work variables, a theorem of the database.
 pub const FURTHER: &[Row] = &[
@@ -10,10 +11,10 @@ pub const FURTHER: &[Row] = &[
         lines: "1::ax-1 |- ( ( ph -> ps ) -> ( ph -> ( ph -> ps ) ) )
 qed::ax-1 |- ( ph -> ( ps -> ph ) )
 ",
-        choice: Choice::Plain,
-        written: "1::ax-1 |- ( ( ph -> ps ) -> ( ph -> ( ph -> ps ) ) )
-qed::ax-1 |- ( ph -> ( ps -> ph ) )
-$= ( ax-1 ) ABC $.
+        options: USUAL,
+        status: Status::Finished,
+        written: None,
+        tail: "$= ( ax-1 ) ABC $.
 ",
         log: "1 fits ax-1
 qed fits ax-1
@@ -27,12 +28,16 @@ finished
 2:?:ax-mp |- ps
 qed::ax-1 |- ( ph -> ( ps -> ph ) )
 ",
-        choice: Choice::Plain,
-        written: "1:: |- ps
+        options: USUAL,
+        status: Status::Finished,
+        written: Some(
+            "1:: |- ps
 d1:: |- ( &W1 -> ps )
 2:?,d1:ax-mp |- ps
 qed::ax-1 |- ( ph -> ( ps -> ph ) )
-$= ( ax-1 ) ABC $.
+",
+        ),
+        tail: "$= ( ax-1 ) ABC $.
 ",
         log: "1 no reference
 d1 no reference
@@ -48,10 +53,10 @@ finished
         lines: "h1::wh.1 |- &W1
 qed::ax-1 |- ( ph -> ( ps -> ph ) )
 ",
-        choice: Choice::Plain,
-        written: "h1::wh.1 |- &W1
-qed::ax-1 |- ( ph -> ( ps -> ph ) )
-",
+        options: USUAL,
+        status: Status::Unfinished,
+        written: None,
+        tail: "",
         log: "1 hyp
 qed fits ax-1
 not finished
@@ -64,12 +69,16 @@ not finished
         lines: "d1:: |- ph
 qed::ax-mp |- ps
 ",
-        choice: Choice::Plain,
-        written: "d1:: |- ph
+        options: USUAL,
+        status: Status::Unfinished,
+        written: Some(
+            "d1:: |- ph
 d2:: |- &W1
 d3:: |- ( &W1 -> ps )
 qed:d2,d3:ax-mp |- ps
 ",
+        ),
+        tail: "",
         log: "d1 no reference
 d2 no reference
 d3 no reference
@@ -83,12 +92,16 @@ not finished
         lines: "d2::ax-mp |- ps
 qed:: |- ph
 ",
-        choice: Choice::Plain,
-        written: "d1:: |- &W1
+        options: USUAL,
+        status: Status::Unfinished,
+        written: Some(
+            "d1:: |- &W1
 d3:: |- ( &W1 -> ps )
 d2:d1,d3:ax-mp |- ps
 qed:: |- ph
 ",
+        ),
+        tail: "",
         log: "d1 no reference
 d3 no reference
 d2 fits ax-mp
@@ -104,14 +117,18 @@ not finished
 qed::ax-mp |- ps
 * three
 ",
-        choice: Choice::Plain,
-        written: "* one
+        options: USUAL,
+        status: Status::Unfinished,
+        written: Some(
+            "* one
   two
 d1:: |- &W1
 d2:: |- ( &W1 -> ps )
 qed:d1,d2:ax-mp |- ps
 * three
 ",
+        ),
+        tail: "",
         log: "d1 no reference
 d2 no reference
 qed fits ax-mp
@@ -125,12 +142,16 @@ not finished
 2::a1i |- ( ph -> ps )
 qed:: |- ph
 ",
-        choice: Choice::Plain,
-        written: "d1:: |- ps
+        options: USUAL,
+        status: Status::Unfinished,
+        written: Some(
+            "d1:: |- ps
 1:d1:a1i |- ( ch -> ps )
 2:d1:a1i |- ( ph -> ps )
 qed:: |- ph
 ",
+        ),
+        tail: "",
         log: "d1 no reference
 1 fits a1i
 2 fits a1i
@@ -144,11 +165,15 @@ not finished
         header: "g LOC_AFTER=?",
         lines: "qed::ax-mp |- ps
 ",
-        choice: Choice::Plain,
-        written: "d1:: |- &W2
+        options: USUAL,
+        status: Status::Unfinished,
+        written: Some(
+            "d1:: |- &W2
 d2:: |- ( &W2 -> ps )
 qed:d1,d2:ax-mp |- ps
 ",
+        ),
+        tail: "",
         log: "d1 no reference
 d2 no reference
 qed fits ax-mp
@@ -162,10 +187,14 @@ not finished
         lines: "1::ax
 qed:: |- p
 ",
-        choice: Choice::Plain,
-        written: "1::ax |- ( &W1 ~> &W2 )
+        options: USUAL,
+        status: Status::Unfinished,
+        written: Some(
+            "1::ax |- ( &W1 ~> &W2 )
 qed:: |- p
 ",
+        ),
+        tail: "",
         log: "1 fits ax
 qed no reference
 not finished
@@ -177,9 +206,13 @@ not finished
         header: "good LOC_AFTER=?",
         lines: "qed:: |- ( ph -> ( ps -> ph ) )
 ",
-        choice: Choice::Plain,
-        written: "qed::ax-1 |- ( ph -> ( ps -> ph ) )
-$= ( ax-1 ) ABC $.
+        options: USUAL,
+        status: Status::Finished,
+        written: Some(
+            "qed::ax-1 |- ( ph -> ( ps -> ph ) )
+",
+        ),
+        tail: "$= ( ax-1 ) ABC $.
 ",
         log: "qed found ax-1
 finished
