@@ -2,13 +2,14 @@
 
 use crate::calls::joined;
 use crate::databases::{PROP, Q};
-use crate::texts::{doublings, repeated};
+use crate::texts::{doublings, too_many_spaces};
 use mm_base::{Kinds, List, MOST_DATABASE_BYTES, Memory};
 use mm_database::{Database, open_database};
 use sheet_unify::{
     DvMode, Options, Outcome, ProofStyle, UnifyFault, fault_line, report_lines, unify_sheet,
 };
 use std::alloc::Global;
+use std::process::Abort;
 use std::test::Fail;
 
 fn options(alloc: Global) -> Result<Options, Memory> {
@@ -21,21 +22,10 @@ fn options(alloc: Global) -> Result<Options, Memory> {
     })
 }
 
-// The database of a text without a fault.
-fn opened(alloc: Global, text: &[u8], options: &Options) -> Result<Database, Memory> {
-    if text.len() as u64 > MOST_DATABASE_BYTES {
-        return Err(Memory);
-    }
-    match open_database(alloc, text, &options.kinds) {
-        Ok(database) => Ok(database),
-        Err(_) => Err(Memory),
-    }
-}
-
 // The text of an outcome, and behind it the lines of its report.
-fn told(alloc: Global, database: &Database, outcome: Outcome) -> Result<Vec<u8>, Memory> {
+fn told(alloc: Global, database: &Database, outcome: &Outcome) -> Result<Vec<u8>, Memory> {
     let lines = report_lines(alloc, database, &outcome.report, outcome.finished)?;
-    let mut text = outcome.text.into_vec();
+    let mut text = Vec::from_slice(alloc, outcome.text.as_slice())?;
     for line in lines.as_slice() {
         text.extend_from_slice(line.as_slice())?;
         text.push(b'\n')?;
@@ -43,15 +33,52 @@ fn told(alloc: Global, database: &Database, outcome: Outcome) -> Result<Vec<u8>,
     Ok(text)
 }
 
-// What comes of a worksheet: the text and the report, or the line of its fault.
-fn answer_to(alloc: Global, database: &[u8], text: &[u8]) -> Result<Vec<u8>, Memory> {
-    let options = options(alloc)?;
-    let database = opened(alloc, database, &options)?;
-    match unify_sheet(alloc, &database, text, &options) {
-        Ok(outcome) => told(alloc, &database, outcome),
-        Err(UnifyFault::Memory) => Err(Memory),
-        Err(fault) => Ok(fault_line(alloc, &fault)?.into_vec()),
+fn line_of(alloc: Global, fault: &UnifyFault) -> Result<Vec<u8>, Memory> {
+    match fault {
+        UnifyFault::Memory => Err(Memory),
+        _ => Ok(fault_line(alloc, fault)?.into_vec()),
     }
+}
+
+// What comes of a worksheet: the text and the report, or the line of its fault.
+fn answer_to(
+    alloc: Global,
+    database: &Database,
+    text: &[u8],
+    options: &Options,
+) -> Result<Vec<u8>, Memory> {
+    match unify_sheet(alloc, database, text, options) {
+        Ok(outcome) => told(alloc, database, &outcome),
+        Err(fault) => line_of(alloc, &fault),
+    }
+}
+
+fn answer_with(
+    alloc: Global,
+    database: &[u8],
+    text: &[u8],
+    options: &Options,
+) -> Result<Vec<u8>, Memory> {
+    if database.len() as u64 > MOST_DATABASE_BYTES {
+        return Err(Memory);
+    }
+    match open_database(alloc, database, &options.kinds) {
+        Ok(database) => answer_to(alloc, &database, text, options),
+        Err(_) => Err(Memory),
+    }
+}
+
+fn check(
+    rt: &impl Abort,
+    alloc: Global,
+    database: &[u8],
+    text: &[u8],
+    want: &[u8],
+) -> Result<(), Fail> {
+    let options = options(alloc)?;
+    let answer = answer_with(alloc, database, text, &options)?;
+    assert_eq!(rt; answer.as_slice(), want);
+    Ok(())
 }
 
 const SHEET: &[u8] = b"$( <MM> <PROOF_ASST> THEOREM=r LOC_AFTER=?
@@ -78,16 +105,19 @@ const TOO_LONG: &[u8] = b"sheet error 75 FormulaTooLong step 12 tokens 8190";
 const TOO_BIG: &[u8] = b"sheet error 50 TooBig at line 1";
 
 #[test]
-fn worksheets_over_an_opened_database(rt: HostRuntime) -> Result<(), Fail> {
-    let alloc = rt.alloc();
-    let written = answer_to(alloc, PROP.as_bytes(), SHEET)?;
-    assert_eq!(rt; written.as_slice(), EXPECTED);
-    let database = joined(alloc, Q)?;
-    let doubled = doublings(alloc, 40)?;
-    let long = answer_to(alloc, database.as_slice(), doubled.as_slice())?;
-    assert_eq!(rt; long.as_slice(), TOO_LONG);
-    let spaces = repeated(alloc, b" ", (1 << 24) + 1)?;
-    let big = answer_to(alloc, PROP.as_bytes(), spaces.as_slice())?;
-    assert_eq!(rt; big.as_slice(), TOO_BIG);
-    Ok(())
+fn a_worksheet_is_written(rt: HostRuntime) -> Result<(), Fail> {
+    check(&rt, rt.alloc(), PROP.as_bytes(), SHEET, EXPECTED)
+}
+
+#[test]
+fn a_formula_is_too_long(rt: HostRuntime) -> Result<(), Fail> {
+    let database = joined(rt.alloc(), Q)?;
+    let text = doublings(rt.alloc(), 40)?;
+    check(&rt, rt.alloc(), database.as_slice(), text.as_slice(), TOO_LONG)
+}
+
+#[test]
+fn a_text_is_too_big(rt: HostRuntime) -> Result<(), Fail> {
+    let text = too_many_spaces(rt.alloc())?;
+    check(&rt, rt.alloc(), PROP.as_bytes(), text.as_slice(), TOO_BIG)
 }

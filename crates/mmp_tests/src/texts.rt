@@ -19,6 +19,14 @@ pub fn repeated(alloc: Global, part: &[u8], times: u32) -> Result<Vec<u8>, Memor
     Ok(text)
 }
 
+/// One space more than a worksheet may have bytes.
+pub fn too_many_spaces(alloc: Global) -> Result<Vec<u8>, Memory> {
+    let line = repeated(alloc, b" ", 1 << 12)?;
+    let mut text = repeated(alloc, line.as_slice(), 1 << 12)?;
+    text.push(b' ')?;
+    Ok(text)
+}
+
 fn put_number(text: &mut Vec<u8>, number: u32) -> Result<(), Memory> {
     let mut buffer = Buffer::new();
     text.extend_from_slice(buffer.format(number).as_bytes())?;

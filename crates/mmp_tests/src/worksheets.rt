@@ -51,23 +51,43 @@ fn check_again(
     Ok(())
 }
 
-fn check_row(rt: &impl Abort, alloc: Global, row: Row) -> Result<(), Fail> {
-    let words = words_of(alloc, row)?;
-    let database = joined(alloc, row.database)?;
+// Unifies a text, and again what is written.
+fn check_texts(
+    rt: &impl Abort,
+    alloc: Global,
+    words: &[&str],
+    outside: Outside<'_>,
+    want: Want<'_>,
+) -> Result<(), Fail> {
+    check(rt, alloc, words, outside, want)?;
+    if want.out.is_empty() {
+        return Ok(());
+    }
+    let written = honest(outside.database, want.out);
+    check_again(rt, alloc, words, written, want.status)
+}
+
+fn check_over(
+    rt: &impl Abort,
+    alloc: Global,
+    words: &[&str],
+    database: &[u8],
+    row: Row,
+) -> Result<(), Fail> {
     let sheet = given(alloc, row)?;
     let text = wanted(alloc, row)?;
-    let outside = honest(database.as_slice(), sheet.as_slice());
     let want = Want {
         status: row.status,
         out: text.as_slice(),
         log: row.log,
     };
-    check(rt, alloc, words.as_slice(), outside, want)?;
-    if text.is_empty() {
-        return Ok(());
-    }
-    let written = honest(database.as_slice(), text.as_slice());
-    check_again(rt, alloc, words.as_slice(), written, row.status)
+    check_texts(rt, alloc, words, honest(database, sheet.as_slice()), want)
+}
+
+fn check_row(rt: &impl Abort, alloc: Global, row: Row) -> Result<(), Fail> {
+    let words = words_of(alloc, row)?;
+    let database = joined(alloc, row.database)?;
+    check_over(rt, alloc, words.as_slice(), database.as_slice(), row)
 }
 
 #[test]
