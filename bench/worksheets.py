@@ -11,6 +11,7 @@ variable alone (without formulas a proof need not say all), those that are writt
 proof `metamath` accepts. A line for each that is none of these. What is missing is skipped.
 """
 import concurrent.futures, os, random, re, shutil, subprocess, sys, tempfile
+sys.dont_write_bytecode = True
 from books import Book, sheet, written_parts
 
 FOLDER = "/usr/share/metamath/databases"

@@ -96,7 +96,7 @@ pub fn store_of(alloc: Global, outside: Outside<'_>) -> Result<MemStore, Memory>
 }
 
 /// Calls the program with these words over a store.
-pub fn ended(
+pub fn call(
     alloc: Global,
     words: &[&str],
     store: &mut MemStore,
@@ -110,9 +110,9 @@ pub fn ended(
 }
 
 /// Calls it over the store with the two texts.
-pub fn ended_over(alloc: Global, words: &[&str], outside: Outside<'_>) -> Result<Ended, Memory> {
+pub fn call_over(alloc: Global, words: &[&str], outside: Outside<'_>) -> Result<Ended, Memory> {
     let mut store = store_of(alloc, outside)?;
-    ended(alloc, words, &mut store, outside)
+    call(alloc, words, &mut store, outside)
 }
 
 /// Compares what a call ended with.
@@ -130,7 +130,7 @@ pub fn check(
     outside: Outside<'_>,
     want: Want<'_>,
 ) -> Result<(), Fail> {
-    let ended = ended_over(alloc, words, outside)?;
+    let ended = call_over(alloc, words, outside)?;
     compare(rt, &ended, want);
     Ok(())
 }

@@ -1,6 +1,6 @@
 //! Devices that fail.
 
-use crate::calls::{Outside, Want, check, compare, ended, honest, refused, store_of};
+use crate::calls::{Outside, Want, call, check, compare, honest, refused, store_of};
 use crate::databases::PROP;
 use mm_base::{MemStore, Status};
 use std::alloc::Global;
@@ -234,7 +234,7 @@ fn check_over(
     row: Device,
     store: &mut MemStore,
 ) -> Result<(), Fail> {
-    let ended = ended(alloc, row.words, store, outside_of(row))?;
+    let ended = call(alloc, row.words, store, outside_of(row))?;
     let want = Want {
         status: row.status,
         out: row.out.as_bytes(),

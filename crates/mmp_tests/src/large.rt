@@ -1,9 +1,10 @@
 //! Worksheets that are large, deep or too long.
 
-use crate::calls::{Ended, Outside, Want, check, compare, ended_over, honest, joined, refused};
+use crate::calls::{Ended, Outside, Want, call_over, check, compare, honest, joined, refused};
 use crate::databases::{PROP, Q};
 use crate::texts::{
-    big_steps, doubling_proof, doublings, line_of, negations, repeated, too_many_spaces, with_big, words,
+    big_steps, doubling_proof, doublings, line_of, negations, repeated, too_many_spaces, with_big,
+    words,
 };
 use mm_base::{Memory, Status};
 use std::alloc::Global;
@@ -28,7 +29,7 @@ fn roomy<'a>(database: &'a [u8], sheet: &'a [u8]) -> Outside<'a> {
 fn doubled(alloc: Global, count: u32) -> Result<Ended, Memory> {
     let database = joined(alloc, Q)?;
     let text = doublings(alloc, count)?;
-    ended_over(alloc, USUAL, roomy(database.as_slice(), text.as_slice()))
+    call_over(alloc, USUAL, roomy(database.as_slice(), text.as_slice()))
 }
 
 // Ten doublings have 4,094 tokens.
@@ -102,7 +103,7 @@ fn open_blocks(rt: HostRuntime) -> Result<(), Fail> {
 
 fn doubled_proof(alloc: Global, rounds: u32, words: &[&str]) -> Result<Ended, Memory> {
     let text = doubling_proof(alloc, rounds)?;
-    ended_over(alloc, words, roomy(PROP.as_bytes(), text.as_slice()))
+    call_over(alloc, words, roomy(PROP.as_bytes(), text.as_slice()))
 }
 
 // 532,455 labels between `$=` and `$.`.

@@ -113,7 +113,13 @@ fn a_worksheet_is_written(rt: HostRuntime) -> Result<(), Fail> {
 fn a_formula_is_too_long(rt: HostRuntime) -> Result<(), Fail> {
     let database = joined(rt.alloc(), Q)?;
     let text = doublings(rt.alloc(), 40)?;
-    check(&rt, rt.alloc(), database.as_slice(), text.as_slice(), TOO_LONG)
+    check(
+        &rt,
+        rt.alloc(),
+        database.as_slice(),
+        text.as_slice(),
+        TOO_LONG,
+    )
 }
 
 #[test]

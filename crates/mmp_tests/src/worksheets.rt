@@ -1,7 +1,7 @@
 //! Worksheets that are unified: what is written, what is told, and with which status; and that what is written is written
 //! again as it is.
 
-use crate::calls::{Outside, Want, check, compare, ended_over, honest, joined};
+use crate::calls::{Outside, Want, call_over, check, compare, honest, joined};
 use crate::databases::Q;
 use crate::further::FURTHER;
 use crate::row::Row;
@@ -45,7 +45,7 @@ fn check_again(
     outside: Outside<'_>,
     status: Status,
 ) -> Result<(), Fail> {
-    let again = ended_over(alloc, words, outside)?;
+    let again = call_over(alloc, words, outside)?;
     assert_eq!(rt; again.out.bytes(), outside.sheet);
     assert_eq!(rt; again.status, status);
     Ok(())
@@ -146,7 +146,7 @@ fn an_indented_worksheet(rt: HostRuntime) -> Result<(), Fail> {
     };
     for sheet in [INDENTED, LAID_OUT] {
         let outside = honest(database.as_slice(), sheet);
-        let ended = ended_over(rt.alloc(), words.as_slice(), outside)?;
+        let ended = call_over(rt.alloc(), words.as_slice(), outside)?;
         compare(&rt, &ended, want);
     }
     Ok(())
