@@ -1,5 +1,7 @@
 //! The unifier's own call, below the program.
 
+ghost use Rattle.sheet_unify.specs.Made.{HasText};
+
 use crate::calls::joined;
 use crate::databases::{PROP, Q};
 use crate::texts::{doublings, too_many_spaces};
@@ -46,7 +48,9 @@ fn answer_to(
     database: &Database,
     text: &[u8],
     options: &Options,
-) -> Result<Vec<u8>, Memory> {
+) -> Result<Vec<u8>, Memory>
+    requires { HasText options.now.kinds database.now }
+{
     match unify_sheet(alloc, database, text, options) {
         Ok(outcome) => told(alloc, database, &outcome),
         Err(fault) => line_of(alloc, &fault),
