@@ -6,24 +6,6 @@ use std::alloc::{AllocError, Global};
 use std::process::Abort;
 use std::test::Fail;
 
-// Modus ponens over implications.
-pub const P: &str = "\
-$c ( ) -> -. wff |- $.\n\
-$v ph ps ch $.\n\
-wph $f wff ph $.\n\
-wps $f wff ps $.\n\
-wch $f wff ch $.\n\
-wn $a wff -. ph $.\n\
-wi $a wff ( ph -> ps ) $.\n\
-${\n\
-  min $e |- ph $.\n\
-  maj $e |- ( ph -> ps ) $.\n\
-  ax-mp $a |- ps $.\n\
-$}\n\
-ax-1 $a |- ( ph -> ( ps -> ph ) ) $.\n\
-ax-2 $a |- ( ( ph -> ( ps -> ch ) ) -> ( ( ph -> ps ) -> ( ph -> ch ) ) ) $.\n\
-";
-
 /// The texts under two names, and which calls of the outside fail.
 #[derive(Clone, Copy)]
 pub struct Outside<'a> {
@@ -31,6 +13,7 @@ pub struct Outside<'a> {
     pub database: &'a [u8],
     /// Under `r.mmp`.
     pub sheet: &'a [u8],
+    pub store_room: u64,
     pub store_fails: &'a [u64],
     pub out_room: u64,
     pub out_fails: &'a [u64],
@@ -45,13 +28,22 @@ pub struct Want<'a> {
     pub log: &'a str,
 }
 
+/// What a call ended with.
+#[derive(Drop)]
+pub struct Ended {
+    pub status: Status,
+    pub out: MemSink,
+    pub log: MemSink,
+}
+
 /// These two texts, and one write to each sink.
 pub fn honest<'a>(database: &'a [u8], sheet: &'a [u8]) -> Outside<'a> {
     Outside {
         database,
         sheet,
+        store_room: 4000,
         store_fails: &[],
-        out_room: 1000,
+        out_room: 4000,
         out_fails: &[2],
         log_fails: &[2],
     }
@@ -91,7 +83,8 @@ fn sink(alloc: Global, room: u64, fails: &[u64]) -> Result<MemSink, Memory> {
     MemSink::new(alloc, room, List::from_vec(Vec::from_slice(alloc, fails)?))
 }
 
-fn store(alloc: Global, outside: Outside<'_>) -> Result<MemStore, Memory> {
+/// The store with the two texts.
+pub fn store_of(alloc: Global, outside: Outside<'_>) -> Result<MemStore, Memory> {
     let mut files = Vec::new(alloc);
     files.push((
         bytes_of(alloc, b"P.mm")?,
@@ -99,10 +92,37 @@ fn store(alloc: Global, outside: Outside<'_>) -> Result<MemStore, Memory> {
     ))?;
     files.push((bytes_of(alloc, b"r.mmp")?, bytes_of(alloc, outside.sheet)?))?;
     let fails = List::from_vec(Vec::from_slice(alloc, outside.store_fails)?);
-    MemStore::new(alloc, List::from_vec(files), 0, fails)
+    MemStore::new(alloc, List::from_vec(files), outside.store_room, fails)
 }
 
-/// Calls the program with these words.
+/// Calls the program with these words over a store.
+pub fn call(
+    alloc: Global,
+    words: &[&str],
+    store: &mut MemStore,
+    outside: Outside<'_>,
+) -> Result<Ended, Memory> {
+    let words = words_of(alloc, words)?;
+    let mut out = sink(alloc, outside.out_room, outside.out_fails)?;
+    let mut log = sink(alloc, 4000, outside.log_fails)?;
+    let status = run(alloc, &words, store, &mut out, &mut log);
+    Ok(Ended { status, out, log })
+}
+
+/// Calls it over the store with the two texts.
+pub fn call_over(alloc: Global, words: &[&str], outside: Outside<'_>) -> Result<Ended, Memory> {
+    let mut store = store_of(alloc, outside)?;
+    call(alloc, words, &mut store, outside)
+}
+
+/// Compares what a call ended with.
+pub fn compare(rt: &impl Abort, ended: &Ended, want: Want<'_>) {
+    assert_eq!(rt; ended.log.bytes(), want.log.as_bytes());
+    assert_eq!(rt; ended.out.bytes(), want.out);
+    assert_eq!(rt; ended.status, want.status);
+}
+
+/// Calls the program with these words, and compares.
 pub fn check(
     rt: &impl Abort,
     alloc: Global,
@@ -110,13 +130,7 @@ pub fn check(
     outside: Outside<'_>,
     want: Want<'_>,
 ) -> Result<(), Fail> {
-    let words = words_of(alloc, words)?;
-    let mut store = store(alloc, outside)?;
-    let mut out = sink(alloc, outside.out_room, outside.out_fails)?;
-    let mut log = sink(alloc, 1000, outside.log_fails)?;
-    let status = run(alloc, &words, &mut store, &mut out, &mut log);
-    assert_eq!(rt; log.bytes(), want.log.as_bytes());
-    assert_eq!(rt; out.bytes(), want.out);
-    assert_eq!(rt; status, want.status);
+    let ended = call_over(alloc, words, outside)?;
+    compare(rt, &ended, want);
     Ok(())
 }

@@ -12,7 +12,7 @@ struct Refused {
 }
 
 // Databases with a fault.
-const DATABASES: [Refused; 18] = [
+const DATABASES: [Refused; 19] = [
     Refused {
         text: "$c wff $. $v wff $.",
         line: "database error 12 Redeclared at byte 13\n",
@@ -36,6 +36,10 @@ const DATABASES: [Refused; 18] = [
     Refused {
         text: "$c wff",
         line: "database error 21 Unended at byte 6\n",
+    },
+    Refused {
+        text: "$c ( ) -> -. wff |-",
+        line: "database error 21 Unended at byte 19\n",
     },
     Refused {
         text: "$c wff $. ${",

@@ -1,14 +1,34 @@
-//! Tests of whole calls of the program over files and sinks in memory: their words, proofs that are checked, files that are
-//! refused, and devices that fail.
+//! Tests of whole calls of the program over files and sinks in memory: their words, worksheets that are unified, proofs that
+//! are checked, trials, files that are refused, and devices that fail.
 #![tactic(auto)]
 
 #[cfg(test)]
 mod calls;
 #[cfg(test)]
+mod databases;
+#[cfg(test)]
 mod devices;
 #[cfg(test)]
+mod ends;
+#[cfg(test)]
 mod files;
+#[cfg(test)]
+mod further;
+#[cfg(test)]
+mod large;
+#[cfg(test)]
+mod library;
+#[cfg(test)]
+mod row;
+#[cfg(test)]
+mod rows;
+#[cfg(test)]
+mod texts;
+#[cfg(test)]
+mod trial;
 #[cfg(test)]
 mod verify;
 #[cfg(test)]
 mod words;
+#[cfg(test)]
+mod worksheets;

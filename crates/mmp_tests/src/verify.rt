@@ -1,36 +1,11 @@
 //! Proofs that are checked.
 
-use crate::calls::{Outside, P, Want, check, honest, joined};
+use crate::calls::{Outside, Want, check, honest, joined};
+use crate::databases::{DEMO, PROP};
 use mm_base::Status;
 use std::test::Fail;
 
-// The first example of the Metamath book: it has a `$p`.
-const DEMO0: &str = "\
-$c 0 + = -> ( ) term wff |- $.\n\
-$v t r s P Q $.\n\
-tt $f term t $.\n\
-tr $f term r $.\n\
-ts $f term s $.\n\
-wp $f wff P $.\n\
-wq $f wff Q $.\n\
-tze $a term 0 $.\n\
-tpl $a term ( t + r ) $.\n\
-weq $a wff t = r $.\n\
-wim $a wff ( P -> Q ) $.\n\
-a1 $a |- ( t = r -> ( t = s -> r = s ) ) $.\n\
-a2 $a |- ( t + 0 ) = t $.\n\
-${\n\
-  min $e |- P $.\n\
-  maj $e |- ( P -> Q ) $.\n\
-  mp $a |- Q $.\n\
-$}\n\
-th1 $p |- t = t $=\n\
-  tt tze tpl tt weq tt tt weq tt a2 tt tze tpl\n\
-  tt weq tt tze tpl tt weq tt tt weq wim tt a2\n\
-  tt tze tpl tt tt a1 mp mp $.\n\
-";
-
-// Theorems over P, with a right proof and with wrong ones.
+// Theorems over implications, with a right proof and with wrong ones.
 const THEOREMS: &str = "\
 good $p |- ( ph -> ( ps -> ph ) ) $= ( ax-1 ) ABC $.\n\
 bad $p |- ( ph -> ( ps -> ph ) ) $= ( ) ZA $.\n\
@@ -113,10 +88,10 @@ const VERIFIED: [Verified; 10] = [
     },
 ];
 
-// What is said of the theorems over P, and of one of another database.
+// What is said of these theorems, and of one of another database.
 #[test]
 fn proofs_are_checked(rt: HostRuntime) -> Result<(), Fail> {
-    let database = joined(rt.alloc(), &[P, THEOREMS])?;
+    let database = joined(rt.alloc(), &[PROP, THEOREMS])?;
     for row in VERIFIED {
         let outside = Outside {
             // the one read of a call
@@ -145,7 +120,7 @@ fn proofs_are_checked(rt: HostRuntime) -> Result<(), Fail> {
         &rt,
         rt.alloc(),
         &["verify", "P.mm", "th1"],
-        honest(DEMO0.as_bytes(), b""),
+        honest(DEMO.as_bytes(), b""),
         want,
     )
 }

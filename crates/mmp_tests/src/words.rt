@@ -1,6 +1,7 @@
 //! Words that fit no command, and words that do.
 
-use crate::calls::{Outside, P, check, honest, refused};
+use crate::calls::{Outside, check, honest, refused};
+use crate::databases::PROP;
 use mm_base::Status;
 use std::test::Fail;
 
@@ -72,7 +73,7 @@ fn wrong_words_are_refused(rt: HostRuntime) -> Result<(), Fail> {
         let outside = Outside {
             store_fails: &[1],
             out_fails: &[1],
-            ..honest(P.as_bytes(), b"")
+            ..honest(PROP.as_bytes(), b"")
         };
         check(
             &rt,
