@@ -2,7 +2,7 @@ ghost use Rattle.std.specs.Prelude.{◌≡◌, ◌<◌, ◌≤◌, ◌^◌, [], 
 ghost use Rattle.step_chain.specs.Held.{judgements_of};
 ghost use Rattle.step_chain.specs.Steps.{ArePlaced};
 ghost use Rattle.sheet_unify.specs.Answered.{IsFaultOf};
-ghost use Rattle.sheet_unify.specs.Judged.{IsPushedTo, IsChainOf, IsJudgedOver, IsFilledBy, IsRefusedBy};
+ghost use Rattle.sheet_unify.specs.Judged.{IsPushedTo, IsChainOf, IsJudgedOver, IsTold, IsFilledBy, IsRefusedBy};
 ghost use Rattle.sheet_unify.specs.Made.{HasTexts, ForTexts, IsFilled, IsFilledSound};
 
 use crate::faults::UnifyFault;
@@ -48,6 +48,15 @@ fn judged_chain<'a>(
     Ok(chain)
 }
 
+/// What a chain whose steps are all judged tells of itself.
+fn chain_tells(chain: &Chain<'_>)
+    requires { length (judgements_of chain.now) ≡ length chain.now.bound.steps }
+    ensures { IsTold chain.now }
+{
+    let _pushed = chain.pushed();
+    let _arena = chain.arena();
+}
+
 /// The steps of a chain whose steps are all judged, filled.
 fn fill_judged(
     alloc: Global,
@@ -65,8 +74,7 @@ fn fill_judged(
     values_are_short();
     long_is_first();
     long_formula_is_answered();
-    let _pushed = chain.pushed();
-    let _arena = chain.arena();
+    chain_tells(chain);
     match fill_items(alloc, sheet, chain) {
         Ok(items) => Ok(items),
         Err(FillFault::TooLong(name, tokens)) => Err(UnifyFault::FormulaTooLong(name, tokens)),

@@ -1,6 +1,5 @@
 use Rattle.std.proofs.Common.{subst}
 use Rattle.step_filling.specs.Answers.{IsFillFault}
-use Rattle.sheet_unify.specs.Judged.{IsTold}
 use Rattle.sheet_unify.proofs.JudgedLaws.{counted_over, filled_by, refused_by, sound_by, none_long}
 use Rattle.sheet_unify.proofs.judging.fill_judged.Goals as goal
 
@@ -14,37 +13,25 @@ pub returns-in-Ok-clause-sound : goal.returns-in-Ok-clause-sound
 returns-in-Ok-clause-sound c =
     let h = c.args.chain.now in
     let counts = c.bound_is_counted.ensures in
-    let arena = c.arena-arena.ensures in
-    let pushed = c.pushed-pushed.ensures in
-    let told : IsTold h = record { held = arena.held; few = arena.few; count = c.requires.count; judged = pushed.judged; valuation = pushed.valuation } in
-    sound_by h c.args.sheet.now told counts.counted counts.short c.leaves_are_small.ensures c.requires c.in-Ok.items c.in-Ok.ensures.filled
+    sound_by h c.args.sheet.now c.chain_tells.ensures counts.counted counts.short c.leaves_are_small.ensures c.requires c.in-Ok.items c.in-Ok.ensures.filled
 
 pub returns-in-Ok-clause-filled : goal.returns-in-Ok-clause-filled
 returns-in-Ok-clause-filled c =
     let h = c.args.chain.now in
     let counts = c.bound_is_counted.ensures in
-    let arena = c.arena-arena.ensures in
-    let pushed = c.pushed-pushed.ensures in
-    let told : IsTold h = record { held = arena.held; few = arena.few; count = c.requires.count; judged = pushed.judged; valuation = pushed.valuation } in
-    filled_by h c.args.sheet.now told counts.counted counts.short c.fronts_are_counted.ensures c.long_is_first.ensures.short c.in-Ok.items c.in-Ok.ensures.filled
+    filled_by h c.args.sheet.now c.chain_tells.ensures counts.counted counts.short c.fronts_are_counted.ensures c.long_is_first.ensures.short c.in-Ok.items c.in-Ok.ensures.filled
 
 pub returns-in-Err-TooLong-clause-fault : goal.returns-in-Err-TooLong-clause-fault
 returns-in-Err-TooLong-clause-fault c =
     let h = c.args.chain.now in
     let counts = c.bound_is_counted.ensures in
     let long = c.long_is_first.ensures in
-    let arena = c.arena-arena.ensures in
-    let pushed = c.pushed-pushed.ensures in
-    let told : IsTold h = record { held = arena.held; few = arena.few; count = c.requires.count; judged = pushed.judged; valuation = pushed.valuation } in
-    refused_by h c.args.sheet.now told counts.counted counts.short c.fronts_are_counted.ensures long.first long.short c.long_formula_is_answered.ensures c.in-Err-TooLong.name c.in-Err-TooLong.tokens
+    refused_by h c.args.sheet.now c.chain_tells.ensures counts.counted counts.short c.fronts_are_counted.ensures long.first long.short c.long_formula_is_answered.ensures c.in-Err-TooLong.name c.in-Err-TooLong.tokens
     (subst (IsFillFault h c.args.sheet.now) c.in-Err-TooLong.field-0-is c.in-Err-TooLong.ensures.fault)
 
 pub unreachable-requires : goal.unreachable-requires
 unreachable-requires c =
     let h = c.args.chain.now in
     let counts = c.bound_is_counted.ensures in
-    let arena = c.arena-arena.ensures in
-    let pushed = c.pushed-pushed.ensures in
-    let told : IsTold h = record { held = arena.held; few = arena.few; count = c.requires.count; judged = pushed.judged; valuation = pushed.valuation } in
-    none_long h c.args.sheet.now told counts.counted counts.short c.values_are_short.ensures c.requires
+    none_long h c.args.sheet.now c.chain_tells.ensures counts.counted counts.short c.values_are_short.ensures c.requires
     (subst (IsFillFault h c.args.sheet.now) c.in-Err-LongValue.field-0-is c.in-Err-LongValue.ensures.fault)
