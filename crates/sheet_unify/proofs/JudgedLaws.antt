@@ -1,13 +1,10 @@
 -- A chain that has judged all steps of a bound worksheet: what it is filled to is what the definitions fill it to, and its first formula that is too long is the answer.
-use Rattle.std.specs.Prelude.{◌≡◌, ℕ, suc, ◌<◌, ◌≤◌, ◌^◌, List, [], ◌∷◌, ◌++◌, length, fold, filter_map, refl}
-use Rattle.std.specs.List.{AllByRecursion}
+use Rattle.std.specs.Prelude.{◌≡◌, ℕ, ◌<◌, ◌≤◌, List, [], ◌∷◌, ◌++◌, length, fold, filter_map, refl}
 use Rattle.std.proofs.Common.{◌+◌, sym, ap, subst, ◌∙◌, arith}
 use Rattle.std.proofs.lemmas.List.{length-append}
 use Rattle.std.proofs.lemmas.List.Elements.{filter_map-append}
 use Rattle.mm_base.specs.declared.kinds.Kinds.{Kinds}
-use Rattle.mm_base.specs.declared.tree.Tree.{Tree}
 use Rattle.mm_model.specs.Book.{Database, logic_code}
-use Rattle.mm_model.specs.Limits.{most_sheet_bytes}
 use Rattle.mm_model.specs.Names.{Name, typecode}
 use Rattle.mm_model.specs.Frames.{symbol_in}
 use Rattle.mm_database.specs.Opened.{Opened, IsOpened}
