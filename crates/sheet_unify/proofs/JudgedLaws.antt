@@ -40,7 +40,7 @@ use Rattle.step_naming.specs.Named.{AreSmallLeaves}
 use Rattle.phase_laws.specs.Places.{IsCounted, BoundIsCounted, SoundIsShort}
 use Rattle.filling_laws.specs.Counted.{IsJudgedChain, IsCountedFront, FrontsAreCounted}
 use Rattle.filling_laws.specs.Leaves.{LeavesAreSmall}
-use Rattle.filling_laws.specs.Values.{ValuesAreShort}
+use Rattle.filling_laws.specs.Values.{BoundComesBefore, ValuesAreShort}
 use Rattle.sheet_unify.specs.Answered.{IsFaultOf}
 use Rattle.sheet_unify.specs.declared.faults.UnifyFault.{UnifyFault}
 use Rattle.sheet_unify.specs.declared.faults.UnifyFault.TheVariants as faults
@@ -135,8 +135,8 @@ module _ (h : Held) (sheet : Sheet) (told : IsTold h) (kinds : Kinds) (logic : I
         subst (λ (is : List WrittenItem). AreSmallLeaves (trees (steps_in is))) (sym filled_is)
         (leaves h told.held kinds database sheet opened bound_sheet.binds code chain_judged (omega (arith, few, limit)) names sheet.items)
 
-  pub no_long_value : ValuesAreShort → IsLongValueOf h sheet → ⊥
-  no_long_value values value = values h sheet kinds database sheet opened bound_sheet.binds code chain_judged counted.count value
+  pub no_long_value : ValuesAreShort → BoundComesBefore → IsLongValueOf h sheet → ⊥
+  no_long_value values earlier value = values h sheet kinds database sheet opened bound_sheet.binds code chain_judged (earlier db text sheet h.bound bound_sheet.says.reads bound_sheet.binds) value
 
   module _ (name : Name) (n : ℕ) (is_long : IsLong h sheet name n) (fronts : FrontsAreCounted) (first : LongIsFirst) (short : ShortIsShort) where
     abbrev front : List SheetItem
@@ -194,10 +194,10 @@ module _ (h : Held) (sheet : Sheet) (told : IsTold h) (bound_counts : BoundIsCou
       let texts = over.texts in
       record { sound = filled.sound; small = are_small h sheet told over.kinds over.logic texts.database texts.text texts.opened texts.bound_sheet bound_counts sound_short items filled leaves }
 
-  pub none_long : ValuesAreShort → IsJudgedOver sheet h → IsLongValueOf h sheet → ⊥
-  none_long values over value =
+  pub none_long : ValuesAreShort → BoundComesBefore → IsJudgedOver sheet h → IsLongValueOf h sheet → ⊥
+  none_long values earlier over value =
       let texts = over.texts in
-      no_long_value h sheet told over.kinds over.logic texts.database texts.text texts.opened texts.bound_sheet bound_counts sound_short values value
+      no_long_value h sheet told over.kinds over.logic texts.database texts.text texts.opened texts.bound_sheet bound_counts sound_short values earlier value
 
 -- ---- a chain of the bound worksheet
 

@@ -33,5 +33,5 @@ pub unreachable-requires : goal.unreachable-requires
 unreachable-requires c =
     let h = c.args.chain.now in
     let counts = c.bound_is_counted.ensures in
-    none_long h c.args.sheet.now c.chain_tells.ensures counts.counted counts.short c.values_are_short.ensures c.requires
+    none_long h c.args.sheet.now c.chain_tells.ensures counts.counted counts.short c.values_are_short.ensures.short c.values_are_short.ensures.earlier c.requires
     (subst (IsFillFault h c.args.sheet.now) c.in-Err-LongValue.field-0-is c.in-Err-LongValue.ensures.fault)
