@@ -1,3 +1,4 @@
+mod JudgedLaws
 mod LineLaws
 mod AnswerLaws
 mod TextLaws

@@ -2,7 +2,6 @@ use mm_base::{Memory, Name};
 use sheet_bind::{BindCode, BindFault};
 use sheet_proof::ProofFault;
 use sheet_read::{SheetCode, SheetFault};
-use step_filling::FillFault;
 
 /// Why a worksheet is not written. A number above 2^64 - 1 is told as 2^64 - 1.
 #[derive(Drop)]
@@ -30,6 +29,11 @@ pub enum UnifyFault {
 }
 
 impl From<Memory> for UnifyFault {
+    ghost use Rattle.std.specs.Prelude.{◌≡◌};
+    ghost use Rattle.sheet_unify.specs.declared.faults.UnifyFault.TheVariants as faults;
+
+    ghost from_gives = { λ _ r. r ≡ faults.Memory };
+
     fn from(_: Memory) -> UnifyFault {
         UnifyFault::Memory
     }
@@ -55,15 +59,6 @@ impl From<BindFault> for UnifyFault {
             BindFault::At(code, line) => UnifyFault::Bind(code, line),
             BindFault::TooMuch(size) => UnifyFault::TooMuch(size),
             BindFault::Memory => UnifyFault::Memory,
-        }
-    }
-}
-
-impl From<FillFault> for UnifyFault {
-    fn from(fault: FillFault) -> UnifyFault {
-        match fault {
-            FillFault::TooLong(name, tokens) => UnifyFault::FormulaTooLong(name, tokens),
-            FillFault::LongValue | FillFault::Memory => UnifyFault::Memory,
         }
     }
 }
