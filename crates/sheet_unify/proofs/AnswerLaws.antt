@@ -23,10 +23,6 @@ use Rattle.writing_laws.specs.HasWriting.{IsSolved}
 
 -- ---- what the worksheet becomes
 
-abbrev pub made_of : Sheet → Bound → List Judgement → Valuation → Naming → List WrittenItem → Bool → Writing
-made_of read bound judgements value names items finished =
-    record { read = read; bound = bound; judgements = judgements; value = value; names = names; items = items; finished = finished }
-
 pub made_writes : (db : Database) (text : List ℕ) (options : Options) (w : Writing) → IsSolved db text w.read w.bound w.judgements w.value
     → IsNaming db w.bound (trees (steps_in (after_filling db options w))) w.names → AllZip (ItemIsSearched db options w) (after_naming db options w) w.items
     → (IsTrue w.finished ↔ Finished options.dv w.bound.pairs (steps_in w.items)) → Writes db text options w

@@ -1,3 +1,5 @@
 mod LineLaws
 mod AnswerLaws
+mod DraftLaws
 mod TextLaws
+mod UnboundLaws
