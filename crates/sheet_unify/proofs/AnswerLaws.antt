@@ -6,17 +6,13 @@ use Rattle.mm_model.specs.Book.{Database}
 use Rattle.mm_model.specs.Limits.{most_sheet_bytes, most_work_size, most_proof_labels}
 use Rattle.mm_model.specs.Faults.{Fault, fault}
 use Rattle.fault_lines.specs.Refusals.{Refusal, at_line, written_two_trees, too_much_written, proof_too_long, too_large, told_number}
-use Rattle.sheet_text.specs.declared.sheet.Sheet.{Sheet}
 use Rattle.sheet_text.specs.TextFaults.{text_fault}
-use Rattle.solve_model.specs.declared.bound.Bound.{Bound}
 use Rattle.solve_model.specs.Bound.{work_size}
 use Rattle.solve_model.specs.Firsts.{IsFirstIn, IsFirstOrNone}
-use Rattle.solve_model.specs.Solutions.{Valuation}
-use Rattle.solve_model.specs.Verdicts.{Judgement}
 use Rattle.written_model.specs.declared.options.Options.{Options}
 use Rattle.written_model.specs.declared.options.ProofStyle.TheVariants as style
-use Rattle.written_model.specs.WrittenSteps.{WrittenStep, WrittenItem, steps_in, trees}
-use Rattle.written_model.specs.Named.{Naming, IsNaming}
+use Rattle.written_model.specs.WrittenSteps.{WrittenStep, steps_in, trees}
+use Rattle.written_model.specs.Named.{IsNaming}
 use Rattle.written_model.specs.ProofTrees.{Finished}
 use Rattle.written_model.specs.Written.{Writing, Writes, ItemIsSearched, after_filling, after_naming, IsTooLong, IsAmbiguous, written_bound, written_text, label_count, LateFault, IsLate, HasNoLateFault, Answers, refused, wrote}
 use Rattle.writing_laws.specs.HasWriting.{IsSolved}
