@@ -1,7 +1,8 @@
 -- What is filled, named and searched is what the worksheet becomes.
-use Rattle.std.specs.Prelude.{◌≡◌, ◌≤◌, ℕ, Bool, IsTrue, ◌↔◌, List, [], ◌∷◌, length, Contains, refl}
+use Rattle.std.specs.Prelude.{◌≡◌, ◌≤◌, ℕ, Bool, IsTrue, ◌↔◌, List, [], ◌∷◌, length, Contains, Result, Ok, Err, IfOk, refl}
 use Rattle.std.specs.List.{AllZip}
 use Rattle.std.proofs.Common.{sym, ap, subst, ◌∙◌, arith, inl, inr}
+use Rattle.mm_base.specs.declared.errors.Memory as memory
 use Rattle.mm_base.specs.declared.kinds.Kinds.{Kinds}
 use Rattle.mm_base.specs.declared.symbols.Pair.{Pair}
 use Rattle.mm_base.specs.declared.tree.Tree.{Tree}
@@ -38,8 +39,8 @@ use Rattle.writing_laws.specs.HasLong.{AreShort}
 use Rattle.writing_laws.specs.HasNames.{IsWritable}
 use Rattle.writing_laws.specs.HasWriting.{IsSolved}
 use Rattle.written_steps.specs.declared.draft.DraftItem.{DraftItem}
-use Rattle.written_steps.specs.Drafts.{book, items_in}
-use Rattle.step_naming.specs.Named.{AreWrittenShort}
+use Rattle.written_steps.specs.Drafts.{book, items_in, AreSound}
+use Rattle.step_naming.specs.Named.{AreNamed, AreWrittenShort}
 use Rattle.step_searching.specs.Searched as search
 use Rattle.sheet_unify.specs.Drafted.{AreFound}
 use Rattle.sheet_unify.specs.Made.{IsFilled, IsDraft, IsDraftSound, filled_of, made_of}
@@ -118,6 +119,15 @@ module _ (db : Database) (place : ℕ) (mode : DvMode) (allowed : List Pair) (es
   trees_kept (i ∷ is) [] h f m = absurd h
   trees_kept (comment lines ∷ is) (j ∷ js) h f m = trees_kept is js h.1 f (subst (λ (x : WrittenItem). Contains (steps_in (x ∷ js)) f) h.0 m)
   trees_kept (step e ∷ is) (j ∷ js) h f m = at_step e is js j h.0.0 f h.0.1 h.0.2 m (trees_kept is js h.1 f)
+
+-- ---- what was found
+
+pub are_found : (d : Opened) (bound : Bound) (mode : DvMode) (filled named : List DraftItem) (result : Result (List DraftItem) memory.Memory) → AreNamed d bound filled named → IfOk result (AreSound d)
+    → IfOk result (λ items. (kinds : Kinds) (text : List ℕ) → IsOpened kinds text d
+        → AllZip (search.ItemIsSearched (book kinds text d) bound.place mode bound.pairs (steps_in (items_in d named))) (items_in d named) (items_in d items))
+    → IfOk result (AreFound d bound mode filled)
+are_found d bound mode filled named (Ok items) is sound searched = record { named = named; are_named = is; sound = sound; searched = searched }
+are_found d bound mode filled named (Err e) is sound searched = tt
 
 -- ---- the draft
 
