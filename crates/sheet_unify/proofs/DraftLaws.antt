@@ -41,7 +41,7 @@ use Rattle.writing_laws.specs.HasWriting.{IsSolved}
 use Rattle.written_steps.specs.declared.draft.DraftItem.{DraftItem}
 use Rattle.written_steps.specs.Drafts.{book, items_in, AreSound}
 use Rattle.step_naming.specs.Named.{AreNamed, AreWrittenShort}
-use Rattle.step_searching.specs.Searched as search
+use Rattle.step_searching.specs.Searched as searching
 use Rattle.sheet_unify.specs.Drafted.{AreFound}
 use Rattle.sheet_unify.specs.Made.{IsFilled, IsDraft, IsDraftSound, filled_of, made_of}
 use Rattle.sheet_unify.proofs.AnswerLaws.{made_writes}
@@ -62,12 +62,12 @@ module _ (db : Database) (grammar : IsGrammar db.rows) (plain : ArePlain db) (te
   steps_count : length (steps read) ≡ length bound.steps
   steps_count = sym (count_same solved.reads.read read solved.reads.same) ∙ zip_length (IsBoundStep db (place_of db solved.reads.read)) (steps solved.reads.read) bound.steps solved.binds.steps
 
-  filled : FilledAlike
+  alike : FilledAlike
       (forth db bound grammar plain are_read judgements solved.judged value value solved.most_general same_values)
       (back db bound grammar plain are_read judgements solved.judged value value solved.most_general same_values)
       Good (λ t q. q.returns) bound value value (step_names read) judgements (length bound.steps)
       (each_moves db bound grammar plain are_read judgements solved.judged value value solved.most_general same_values) read.items
-  filled =
+  alike =
       let count = steps_count in
       filled_alike
       (forth db bound grammar plain are_read judgements solved.judged value value solved.most_general same_values)
@@ -77,14 +77,14 @@ module _ (db : Database) (grammar : IsGrammar db.rows) (plain : ArePlain db) (te
 
   pub filled_writable : (t : Tree) → Contains (trees (steps_in (filled_of read bound judgements value))) t → IsWritable db bound bound.place t
   filled_writable t o =
-      let good = contained_has Good (trees (steps_in (filled_of read bound judgements value))) t (good_trees Good (filled_of read bound judgements value) filled.good) o in
+      let good = contained_has Good (trees (steps_in (filled_of read bound judgements value))) t (good_trees Good (filled_of read bound judgements value) alike.good) o in
       record { typed = good.typed; was_read = good.was_read }
 
 -- ---- what is searched
 
 -- by the writing, the same
 pub written_searched : (db : Database) (options : Options) (w : Writing) (is js : List WrittenItem)
-    → AllZip (search.ItemIsSearched db w.bound.place options.dv w.bound.pairs (steps_in (after_naming db options w))) is js → AllZip (ItemIsSearched db options w) is js
+    → AllZip (searching.ItemIsSearched db w.bound.place options.dv w.bound.pairs (steps_in (after_naming db options w))) is js → AllZip (ItemIsSearched db options w) is js
 written_searched db options w [] [] h = tt
 written_searched db options w [] (j ∷ js) h = absurd h
 written_searched db options w (i ∷ is) [] h = absurd h
@@ -113,7 +113,7 @@ module _ (db : Database) (place : ℕ) (mode : DvMode) (allowed : List Pair) (es
         | inr k ↦ behind e f is (rest k)
       ]
 
-  pub trees_kept : (is js : List WrittenItem) → AllZip (search.ItemIsSearched db place mode allowed es) is js → (f : WrittenStep) → Contains (steps_in js) f → IsTreeOf is f
+  pub trees_kept : (is js : List WrittenItem) → AllZip (searching.ItemIsSearched db place mode allowed es) is js → (f : WrittenStep) → Contains (steps_in js) f → IsTreeOf is f
   trees_kept [] [] h f m = absurd (nothing f m)
   trees_kept [] (j ∷ js) h f m = absurd h
   trees_kept (i ∷ is) [] h f m = absurd h
@@ -124,7 +124,7 @@ module _ (db : Database) (place : ℕ) (mode : DvMode) (allowed : List Pair) (es
 
 pub are_found : (d : Opened) (bound : Bound) (mode : DvMode) (filled named : List DraftItem) (result : Result (List DraftItem) memory.Memory) → AreNamed d bound filled named → IfOk result (AreSound d)
     → IfOk result (λ items. (kinds : Kinds) (text : List ℕ) → IsOpened kinds text d
-        → AllZip (search.ItemIsSearched (book kinds text d) bound.place mode bound.pairs (steps_in (items_in d named))) (items_in d named) (items_in d items))
+        → AllZip (searching.ItemIsSearched (book kinds text d) bound.place mode bound.pairs (steps_in (items_in d named))) (items_in d named) (items_in d items))
     → IfOk result (AreFound d bound mode filled)
 are_found d bound mode filled named (Ok items) is sound searched = record { named = named; are_named = is; sound = sound; searched = searched }
 are_found d bound mode filled named (Err e) is sound searched = tt
@@ -184,4 +184,4 @@ module _ (has : HasDatabaseFacts) (standing : MandatoryVariablesStand) (owned : 
       searched : (finished : Bool) → AllZip (ItemIsSearched db options (w finished)) (name_items names fs) (items_in d items)
       searched finished =
           written_searched db options (w finished) (name_items names fs) (items_in d items)
-          (subst (λ (xs : List WrittenItem). AllZip (search.ItemIsSearched db bound.place options.dv bound.pairs (steps_in xs)) xs (items_in d items)) named_are (found.searched kinds database opened))
+          (subst (λ (xs : List WrittenItem). AllZip (searching.ItemIsSearched db bound.place options.dv bound.pairs (steps_in xs)) xs (items_in d items)) named_are (found.searched kinds database opened))
