@@ -22,6 +22,8 @@ returns-in-Ok-clause-answer c =
 
 pub unify_sheet-requires : goal.unify_sheet-requires
 unify_sheet-requires c = record {
-  database = trial_database;
-  opened = subst (λ (o : Options). IsOpened o.kinds trial_database c.args.db.now) (sym c.requires.options) c.requires.opened;
+  opened = record {
+    database = trial_database;
+    opened = subst (λ (o : Options). IsOpened o.kinds trial_database c.args.db.now) (sym c.requires.options) c.requires.opened;
+  };
 }
