@@ -1,20 +1,18 @@
 -- What was read, bound, solved, filled, named and searched is what the worksheet becomes, and its first late fault is its answer.
-use Rattle.std.specs.Prelude.{◌≡◌, ◌<◌, ◌≤◌, ◌↔◌, ◌⊎◌, ℕ, Bool, true, IsTrue, List, [], ◌∷◌, length, Contains, Option, Some, None, nat_lt, refl}
+use Rattle.std.specs.Prelude.{◌≡◌, ◌<◌, ◌≤◌, ◌↔◌, ℕ, true, IsTrue, List, [], ◌∷◌, length, Contains, Some, None, refl}
 use Rattle.std.specs.List.{AllZip}
-use Rattle.std.proofs.Common.{sym, ap, ◌∙◌, ◌+◌, arith, inl, inr, add-one}
+use Rattle.std.proofs.Common.{◌+◌, arith, inl, inr, add-one}
 use Rattle.mm_model.specs.Book.{Database}
 use Rattle.mm_model.specs.Limits.{most_sheet_bytes, most_work_size, most_proof_labels}
-use Rattle.mm_model.specs.Faults.{Fault, fault}
-use Rattle.fault_lines.specs.Refusals.{Refusal, at_line, written_two_trees, too_much_written, proof_too_long, too_large, told_number}
-use Rattle.sheet_text.specs.TextFaults.{text_fault}
+use Rattle.fault_lines.specs.Refusals.{Refusal, written_two_trees, too_much_written, proof_too_long, too_large, told_number}
 use Rattle.solve_model.specs.Bound.{work_size}
-use Rattle.solve_model.specs.Firsts.{IsFirstIn, IsFirstOrNone}
+use Rattle.solve_model.specs.Firsts.{IsFirstIn}
 use Rattle.written_model.specs.declared.options.Options.{Options}
 use Rattle.written_model.specs.declared.options.ProofStyle.TheVariants as style
 use Rattle.written_model.specs.WrittenSteps.{WrittenStep, steps_in, trees}
 use Rattle.written_model.specs.Named.{IsNaming}
 use Rattle.written_model.specs.ProofTrees.{Finished}
-use Rattle.written_model.specs.Written.{Writing, Writes, ItemIsSearched, after_filling, after_naming, IsTooLong, IsAmbiguous, written_bound, written_text, label_count, LateFault, IsLate, HasNoLateFault, Answers, refused, wrote}
+use Rattle.written_model.specs.Written.{Writing, Writes, ItemIsSearched, after_filling, after_naming, IsTooLong, IsAmbiguous, written_bound, written_text, label_count, LateFault, IsLate, HasNoLateFault}
 use Rattle.writing_laws.specs.HasWriting.{IsSolved}
 
 -- ---- what the worksheet becomes

@@ -1,5 +1,5 @@
 -- What is filled, named and searched is what the worksheet becomes.
-use Rattle.std.specs.Prelude.{◌≡◌, ◌≤◌, ℕ, Bool, IsTrue, ◌↔◌, List, [], ◌∷◌, length, Contains, Result, Ok, Err, IfOk, refl}
+use Rattle.std.specs.Prelude.{◌≡◌, ◌≤◌, ℕ, Bool, List, [], ◌∷◌, length, Contains, Result, Ok, Err, IfOk, refl}
 use Rattle.std.specs.List.{AllZip}
 use Rattle.std.proofs.Common.{sym, ap, subst, ◌∙◌, arith, inl, inr}
 use Rattle.mm_base.specs.declared.errors.Memory as memory
@@ -32,7 +32,6 @@ use Rattle.written_model.specs.declared.options.DvMode.{DvMode}
 use Rattle.written_model.specs.declared.options.Options.{Options}
 use Rattle.written_model.specs.Found.{IsSearched}
 use Rattle.written_model.specs.Named.{Naming, IsNaming, name_items}
-use Rattle.written_model.specs.ProofTrees.{Finished}
 use Rattle.written_model.specs.Written.{Writing, ItemIsSearched, after_naming}
 use Rattle.written_model.specs.WrittenSteps.{WrittenStep, WrittenItem, comment, step, steps_in, trees}
 use Rattle.writing_laws.specs.HasLong.{AreShort}

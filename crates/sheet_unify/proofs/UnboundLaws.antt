@@ -1,5 +1,5 @@
 -- What binding a worksheet to its database gives: its texts, or the answer that it is not bound.
-use Rattle.std.specs.Prelude.{◌≡◌, ℕ, List}
+use Rattle.std.specs.Prelude.{ℕ, List}
 use Rattle.std.proofs.Common.{sym, subst}
 use Rattle.fault_lines.specs.Refusals.{too_much}
 use Rattle.mm_base.specs.declared.kinds.Kinds.{Kinds}
