@@ -123,7 +123,7 @@ module _ (db : Database) (place : ℕ) (mode : DvMode) (allowed : List Pair) (es
 
 pub are_found : (d : Opened) (bound : Bound) (mode : DvMode) (filled named : List DraftItem) (result : Result (List DraftItem) memory.Memory) → AreNamed d bound filled named → IfOk result (AreSound d)
     → IfOk result (λ items. (kinds : Kinds) (text : List ℕ) → IsOpened kinds text d
-        → AllZip (searching.ItemIsSearched (book kinds text d) bound.place mode bound.pairs (steps_in (items_in d named))) (items_in d named) (items_in d items))
+    → AllZip (searching.ItemIsSearched (book kinds text d) bound.place mode bound.pairs (steps_in (items_in d named))) (items_in d named) (items_in d items))
     → IfOk result (AreFound d bound mode filled)
 are_found d bound mode filled named (Ok items) is sound searched = record { named = named; are_named = is; sound = sound; searched = searched }
 are_found d bound mode filled named (Err e) is sound searched = tt
