@@ -14,7 +14,9 @@ use Rattle.mm_frames.specs.Contents.{Contents, contents_of}
 use Rattle.mm_model.specs.Faults.{Fault, fault}
 use Rattle.mm_model.specs.Statements.{database_fault}
 use Rattle.mmp_run.specs.Opened.{Has, IsRefused, IsOpen, IsListedText}
-use Rattle.mmp_run.specs.OpenedSheet.{IsSheetRefused, IsOpenSheet}
+use Rattle.mmp_run.specs.OpenedSheet.{IsSheetRefused, IsOpenSheet, IsOpenedSheet, SaysWhatIsSaid}
+use Rattle.mmp_run.specs.declared.sheet.OpenedSheet.{OpenedSheet}
+use Rattle.mmp_run.specs.declared.sheet.OpenedSheet.TheVariants as opened
 use Rattle.mmp_run.specs.Refusals.{refusal}
 use Rattle.mmp_run.specs.Refused.{IsAccepted, IsDatabaseRefusal, IsReadable, IsSheetRefusal}
 use Rattle.sheet_text.specs.declared.sheet.Sheet as sheets
@@ -100,3 +102,8 @@ sheet_refused told name text end f short has is says = sheet_refused_text told n
 -- a text without one
 pub opened_sheet : (told : Option Files) (name text : List ℕ) (sheet : sheets.Sheet) → length text ≤ 2 ^ 24 → Has told name text → reading.Reads text sheet → IsOpenSheet told name sheet
 opened_sheet told name text sheet short has reads = record { text = text; has = has; readable = record { no_fault = short_fault text short ∙ reads.sound }; reads = reads }
+
+-- what was opened is what the text of its file says
+pub said : (told : Option Files) (before now : List ℕ → ℕ) (name : List ℕ) (o : OpenedSheet) → IsOpenedSheet told before now name o → SaysWhatIsSaid o
+said told before now name (opened.Sheet sheet) is = record { text = is.text; says = record { sound = is.readable.no_fault; reads = is.reads } }
+said told before now name (opened.Refused end) is = tt

@@ -9,6 +9,7 @@ use Rattle.mmp_run.specs.declared.sheet.OpenedSheet.{OpenedSheet}
 use Rattle.mmp_run.specs.declared.sheet.OpenedSheet.TheVariants as opened
 use Rattle.mmp_run.specs.Opened.{Has, IsUnread}
 use Rattle.mmp_run.specs.Refused.{IsReadable, IsSheetRefusal}
+use Rattle.sheet_unify.specs.Made.{IsSaid}
 
 -- the ending refuses the text under a name
 pub record IsSheetRefused (told : Option Files) (name : List ℕ) (end : Ending) : Type 0 where
@@ -26,3 +27,8 @@ pub record IsOpenSheet (told : Option Files) (name : List ℕ) (sheet : Sheet) :
 abbrev pub IsOpenedSheet : Option Files → (List ℕ → ℕ) → (List ℕ → ℕ) → List ℕ → OpenedSheet → Type 0
 IsOpenedSheet told before now name (opened.Sheet sheet) = IsOpenSheet told name sheet
 IsOpenedSheet told before now name (opened.Refused end) = IsSheetRefused told name end ⊎ IsUnread before now name end
+
+-- what was opened is what some text says, unless it was refused
+abbrev pub SaysWhatIsSaid : OpenedSheet → Type 0
+SaysWhatIsSaid (opened.Sheet sheet) = IsSaid sheet
+SaysWhatIsSaid (opened.Refused end) = Unit {0}

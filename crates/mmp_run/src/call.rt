@@ -9,7 +9,7 @@ ghost use Rattle.mm_frames.specs.Contents.{contents_of};
 ghost use Rattle.mm_model.specs.Statements.{database_fault};
 ghost use Rattle.mmp_run.specs.Answers.{MayEnd, MayEndFor};
 ghost use Rattle.mmp_run.specs.Opened.{IsOpen};
-ghost use Rattle.mmp_run.specs.OpenedSheet.{IsOpenedSheet};
+ghost use Rattle.mmp_run.specs.OpenedSheet.{IsOpenedSheet, SaysWhatIsSaid};
 ghost use Rattle.mmp_run.specs.Refusals.{usage};
 ghost use Rattle.mmp_run.specs.Shown.{shown, options_shown, unify_command, verify_command};
 ghost use Rattle.written_model.specs.declared.options.Options.{Options};
@@ -39,6 +39,7 @@ fn end_opened_sheet(
 ) -> Result<Ending, Memory>
     requires contents { frames ≡ contents_of text.now }
     requires no_fault { database_fault text.now ≡ None }
+    requires said { SaysWhatIsSaid opened }
     ensures { (told : Option Files) (before mid now : List ℕ → ℕ) (choice : Choice) (name file : List ℕ) → options_shown choice ≡ options.now → IsOpen told name text.now → NoneFell before mid
         → IsOpenedSheet told mid now file opened → IfOk result (MayEnd (unify_command choice name file) told before now) }
 {

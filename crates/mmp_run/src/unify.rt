@@ -12,6 +12,7 @@ ghost use Rattle.mmp_run.specs.Refused.{IsTextEnding, IsUnified};
 ghost use Rattle.fault_lines.specs.FaultLines.{refusal_line};
 ghost use Rattle.sheet_text.specs.Layout.{ended};
 ghost use Rattle.sheet_unify.specs.Answered.{IsWritten, SaysSheet, refusal_of};
+ghost use Rattle.sheet_unify.specs.Made.{HasText, IsSaid};
 ghost use Rattle.written_model.specs.declared.options.Options.{Options};
 ghost use Rattle.written_model.specs.Written.{Writing};
 
@@ -83,6 +84,8 @@ fn end_opened(
     sheet: &Sheet,
     options: &Options,
 ) -> Result<Ending, Memory>
+    requires opened { HasText options.now.kinds database.now }
+    requires said { IsSaid sheet.now }
     ensures answer { (text sheet_text : List ℕ) → IsOpened options.now.kinds text database.now → SaysSheet sheet_text sheet.now
         → IfOk result (IsUnified options.now text sheet_text) }
     ensures ending { IfOk result IsTextEnding }
@@ -104,6 +107,7 @@ pub fn end_sheet(
 ) -> Result<Ending, Memory>
     requires contents { frames ≡ contents_of text.now }
     requires no_fault { database_fault text.now ≡ None }
+    requires said { IsSaid sheet.now }
     ensures answer { (sheet_text : List ℕ) → SaysSheet sheet_text sheet.now → IfOk result (IsUnified options.now text.now sheet_text) }
     ensures ending { IfOk result IsTextEnding }
 {

@@ -1,31 +1,21 @@
 -- What was read, bound, solved, filled, named and searched is what the worksheet becomes, and its first late fault is its answer.
-use Rattle.std.specs.Prelude.{◌≡◌, ◌<◌, ◌≤◌, ◌↔◌, ◌⊎◌, ℕ, Bool, true, IsTrue, List, [], ◌∷◌, length, Contains, Option, Some, None, nat_lt, refl}
+use Rattle.std.specs.Prelude.{◌≡◌, ◌<◌, ◌≤◌, ◌↔◌, ℕ, true, IsTrue, List, [], ◌∷◌, length, Contains, Some, None, refl}
 use Rattle.std.specs.List.{AllZip}
-use Rattle.std.proofs.Common.{sym, ap, ◌∙◌, ◌+◌, arith, inl, inr, add-one}
+use Rattle.std.proofs.Common.{◌+◌, arith, inl, inr, add-one}
 use Rattle.mm_model.specs.Book.{Database}
 use Rattle.mm_model.specs.Limits.{most_sheet_bytes, most_work_size, most_proof_labels}
-use Rattle.mm_model.specs.Faults.{Fault, fault}
-use Rattle.fault_lines.specs.Refusals.{Refusal, at_line, written_two_trees, too_much_written, proof_too_long, too_large, told_number}
-use Rattle.sheet_text.specs.declared.sheet.Sheet.{Sheet}
-use Rattle.sheet_text.specs.TextFaults.{text_fault}
-use Rattle.solve_model.specs.declared.bound.Bound.{Bound}
+use Rattle.fault_lines.specs.Refusals.{Refusal, written_two_trees, too_much_written, proof_too_long, too_large, told_number}
 use Rattle.solve_model.specs.Bound.{work_size}
-use Rattle.solve_model.specs.Firsts.{IsFirstIn, IsFirstOrNone}
-use Rattle.solve_model.specs.Solutions.{Valuation}
-use Rattle.solve_model.specs.Verdicts.{Judgement}
+use Rattle.solve_model.specs.Firsts.{IsFirstIn}
 use Rattle.written_model.specs.declared.options.Options.{Options}
 use Rattle.written_model.specs.declared.options.ProofStyle.TheVariants as style
-use Rattle.written_model.specs.WrittenSteps.{WrittenStep, WrittenItem, steps_in, trees}
-use Rattle.written_model.specs.Named.{Naming, IsNaming}
+use Rattle.written_model.specs.WrittenSteps.{WrittenStep, steps_in, trees}
+use Rattle.written_model.specs.Named.{IsNaming}
 use Rattle.written_model.specs.ProofTrees.{Finished}
-use Rattle.written_model.specs.Written.{Writing, Writes, ItemIsSearched, after_filling, after_naming, IsTooLong, IsAmbiguous, written_bound, written_text, label_count, LateFault, IsLate, HasNoLateFault, Answers, refused, wrote}
+use Rattle.written_model.specs.Written.{Writing, Writes, ItemIsSearched, after_filling, after_naming, IsTooLong, IsAmbiguous, written_bound, written_text, label_count, LateFault, IsLate, HasNoLateFault}
 use Rattle.writing_laws.specs.HasWriting.{IsSolved}
 
 -- ---- what the worksheet becomes
-
-abbrev pub made_of : Sheet → Bound → List Judgement → Valuation → Naming → List WrittenItem → Bool → Writing
-made_of read bound judgements value names items finished =
-    record { read = read; bound = bound; judgements = judgements; value = value; names = names; items = items; finished = finished }
 
 pub made_writes : (db : Database) (text : List ℕ) (options : Options) (w : Writing) → IsSolved db text w.read w.bound w.judgements w.value
     → IsNaming db w.bound (trees (steps_in (after_filling db options w))) w.names → AllZip (ItemIsSearched db options w) (after_naming db options w) w.items

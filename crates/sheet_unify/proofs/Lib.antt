@@ -1,4 +1,6 @@
+mod AnswerLaws
+mod DraftLaws
 mod JudgedLaws
 mod LineLaws
-mod AnswerLaws
 mod TextLaws
+mod UnboundLaws

@@ -1,4 +1,5 @@
 pub mod Answered
+pub mod Drafted
 pub mod Judged
 pub mod Lines
 pub mod Made

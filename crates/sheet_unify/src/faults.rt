@@ -54,6 +54,11 @@ impl From<SheetFault> for UnifyFault {
 }
 
 impl From<BindFault> for UnifyFault {
+    ghost use Rattle.std.specs.Prelude.{◌≡◌};
+    ghost use Rattle.sheet_unify.specs.Told.{of_binding};
+
+    ghost from_gives = { λ e r. r ≡ of_binding e };
+
     fn from(fault: BindFault) -> UnifyFault {
         match fault {
             BindFault::At(code, line) => UnifyFault::Bind(code, line),

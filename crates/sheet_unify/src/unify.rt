@@ -4,8 +4,8 @@ ghost use Rattle.mm_database.specs.Opened.{IsOpened};
 ghost use Rattle.sheet_unify.specs.Answered.{IsOutcome, IsFaultOf, SaysSheet};
 ghost use Rattle.sheet_unify.specs.Made.{HasText, IsSaid, HasTexts, ForTexts, IsDraft, IsDraftSound};
 
+use crate::drafting::written_items;
 use crate::faults::UnifyFault;
-use crate::judging::filled_items;
 use crate::outcome::Outcome;
 use mm_base::{Bytes, List, MOST_SHEET_BYTES, MOST_WORK_SIZE, Memory};
 use mm_database::Database;
@@ -17,30 +17,9 @@ use sheet_text::Sheet;
 use sheet_writing::{ambiguous_step, written_sheet, written_size};
 use solve_model::Bound;
 use std::alloc::Global;
-use step_naming::name_items;
 use step_report::{is_finished, report_of, written_pairs};
-use step_searching::search_items;
 use written_model::{Options, ReportLine};
 use written_steps::DraftItem;
-
-/// The steps as they are written: filled, with names for their new work variables and with the references that are found.
-fn written_items(
-    alloc: Global,
-    db: &Database,
-    sheet: &Sheet,
-    bound: &Bound,
-    options: &Options,
-) -> Result<List<DraftItem>, UnifyFault>
-    requires texts { HasTexts options.now.kinds db.now sheet.now bound.now }
-    ensures sound { IfOk result (IsDraftSound db.now) }
-    ensures drafted { ForTexts options.now.kinds db.now sheet.now bound.now (λ d text. IfOk result (IsDraft d db.now text options.now sheet.now bound.now)) }
-    ensures fault { ForTexts options.now.kinds db.now sheet.now bound.now (λ d text. IfErr result (IsFaultOf d text options.now)) }
-{
-    let filled = filled_items(alloc, db, sheet, bound, options)?;
-    let named = name_items(alloc, db, bound, filled)?;
-    let given = &bound.pairs;
-    Ok(search_items(alloc, db, bound.place, options.dv, given, named)?)
-}
 
 /// The first fault of what is to be written, of those that its steps alone have.
 fn check_items(
@@ -164,6 +143,24 @@ fn outcome_of(
     }
 }
 
+/// What comes of a worksheet that is bound over its database.
+fn unify_bound(
+    alloc: Global,
+    db: &Database,
+    sheet: &Sheet,
+    bound: &Bound,
+    options: &Options,
+) -> Result<Outcome, UnifyFault>
+    requires texts { HasTexts options.now.kinds db.now sheet.now bound.now }
+    ensures outcome { ForTexts options.now.kinds db.now sheet.now bound.now (λ d text. IfOk result (IsOutcome d text options.now)) }
+    ensures fault { ForTexts options.now.kinds db.now sheet.now bound.now (λ d text. IfErr result (IsFaultOf d text options.now)) }
+{
+    match written_items(alloc, db, sheet, bound, options) {
+        Ok(items) => outcome_of(alloc, db, sheet, bound, options, items),
+        Err(fault) => Err(fault),
+    }
+}
+
 /// Unifies a worksheet that was read over the database that was opened with the kinds of the options. It takes a pass over the
 /// statements of the database, and beyond that time that depends on the worksheet, on the assertions that it names and on
 /// those that a search looks at.
@@ -184,9 +181,10 @@ pub fn unify_read(
     ensures fault { (database text : ListOf ℕ) → IsOpened options.now.kinds database db.now → SaysSheet text sheet.now
         → IfErr result (IsFaultOf (database_of options.now.kinds database db.now.rows db.now.parsed) text options.now) }
 {
-    let bound = bind_sheet(alloc, db, &options.kinds, sheet)?;
-    let items = written_items(alloc, db, sheet, &bound, options)?;
-    outcome_of(alloc, db, sheet, &bound, options, items)
+    match bind_sheet(alloc, db, &options.kinds, sheet) {
+        Ok(bound) => unify_bound(alloc, db, sheet, &bound, options),
+        Err(fault) => Err(UnifyFault::from(fault)),
+    }
 }
 
 /// Reads the text of a worksheet, and unifies it over the database that was opened with the kinds of the options.

@@ -13,3 +13,6 @@ returns-in-Sheet c = λ told before mid now choice name file same is_open fell r
 pub returns-in-Refused : goal.returns-in-Refused
 returns-in-Refused c = λ told before mid now choice name file same is_open fell read.
     may_refuse_sheet (record { options = options_shown choice; database = name; sheet = file }) choice.in_place c.args.text.now told before mid now c.in-Refused.end is_open fell (rw c.in-Refused.is at read)
+
+pub end_sheet-requires-clause-said : goal.end_sheet-requires-clause-said
+end_sheet-requires-clause-said c = rw c.in-Sheet.is at c.requires.said

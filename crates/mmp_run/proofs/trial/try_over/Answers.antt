@@ -19,3 +19,11 @@ returns-in-Ok-clause-answer c =
     (subst (λ (t : List ℕ). IsOutcome (database_of c.args.options.now.kinds trial_database c.args.db.now.rows c.args.db.now.parsed) t c.args.options.now c.in-Ok.outcome) (c.as_slice.ensures ∙ c.in_ok-text.ensures)
     (c.in-Ok.ensures.outcome trial_database opened))
     c.end_outcome.ensures.told
+
+pub unify_sheet-requires : goal.unify_sheet-requires
+unify_sheet-requires c = record {
+  opened = record {
+    database = trial_database;
+    opened = subst (λ (o : Options). IsOpened o.kinds trial_database c.args.db.now) (sym c.requires.options) c.requires.opened;
+  };
+}

@@ -21,3 +21,9 @@ returns-in-Err-clause-fault c = λ database opened.
     let db = database_of c.args.options.now.kinds database c.args.db.now.rows c.args.db.now.parsed in
     subst (IsFaultOf db c.args.text.now c.args.options.now) (sym c.from.ensures)
     (told_faulty db c.args.text.now c.args.options.now c.in-Err.fault c.if-text-gt-MOST_SHEET_BYTES.false c.in-Err.ensures.first_fault)
+
+pub unify_read-requires-clause-said : goal.unify_read-requires-clause-said
+unify_read-requires-clause-said c = record {
+  text = c.args.text.now;
+  says = says_of c.args.text.now c.in-Ok.sheet c.if-text-gt-MOST_SHEET_BYTES.false c.in-Ok.ensures.reads;
+}
