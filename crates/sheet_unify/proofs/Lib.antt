@@ -1,3 +1,5 @@
 mod LineLaws
 mod AnswerLaws
 mod TextLaws
+mod EndLaws
+mod LateLaws

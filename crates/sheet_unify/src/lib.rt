@@ -1,6 +1,7 @@
 //! Unifies a worksheet with an opened database, and writes it back with its report.
 #![tactic(auto)]
 
+mod ending;
 mod faults;
 mod judging;
 mod lines;
