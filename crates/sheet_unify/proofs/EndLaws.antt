@@ -1,7 +1,8 @@
 -- What is told of the end of a worksheet, test by test, is told of what is written.
-use Rattle.std.specs.Prelude.{◌≡◌, ◌<◌, ◌≤◌, ◌^◌, ◌↔◌, ◌⊎◌, ℕ, Bool, true, IsTrue, List, length, Contains, Option, Some, None, IfSome, refl}
+use Rattle.std.specs.Prelude.{◌≡◌, ◌<◌, ◌≤◌, ◌^◌, ◌↔◌, ◌⊎◌, ℕ, Bool, true, false, IsTrue, List, length, Contains, Option, Some, None, IfSome, refl}
 use Rattle.std.proofs.Common.{sym, ap, subst, ◌∙◌, arith}
 use Rattle.mm_base.specs.declared.kinds.Kinds.{Kinds}
+use Rattle.mm_base.specs.declared.symbols.Pair.{Pair}
 use Rattle.mm_model.specs.Book.{Database}
 use Rattle.mm_model.specs.Limits.{most_sheet_bytes, most_work_size, most_proof_labels}
 use Rattle.mm_model.specs.Names.{Name}
@@ -19,15 +20,18 @@ use Rattle.solve_model.specs.declared.bound.Bound.{Bound}
 use Rattle.solve_model.specs.Binding.{theorem_of}
 use Rattle.solve_model.specs.Bound.{work_size}
 use Rattle.written_model.specs.declared.options.Options.{Options}
-use Rattle.written_model.specs.WrittenSteps.{WrittenStep, steps_in}
-use Rattle.written_model.specs.Written.{Writing, Writes, IsAmbiguous, IsLate, written_bound, written_sheet, proof_text, qed_proof}
+use Rattle.written_model.specs.WrittenSteps.{WrittenStep, WrittenItem, steps_in}
+use Rattle.written_model.specs.Pairs.{pairs_of}
+use Rattle.written_model.specs.Written.{Writing, Writes, IsAmbiguous, IsLate, written_bound, written_pairs, written_sheet, proof_text, qed_proof}
 use Rattle.again_laws.specs.Second.{NumbersFit}
 use Rattle.written_steps.specs.declared.draft.DraftItem.{DraftItem}
-use Rattle.written_steps.specs.Drafts.{book, items_in}
+use Rattle.written_steps.specs.Drafts.{book, items_in, ForEachText}
+use Rattle.step_report.specs.PutPairs.{AreOrdered}
+use Rattle.step_report.proofs.GivenLaws.{given_ordered}
 use Rattle.sheet_unify.specs.declared.faults.UnifyFault.{UnifyFault}
 use Rattle.sheet_unify.specs.declared.faults.UnifyFault.TheVariants as faults
 use Rattle.sheet_unify.specs.Answered.{refusal_of}
-use Rattle.sheet_unify.specs.Ended.{NoAmbiguous, IsMuch, HasSoundSteps, IsText, IsMade, ForMade, IsMadeOf, ForMadeOf, IsSmall, AreChecked, IsStepFault, IsSizeFault, HasLongProofIn, count_in, IsProof, IsLongProof, ForBooks, IsProofFault, IsLaidOut, IsLargeText, IsLargeFault, whole_text, IsTextIn, EndFault, IsEndFault, IsTextFault, of_proof}
+use Rattle.sheet_unify.specs.Ended.{NoAmbiguous, IsMuch, HasSoundSteps, IsText, IsMade, ForMade, IsMadeOf, ForMadeOf, IsSmall, AreChecked, IsStepFault, IsSizeFault, HasLongProofIn, count_in, proof_in, IsProof, IsLongProof, ForBooks, IsProofFault, IsLaidOut, IsLargeText, IsLargeFault, whole_text, IsTextIn, EndFault, IsEndFault, IsTextFault, of_proof}
 use Rattle.sheet_unify.proofs.AnswerLaws.{ambiguous_late, much_late, proof_late, large_late}
 
 pub some_weaker : {X : Type 0} (P Q : X → Type 0) (o : Option X) → ((x : X) → P x → Q x) → IfSome o P → IfSome o Q
@@ -56,6 +60,12 @@ abbrev pub IsToldSize : Opened → ℕ → List DraftItem → ℕ → Type 0
 IsToldSize d place items size =
     (kinds : Kinds) (text : List ℕ) (options : Options) (w : Writing) → IsOpened kinds text d → w.bound.place ≡ place → w.items ≡ items_in d items
     → size ≡ told_number (work_size (book kinds text d) (written_bound (book kinds text d) options w))
+
+-- this is the sheet that is written of these items with these pairs
+abbrev pub IsSheetOf : Opened → Name → Sheet → List DraftItem → List Pair → Sheet → Type 0
+IsSheetOf d provable sheet items pairs s =
+    (kinds : Kinds) (text : List ℕ) (options : Options) (w : Writing) → IsOpened kinds text d → kinds.provable ≡ provable → w.read.theorem ≡ sheet.theorem → w.read.loc ≡ sheet.loc
+    → w.items ≡ items_in d items → written_pairs (book kinds text d) options w ≡ pairs → s ≡ written_sheet (book kinds text d) options w
 
 module _ (d : Opened) (place : ℕ) (items : List DraftItem) where
   abbrev IsNameFound : (options : Options) → List ℕ → Writing → Option Name → Type 0
@@ -108,7 +118,7 @@ module _ (d : Opened) (options : Options) (sheet : Sheet) (es : List WrittenStep
       }
 
   pub proof_faulty : (f : ProofFault) → IsToldOf d options.style theorem es f → IsProofFault d options sheet es true (of_proof f)
-  proof_faulty (told.TooLong n) h database opened =
+  proof_faulty (told.TooLong n) h = λ database opened.
       let db : Database = book options.kinds database d in
       record {
         is_long = (refl, h.style_is, subst (λ t. most_proof_labels < length (postorder (qed_proof db t es))) (theorem_is database opened) (h.over options.kinds database opened));
@@ -116,9 +126,12 @@ module _ (d : Opened) (options : Options) (sheet : Sheet) (es : List WrittenStep
       }
   proof_faulty told.Memory h = tt
 
-pub not_finished : (d : Opened) (options : Options) (sheet : Sheet) (es : List WrittenStep) (finished : Bool) → (finished ≡ true → ⊥) → finished ≡ false
+pub not_finished : (d : Opened) (options : Options) (sheet : Sheet) (es : List WrittenStep) (finished : Bool) → finished ≡ false
     → ForBooks d options (λ db. IsProof db options sheet es finished None)
-not_finished d options sheet es finished not e database opened = record { proof_is = rw e refl; no_long_proof = λ h. not h.0 }
+not_finished d options sheet es finished e database opened = record {
+  proof_is = ap (λ b. proof_in (book options.kinds database d) options sheet es b) (sym e);
+  no_long_proof = λ h. let impossible : true ≡ false = sym h.0 ∙ e in cc;
+}
 
 -- ---- the text
 
@@ -197,3 +210,22 @@ module _ (d : Opened) (options : Options) (sheet : Sheet) (bound : Bound) (items
       some_weaker (λ r. ForBooks d options (λ db. EndFault db options written es finished r))
       (λ r. ForMadeOf d options sheet bound items (λ db w. w.finished ≡ finished → HasSoundSteps db options w → IsLate db options w r))
       (refusal_of f) fault_made h
+
+-- ---- the sheet
+
+module _ (d : Opened) (options : Options) (sheet : Sheet) (bound : Bound) (items : List DraftItem) (provable : Name) (pairs : List Pair) (provable_is : options.kinds.provable ≡ provable)
+    (pairs_are : ForEachText d (AreOrdered bound.pairs → pairs ≡ pairs_of options.dv bound.pairs (steps_in (items_in d items)))) where
+  ordered : (database text : List ℕ) (w : Writing) → IsMadeOf d options sheet bound items database text w → AreOrdered bound.pairs
+  ordered database text w of =
+      let binds = of.made.writes.binds in
+      subst AreOrdered (sym binds.pairs ∙ ap (λ (b : Bound). b.pairs) of.bound_is) (given_ordered (book options.kinds database d) of.made.writes.reads.read)
+
+  own_pairs : (database text : List ℕ) (w : Writing) → IsMadeOf d options sheet bound items database text w → written_pairs (book options.kinds database d) options w ≡ pairs
+  own_pairs database text w of =
+      ap (λ (b : Bound). pairs_of options.dv b.pairs (steps_in w.items)) of.bound_is ∙ ap (λ (is : List WrittenItem). pairs_of options.dv bound.pairs (steps_in is)) of.made.items_are
+      ∙ sym (pairs_are options.kinds database of.made.opened (ordered database text w of))
+
+  pub sheet_made : (s : Sheet) → IsSheetOf d provable sheet items pairs s → ForMadeOf d options sheet bound items (λ db w. s ≡ written_sheet db options w)
+  sheet_made s is database text w of =
+      is options.kinds database options w of.made.opened provable_is (ap (λ (r : Sheet). r.theorem) of.read_is) (ap (λ (r : Sheet). r.loc) of.read_is) of.made.items_are
+      (own_pairs database text w of)

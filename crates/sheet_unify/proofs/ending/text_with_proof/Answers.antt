@@ -1,4 +1,4 @@
-use Rattle.std.proofs.Common.{subst}
+use Rattle.std.proofs.Common.{IfOk, IfErr, subst}
 use Rattle.std.proofs.lemmas.Result.{IfOk-weaker, IfErr-weaker}
 use Rattle.written_model.specs.WrittenSteps.{steps_in}
 use Rattle.written_steps.specs.Drafts.{items_in}
@@ -27,4 +27,4 @@ returns-in-Ok-clause-fault c =
 pub returns-in-Err-clause-fault : goal.returns-in-Err-clause-fault
 returns-in-Err-clause-fault c =
     let d = c.args.db.now in
-    end_faulty d c.args.options.now c.args.written.now (steps_in (items_in d c.args.items)) c.args.finished c.in-Err.fault c.in-Err.ensures
+    end_faulty d c.args.options.now c.args.written.now (steps_in (items_in d c.args.items)) c.args.finished c.in-Err.fault c.in-Err.ensures.fault
