@@ -1,4 +1,4 @@
-use Rattle.std.proofs.Common.{sym, subst}
+use Rattle.std.proofs.Common.{true, sym, subst}
 use Rattle.written_model.specs.WrittenSteps.{steps_in}
 use Rattle.written_steps.specs.Drafts.{items_in}
 use Rattle.sheet_unify.specs.Ended.{IsProofFault}

@@ -11,8 +11,8 @@ returns c =
     let options = c.args.options.now in
     let sheet = c.args.sheet.now in
     let items = c.args.items.now in
-    IfOk-weaker c.written_sheet.result (IsSheetOf d c.as_slice.result.now sheet items c.as_slice-2.result.now)
+    IfOk-weaker c.written_sheet.result (IsSheetOf d c.as_slice-provable.result.now sheet items c.as_slice.result.now)
     (λ s. ForMadeOf d options sheet c.args.bound.now items (λ db w. s ≡ written_sheet db options w))
-    (λ s h. sheet_made d options sheet c.args.bound.now items c.as_slice.result.now c.as_slice-2.result.now (sym c.as_slice.ensures)
-    (λ kinds text opened ordered. c.as_slice-2.ensures ∙ c.in_ok-pairs.ensures kinds text opened ordered) s h)
+    (λ s h. sheet_made d options sheet c.args.bound.now items c.as_slice-provable.result.now c.as_slice.result.now (sym c.as_slice-provable.ensures)
+    (λ kinds text opened ordered. c.as_slice.ensures ∙ c.in_ok-pairs.ensures kinds text opened ordered) s h)
     c.written_sheet.ensures.writing

@@ -12,7 +12,7 @@ returns-in-Ok-clause-text c =
     let es = steps_in (items_in d c.args.items) in
     let s = c.args.written.now in
     IfOk-weaker c.laid_out.result (IsLaidOut s c.in-Ok.proof) (λ t. ForBooks d c.args.options.now (λ db. IsTextIn db c.args.options.now s es c.args.finished t))
-    (λ t h. text_fits d c.args.options.now s es c.args.finished c.in-Ok.proof t c.in-Ok.ensures h)
+    (λ t h. text_fits d c.args.options.now s es c.args.finished c.in-Ok.proof t c.in-Ok.ensures.proof h)
     (subst (λ p. IfOk c.laid_out.result (IsLaidOut s p)) c.bytes_of.ensures c.laid_out.ensures.text)
 
 pub returns-in-Ok-clause-fault : goal.returns-in-Ok-clause-fault
@@ -21,7 +21,7 @@ returns-in-Ok-clause-fault c =
     let es = steps_in (items_in d c.args.items) in
     let s = c.args.written.now in
     IfErr-weaker c.laid_out.result (IsLargeFault s c.in-Ok.proof) (IsEndFault d c.args.options.now s es c.args.finished)
-    (λ f h. large_faulty d c.args.options.now s es c.args.finished c.in-Ok.proof f c.in-Ok.ensures h)
+    (λ f h. large_faulty d c.args.options.now s es c.args.finished c.in-Ok.proof f c.in-Ok.ensures.proof h)
     (subst (λ p. IfErr c.laid_out.result (IsLargeFault s p)) c.bytes_of.ensures c.laid_out.ensures.fault)
 
 pub returns-in-Err-clause-fault : goal.returns-in-Err-clause-fault
