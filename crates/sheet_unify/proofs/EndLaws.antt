@@ -1,6 +1,7 @@
 -- What is told of the end of a worksheet, test by test, is told of what is written.
-use Rattle.std.specs.Prelude.{◌≡◌, ◌<◌, ◌≤◌, ◌^◌, ◌↔◌, ◌⊎◌, ℕ, Bool, true, false, IsTrue, List, length, Contains, Option, Some, None, IfSome, refl}
+use Rattle.std.specs.Prelude.{◌≡◌, ◌<◌, ◌≤◌, ◌^◌, ℕ, Bool, true, List, length, Option, Some, None, refl}
 use Rattle.std.proofs.Common.{sym, ap, subst, ◌∙◌, arith}
+use Rattle.std.proofs.lemmas.Option.{IfSome_then}
 use Rattle.mm_base.specs.declared.kinds.Kinds.{Kinds}
 use Rattle.mm_base.specs.declared.symbols.Pair.{Pair}
 use Rattle.mm_model.specs.Book.{Database}
@@ -31,12 +32,8 @@ use Rattle.step_report.proofs.GivenLaws.{given_ordered}
 use Rattle.sheet_unify.specs.declared.faults.UnifyFault.{UnifyFault}
 use Rattle.sheet_unify.specs.declared.faults.UnifyFault.TheVariants as faults
 use Rattle.sheet_unify.specs.Answered.{refusal_of}
-use Rattle.sheet_unify.specs.Ended.{NoAmbiguous, IsMuch, HasSoundSteps, IsText, IsMade, ForMade, IsMadeOf, ForMadeOf, IsSmall, AreChecked, IsStepFault, IsSizeFault, HasLongProofIn, count_in, proof_in, IsProof, IsLongProof, ForBooks, IsProofFault, IsLaidOut, IsLargeText, IsLargeFault, whole_text, IsTextIn, EndFault, IsEndFault, IsTextFault, of_proof}
+use Rattle.sheet_unify.specs.Ended.{NoAmbiguous, HasSoundSteps, IsText, IsMade, ForMade, IsMadeOf, ForMadeOf, IsSmall, IsStepFault, IsSizeFault, IsProof, ForBooks, IsProofFault, IsLaidOut, IsLargeText, IsLargeFault, IsTextIn, EndFault, IsEndFault, IsTextFault, of_proof}
 use Rattle.sheet_unify.proofs.AnswerLaws.{ambiguous_late, much_late, proof_late, large_late}
-
-pub some_weaker : {X : Type 0} (P Q : X → Type 0) (o : Option X) → ((x : X) → P x → Q x) → IfSome o P → IfSome o Q
-some_weaker P Q None f h = tt
-some_weaker P Q (Some x) f h = f x h
 
 -- ---- numbers that are told
 
@@ -101,8 +98,7 @@ module _ (d : Opened) (place : ℕ) (items : List DraftItem) where
 
   pub step_faulty : IsFoundName d place items None → (f : UnifyFault) → IsSizeFault d place items f → IsStepFault d place items f
   step_faulty found f h =
-      some_weaker (λ r. ForMade d place items (λ db options w. NoAmbiguous db options w → IsLate db options w r)) (λ r. ForMade d place items (λ db options w. IsLate db options w r))
-      (refusal_of f) (λ r k options database text w made. k options database text w made (none_ambiguous found options database text w made)) h
+      IfSome_then (refusal_of f) h (λ r k options database text w made. k options database text w made (none_ambiguous found options database text w made))
 
 -- ---- the proof
 
@@ -125,13 +121,6 @@ module _ (d : Opened) (options : Options) (sheet : Sheet) (es : List WrittenStep
         told = ap (λ k. proof_too_long k) (h.count options.kinds database opened ∙ ap (λ t. told_number (length (postorder (qed_proof db t es)))) (theorem_is database opened));
       }
   proof_faulty told.Memory h = tt
-
-pub not_finished : (d : Opened) (options : Options) (sheet : Sheet) (es : List WrittenStep) (finished : Bool) → finished ≡ false
-    → ForBooks d options (λ db. IsProof db options sheet es finished None)
-not_finished d options sheet es finished e database opened = record {
-  proof_is = ap (λ b. proof_in (book options.kinds database d) options sheet es b) (sym e);
-  no_long_proof = λ h. let impossible : true ≡ false = sym h.0 ∙ e in cc;
-}
 
 -- ---- the text
 
@@ -160,15 +149,14 @@ module _ (d : Opened) (options : Options) (sheet : Sheet) (es : List WrittenStep
   pub large_faulty : (proof : Option (List ℕ)) (f : UnifyFault) → ForBooks d options (λ db. IsProof db options sheet es finished proof) → IsLargeFault sheet proof f
       → IsEndFault d options sheet es finished f
   large_faulty proof f is h =
-      some_weaker (IsLargeText sheet proof) (λ r. ForBooks d options (λ db. EndFault db options sheet es finished r)) (refusal_of f)
-      (λ r k database opened. large_one (book options.kinds database d) proof r (is database opened) k) h
+      IfSome_then (refusal_of f) h (λ r k database opened. large_one (book options.kinds database d) proof r (is database opened) k)
 
   pub end_faulty : (f : UnifyFault) → IsProofFault d options sheet es finished f → IsEndFault d options sheet es finished f
   end_faulty f h =
-      some_weaker (λ r. ForBooks d options (λ db. IsLongProof db options sheet es finished r)) (λ r. ForBooks d options (λ db. EndFault db options sheet es finished r)) (refusal_of f)
+      IfSome_then (refusal_of f) h
       (λ r k database opened.
       let p = k database opened in
-      subst (EndFault (book options.kinds database d) options sheet es finished) (sym p.told) (EndFault.proof p.is_long)) h
+      subst (EndFault (book options.kinds database d) options sheet es finished) (sym p.told) (EndFault.proof p.is_long))
 
 -- ---- the text of what is written
 
@@ -207,9 +195,7 @@ module _ (d : Opened) (options : Options) (sheet : Sheet) (bound : Bound) (items
 
   pub text_faulty : (f : UnifyFault) → IsEndFault d options written es finished f → IsTextFault d options sheet bound items finished f
   text_faulty f h =
-      some_weaker (λ r. ForBooks d options (λ db. EndFault db options written es finished r))
-      (λ r. ForMadeOf d options sheet bound items (λ db w. w.finished ≡ finished → HasSoundSteps db options w → IsLate db options w r))
-      (refusal_of f) fault_made h
+      IfSome_then (refusal_of f) h fault_made
 
 -- ---- the sheet
 

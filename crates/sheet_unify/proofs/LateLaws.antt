@@ -1,21 +1,21 @@
 -- What a draft is written to: its end is decided, its steps have a proof where it is finished, and it is the answer or has a late fault.
-use Rattle.std.specs.Prelude.{◌≡◌, ◌<◌, ◌↔◌, ◌⊎◌, ℕ, Bool, true, false, IsTrue, List, map, Contains, Some, None, IfSome, slice_get, refl}
-use Rattle.std.proofs.Common.{◌∙◌, arith, inl, inr}
+use Rattle.std.specs.Prelude.{◌≡◌, ◌↔◌, ℕ, Bool, true, false, IsTrue, List, refl}
+use Rattle.std.proofs.Common.{arith, inl, inr}
 use Rattle.std.proofs.lemmas.Bool.{cases_lt}
+use Rattle.std.proofs.lemmas.Option.{IfSome_then}
 use Rattle.fault_lines.specs.Refusals.{Refusal}
 use Rattle.mm_model.specs.Book.{Database}
 use Rattle.mm_database.specs.Opened.{Opened, IsOpened}
 use Rattle.phase_laws.proofs.Ends.{written_is_earlier, finished_is_provable}
 use Rattle.sheet_proof.specs.Provable.{IsProvable}
 use Rattle.sheet_text.specs.declared.sheet.Sheet.{Sheet}
-use Rattle.sheet_text.specs.declared.sheet.Given.TheVariants as given
 use Rattle.solve_model.specs.declared.bound.Bound.{Bound}
 use Rattle.written_model.specs.declared.options.Options.{Options}
 use Rattle.written_model.specs.declared.report.ReportLine.{ReportLine}
 use Rattle.written_model.specs.Opened as model
 use Rattle.written_model.specs.ProofTrees.{Finished}
 use Rattle.written_model.specs.WrittenSteps.{WrittenStep, steps_in}
-use Rattle.written_model.specs.Written.{Writing, Writes, Answers, refused, wrote, IsLate}
+use Rattle.written_model.specs.Written.{Writing, Answers, refused, IsLate}
 use Rattle.writing_laws.specs.HasEnd.{PlacesAreEarlier}
 use Rattle.writing_laws.specs.Decisions.{Decided}
 use Rattle.writing_laws.proofs.Ending.{finished_decided}
@@ -23,12 +23,10 @@ use Rattle.writing_laws.proofs.LongSteps.{short_not_late}
 use Rattle.written_steps.specs.declared.draft.DraftItem.{DraftItem}
 use Rattle.written_steps.specs.Drafts.{book, items_in}
 use Rattle.sheet_unify.specs.declared.faults.UnifyFault.{UnifyFault}
-use Rattle.sheet_unify.specs.declared.outcome.Outcome.{Outcome}
-use Rattle.sheet_unify.specs.Answered.{IsOutcome, IsFaultOf, IsWritten, refusal_of}
+use Rattle.sheet_unify.specs.Answered.{IsOutcome, IsFaultOf, refusal_of}
 use Rattle.sheet_unify.specs.Made.{IsBoundSheet, IsDraft, made_of}
-use Rattle.sheet_unify.specs.Ended.{HasSoundSteps, IsText, IsMadeOf, AreChecked, IsStepFault, ForMade, ForMadeOf, ForBooks, IsTextFault, IsReported}
+use Rattle.sheet_unify.specs.Ended.{HasSoundSteps, IsText, IsMadeOf, AreChecked, IsStepFault, ForMadeOf, IsTextFault, IsReported}
 use Rattle.sheet_unify.proofs.AnswerLaws.{none_late}
-use Rattle.sheet_unify.proofs.EndLaws.{some_weaker}
 
 module _ (d : Opened) (options : Options) (sheet : Sheet) (bound : Bound) (items : List DraftItem) (database text : List ℕ) (opened : IsOpened options.kinds database d)
     (bound_sheet : IsBoundSheet (book options.kinds database d) text sheet bound) (draft : IsDraft (book options.kinds database d) d text options sheet bound items) where
@@ -89,8 +87,7 @@ module _ (d : Opened) (options : Options) (sheet : Sheet) (bound : Bound) (items
   pub step_fault_answered : (f : UnifyFault) → IsStepFault d bound.place items f → IsFaultOf db text options f
   step_fault_answered f h =
       let e = some_end (finished_decided es draft_earlier options.dv bound.pairs) in
-      some_weaker (λ r. ForMade d bound.place items (λ db' options' w. IsLate db' options' w r)) (λ r. Answers db text options (refused r)) (refusal_of f)
-      (λ r k. late_answer e.0 e.1 r (k options database text (whole e.0) (made_with e.0 e.1).made)) h
+      IfSome_then (refusal_of f) h (λ r k. late_answer e.0 e.1 r (k options database text (whole e.0) (made_with e.0 e.1).made))
 
   -- ---- the answer
 
@@ -113,9 +110,7 @@ module _ (d : Opened) (options : Options) (sheet : Sheet) (bound : Bound) (items
 
     pub fault_answered : (f : UnifyFault) → AreChecked d bound.place items → IsTextFault d options sheet bound items finished f → IsFaultOf db text options f
     fault_answered f checked h =
-        some_weaker (λ r. ForMadeOf d options sheet bound items (λ db' w. w.finished ≡ finished → HasSoundSteps db' options w → IsLate db' options w r))
-        (λ r. Answers db text options (refused r)) (refusal_of f)
-        (λ r k. late_answer finished ends r (k database text (whole finished) made refl (sound_steps checked))) h
+        IfSome_then (refusal_of f) h (λ r k. late_answer finished ends r (k database text (whole finished) made refl (sound_steps checked)))
 
     pub outcome_answered : (t : List ℕ) → AreChecked d bound.place items
         → ForMadeOf d options sheet bound items (λ db' w. w.finished ≡ finished → IsText db' options w t)
