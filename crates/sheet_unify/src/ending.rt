@@ -24,7 +24,7 @@ use step_report::{is_finished, report_of, written_pairs};
 use written_model::{Options, ReportLine};
 use written_steps::DraftItem;
 
-/// Whether what is written is within the work size.
+/// The fault of the work size of what is to be written.
 fn check_size(db: &Database, place: u32, items: &[DraftItem]) -> Result<(), UnifyFault>
     ensures small { IfOk result (λ _. IsSmall db.now place items.now) }
     ensures fault { IfErr result (IsSizeFault db.now place items.now) }
@@ -142,7 +142,7 @@ fn sheet_of(
     written_sheet(alloc, db, provable, sheet, items, pairs.as_slice())
 }
 
-/// The text of a worksheet, which is written so, with its proof.
+/// The text of the worksheet that is written, with its proof where it is finished.
 fn text_with_proof(
     alloc: Global,
     db: &Database,
@@ -162,7 +162,7 @@ fn text_with_proof(
     }
 }
 
-/// The text of the written worksheet.
+/// The text that a worksheet with these steps is written as.
 fn text_of(
     alloc: Global,
     db: &Database,
@@ -228,7 +228,12 @@ fn outcome_with(
     }
 }
 
-/// What comes of a worksheet that becomes these steps.
+/// What comes of a worksheet that becomes these steps. It takes the time to parse their formulas and to write the proof, and
+/// one pass over the statements of the database where it is finished.
+///
+/// # Errors
+/// The first fault of what is to be written, in this order: a formula that has two trees, the work size, the labels of a
+/// normal proof, the bytes; and `Memory` where memory runs out.
 pub fn outcome_of(
     alloc: Global,
     db: &Database,
