@@ -69,6 +69,11 @@ impl From<BindFault> for UnifyFault {
 }
 
 impl From<ProofFault> for UnifyFault {
+    ghost use Rattle.std.specs.Prelude.{◌≡◌};
+    ghost use Rattle.sheet_unify.specs.Ended.{of_proof};
+
+    ghost from_gives = { λ e r. r ≡ of_proof e };
+
     fn from(fault: ProofFault) -> UnifyFault {
         match fault {
             ProofFault::TooLong(labels) => UnifyFault::ProofTooLong(labels),

@@ -2,6 +2,7 @@
 #![tactic(auto)]
 
 mod drafting;
+mod ending;
 mod faults;
 mod judging;
 mod lines;
