@@ -1,6 +1,7 @@
 -- What a draft is written to: its end is decided, its steps have a proof where it is finished, and it is the answer or has a late fault.
 use Rattle.std.specs.Prelude.{◌≡◌, ◌↔◌, ℕ, Bool, true, false, IsTrue, List, refl}
-use Rattle.std.proofs.Common.{arith, inl, inr}
+use Rattle.std.proofs.Common.{arith, inl, inr, subst, sym}
+use Rattle.answer_laws.specs.WrittenReads.{AnswerIsFixed}
 use Rattle.std.proofs.lemmas.Bool.{cases_lt}
 use Rattle.std.proofs.lemmas.Option.{IfSome_then}
 use Rattle.fault_lines.specs.Refusals.{Refusal}
@@ -15,7 +16,8 @@ use Rattle.written_model.specs.declared.report.ReportLine.{ReportLine}
 use Rattle.written_model.specs.Opened as model
 use Rattle.written_model.specs.ProofTrees.{Finished}
 use Rattle.written_model.specs.WrittenSteps.{WrittenStep, steps_in}
-use Rattle.written_model.specs.Written.{Writing, Answers, refused, IsLate}
+use Rattle.written_model.specs.ProvesItself.{IsFixed}
+use Rattle.written_model.specs.Written.{Writing, Answers, refused, IsLate, HasNoLateFault}
 use Rattle.writing_laws.specs.HasEnd.{PlacesAreEarlier}
 use Rattle.writing_laws.specs.Decisions.{Decided}
 use Rattle.writing_laws.proofs.Ending.{finished_decided}
@@ -112,14 +114,16 @@ module _ (d : Opened) (options : Options) (sheet : Sheet) (bound : Bound) (items
     fault_answered f checked h =
         IfSome_then (refusal_of f) h (λ r k. late_answer finished ends r (k database text (whole finished) made refl (sound_steps checked)))
 
-    pub outcome_answered : (t : List ℕ) → AreChecked d bound.place items
+    pub outcome_answered : ((w : Writing) → AnswerIsFixed db text options w) → (t : List ℕ) → AreChecked d bound.place items
         → ForMadeOf d options sheet bound items (λ db' w. w.finished ≡ finished → IsText db' options w t)
         → IsOutcome db text options (record { text = t; report = report; finished = finished })
-    outcome_answered t checked h =
+    outcome_answered fixed t checked h =
         let told = h database text (whole finished) made refl in
         let s = sound_steps checked in
+        let none : HasNoLateFault db options (whole finished) = none_late db options (whole finished) s.no_long s.no_ambiguous s.not_much told.no_long_proof told.not_large in
         record {
           writing = whole finished;
-          answers = Answers.written bound_sheet.says.sound (draft.writes finished ends) (none_late db options (whole finished) s.no_long s.no_ambiguous s.not_much told.no_long_proof told.not_large);
+          answers = Answers.written bound_sheet.says.sound (draft.writes finished ends) none;
           written = record { text = told.text; report = reported.report_is database opened; finished = refl };
+          again = subst (λ (x : List ℕ). IsFixed db options x finished) (sym told.text) (fixed (whole finished) is_opened (draft.writes finished ends) none);
         }

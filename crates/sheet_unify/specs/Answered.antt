@@ -13,6 +13,7 @@ use Rattle.sheet_unify.specs.declared.faults.UnifyFault.TheVariants as faults
 use Rattle.sheet_unify.specs.declared.faults.UnifyFault.{UnifyFault}
 use Rattle.sheet_unify.specs.declared.outcome.Outcome.{Outcome}
 use Rattle.written_model.specs.declared.options.Options.{Options}
+use Rattle.written_model.specs.ProvesItself.{IsFixed}
 use Rattle.written_model.specs.Written.{Writing, Answers, wrote, refused, written_text, written_report}
 
 -- the text has no fault, and says the sheet
@@ -26,11 +27,12 @@ pub record IsWritten (db : Database) (options : Options) (w : Writing) (outcome 
   pub report : outcome.report ≡ written_report db options w
   pub finished : outcome.finished ≡ w.finished
 
--- the worksheet is written, and this is what came of it
+-- the worksheet is written, and this is what came of it; unifying its text again writes the same bytes, with the same end
 pub record IsOutcome (db : Database) (text : List ℕ) (options : Options) (outcome : Outcome) : Type 0 where
   pub writing : Writing
   pub answers : Answers db text options (wrote writing)
   pub written : IsWritten db options writing outcome
+  pub again : IsFixed db options outcome.text outcome.finished
 
 -- the refusal that a fault stands for; none where memory ran out
 abbrev pub refusal_of : UnifyFault → Option Refusal

@@ -11,6 +11,7 @@ ghost use Rattle.written_steps.specs.Drafts.{AreSound, items_in};
 
 use crate::faults::UnifyFault;
 use crate::outcome::Outcome;
+use answer_laws::answer_is_fixed;
 use mm_base::{Bytes, List, MOST_SHEET_BYTES, MOST_WORK_SIZE, Memory};
 use mm_database::Database;
 use sheet_bind::sheet_theorem;
@@ -215,6 +216,7 @@ fn outcome_with(
     ensures outcome { ForTexts options.now.kinds db.now sheet.now bound.now (λ d text. IfOk result (IsOutcome d text options.now)) }
     ensures fault { ForTexts options.now.kinds db.now sheet.now bound.now (λ d text. IfErr result (IsFaultOf d text options.now)) }
 {
+    answer_is_fixed();
     match report_on(alloc, db, bound, options, items.as_slice()) {
         Err(_) => Err(UnifyFault::Memory),
         Ok((report, finished)) => match text_of(alloc, db, sheet, bound, options, items, finished) {
