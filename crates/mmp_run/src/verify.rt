@@ -21,9 +21,9 @@ use call_answers::Ending;
 use compressed_proof::CodeFault;
 use mm_base::{Label, List, Memory, Status};
 use mm_frames::Frames;
-use theorem_laws::proofs_stand;
 use stack_verify::{ProofFault, proof_code, theorem_of, verify};
 use std::alloc::Global;
+use theorem_laws::proofs_stand;
 
 /// What is said of the proof of a theorem.
 #[derive(Clone, Copy)]
