@@ -206,9 +206,9 @@ fn place_of<'a>(command: Option<Command<'a>>, status: Status) -> Option<&'a str>
 /// `Finished`: the proof is accepted, as one line in `out` says; `Proof`: there is no such theorem or its proof is refused, by
 /// one line in `log`. For `trial` `Finished` and `Unfinished`: four lines are in `out`. `Database` and `Sheet`: the file is
 /// refused, by one line in `log`. `Words`: the words fit no command, and `log` has the usage line. `Read`: a file could not be
-/// read, and `log` names it. `Write`: a sink failed, or the store where the worksheet was to be put; over told files what was
-/// written is an answer that is cut short, and over every store nothing is in `log` unless the first text is whole. `Memory`:
-/// memory ran out, and nothing was written.
+/// read, and `log` names it. `Write`: a sink failed, or the store where the worksheet was to be put, and two texts are cut short;
+/// over told files, and for `trial` and words that fit no command over every store, they are those of one of the other statuses.
+/// Nothing is in `log` unless the first text is whole. `Memory`: memory ran out, and nothing was written.
 pub fn run<S: Store, O: Sink, L: Sink>(
     alloc: Global,
     words: &[String],
