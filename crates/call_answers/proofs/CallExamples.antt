@@ -5,7 +5,7 @@ use Rattle.std.specs.Fmt.{digits}
 use Rattle.std.specs.Str.{bytes_eq}
 use Rattle.std.proofs.Common.{sym, ap}
 use Rattle.call_answers.specs.declared.ending.Ending.{Ending}
-use Rattle.call_answers.specs.CallAnswers.{CallAnswer, bad_words, bad_database, bad_worksheet, unified, IsAnswer}
+use Rattle.call_answers.specs.CallAnswers.{CallAnswer, bad_words, bad_database, bad_worksheet, unified, no_files, IsAnswer}
 use Rattle.call_answers.specs.CommandLine.{SheetCommand, unify, usage_line}
 use Rattle.call_answers.specs.Endings.{Unifies}
 use Rattle.fault_lines.specs.FaultLines.{database_line, refusal_line}
@@ -25,18 +25,15 @@ use Rattle.written_model.proofs.WholeExample.{answers, text_is, proves, fixed}
 
 -- ---- words that fit no command
 
-abbrev no_files : Files
-no_files name = None
-
 pub usage : IsAnswer no_files (codes "unify" ∷ codes "P.mm" ∷ []) (record { out = []; log = ended usage_line; status = status.Words })
 usage = bad_words (record { out = refl; log = refl; status = refl })
 
 -- ---- words that fit one, over no files, have no answer
 
-nothing : (command : SheetCommand) (there : Bool) (end : Ending) → CallAnswer no_files (Some (unify command there)) end → ⊥
-nothing command there end (bad_database named e r) = cc
-nothing command there end (bad_worksheet named e given f r) = cc
-nothing command there end (unified named e given is u) = cc
+nothing : (command : SheetCommand) (is_in_place : Bool) (end : Ending) → CallAnswer no_files (Some (unify command is_in_place)) end → ⊥
+nothing command is_in_place end (bad_database named e r) = cc
+nothing command is_in_place end (bad_worksheet named e given f r) = cc
+nothing command is_in_place end (unified named e given is u) = cc
 
 pub unanswered : (end : Ending) → IsAnswer no_files (codes "unify" ∷ codes "P.mm" ∷ codes "r.mmp" ∷ []) end → ⊥
 unanswered end h = nothing _ _ end h

@@ -92,8 +92,8 @@ if_names words command = if list_all is_name words then Some command else None
 
 -- two names, and nothing behind them
 abbrev pub unify_of : Bool → List Name → Options → Option Command
-unify_of there (database ∷ sheet ∷ []) options = if_names (database ∷ sheet ∷ []) (unify (record { options = options; database = database; sheet = sheet }) there)
-unify_of there words options = None
+unify_of is_in_place (database ∷ sheet ∷ []) options = if_names (database ∷ sheet ∷ []) (unify (record { options = options; database = database; sheet = sheet }) is_in_place)
+unify_of is_in_place words options = None
 
 abbrev pub verify_of : List Name → Option Command
 verify_of (database ∷ theorem ∷ []) = if_names (database ∷ theorem ∷ []) (verify (record { database = database; theorem = theorem }))

@@ -17,7 +17,7 @@ abbrev changed : Options
 changed = record { style = style.Normal; kinds = record { provable = codes "T"; logic = codes "form" }; dv = dv.Given }
 
 abbrev over : Options → Bool → Command
-over options there = unify (record { options = options; database = codes "P.mm"; sheet = codes "r.mmp" }) there
+over options is_in_place = unify (record { options = options; database = codes "P.mm"; sheet = codes "r.mmp" }) is_in_place
 
 pub plain : command (codes "unify P.mm r.mmp") ≡ Some (over compressed false)
 plain = refl

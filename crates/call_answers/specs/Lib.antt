@@ -3,6 +3,7 @@ pub mod CommandLine
 pub mod CommandLineExamples
 pub mod Endings
 pub mod Given
+pub mod GivenExamples
 pub mod Trial
 pub mod TrialAnswerExamples
 pub mod Verified

@@ -1,12 +1,11 @@
 -- What the status of a call and its texts say, from the ending that was delivered.
-use Rattle.std.proofs.Common.{◌≡◌, ◌≢◌, ◌≤◌, ◌⊎◌, ℕ, Bool, cond, List, [], Option, Some, None, option_map, MatchOption, IfSome, IsSomeAnd, IsNone, IsSome, true, false, refl, sym, ◌∙◌, ap, subst, inl, inr, arith}
+use Rattle.std.proofs.Common.{◌≡◌, ◌≢◌, ◌≤◌, ◌⊎◌, ℕ, Bool, cond, List, [], Option, Some, None, option_map, MatchOption, IfSome, IsSomeAnd, IsNone, IsSome, option_and_then, true, false, refl, sym, ◌∙◌, ap, subst, inl, inr, arith}
 use Rattle.std.specs.Borrow.{Bor}
 use Rattle.std.specs.Option.{option_copied}
 use Rattle.call_answers.specs.declared.ending.Ending.{Ending}
-use Rattle.call_answers.specs.CallAnswers.{CallAnswer, bad_words}
-use Rattle.call_answers.specs.CommandLine.{Command, command_of, usage_line}
-use Rattle.call_answers.specs.Endings.{Refuses}
-use Rattle.call_answers.specs.Given.{Told, told, is_written, in_place_of, target, IsSettled, Gives, GivesPart, IsPut, IsGiven, Reads, IsReadFault, SaysReadFault, NoReadFault, MayAnswer, IsCutShort}
+use Rattle.call_answers.specs.CallAnswers.{CallAnswer, bad_words, ReadsNothing, database_of, no_files}
+use Rattle.call_answers.specs.CommandLine.{Command, unify, verify, trial, command_of, usage_line}
+use Rattle.call_answers.specs.Given.{Told, told, is_written, in_place_of, target, IsSettled, GivesWhole, GivesPart, IsPut, IsGiven, ReadsFile, IsReadFault, SaysReadFault, NoReadFault, MayAnswer, IsCutShort}
 use Rattle.mm_base.specs.Outside.{Files, Rose, NoneFell}
 use Rattle.mm_base.specs.declared.status.Status.{Status}
 use Rattle.mm_base.specs.declared.status.Status.TheVariants.{Finished, Unfinished, Database, Sheet, Words, Read, Write, Memory, Proof}
@@ -54,6 +53,14 @@ is_read_or_not s = elim (kinds s) [
   | inr (inr (inr is)) ↦ inr (λ e. read_apart.1 (sym e ∙ is))
 ]
 
+is_memory_or_not : (s : Status) → (s ≡ Memory) ⊎ (s ≢ Memory)
+is_memory_or_not s = elim (kinds s) [
+  | inl settled ↦ inr (not_memory s settled)
+  | inr (inl is) ↦ inr (λ e. read_apart.1 (sym is ∙ e))
+  | inr (inr (inl is)) ↦ inr (λ e. memory_not_write (sym e ∙ is))
+  | inr (inr (inr is)) ↦ inl is
+]
+
 some_not_none : {X : Type 0} (x : X) → IsNone (Some x) → ⊥
 some_not_none x e = cc
 
@@ -91,23 +98,33 @@ module _ (files : Option Files) (before mid : Name → ℕ) (end : Ending) where
       usage_answers (Some f) = bad_words (refuses end Words usage_line may.by_words)
   answered (Some c) may n = may.by_words.due n
 
-  unread : (o : Option Command) → May o → end.status ≡ Read → IsSomeAnd o (λ c. IsReadFault c before mid end)
+  answered_without_files : (o : Option Command) → May o → ReadsNothing o → CallAnswer no_files o end
+  answered_without_files None may none = bad_words (refuses end Words usage_line may.by_words)
+  answered_without_files (Some c) may none = may.by_words.without_files none
+
+  unread : (o : Option Command) → May o → end.status ≡ Read → IsSomeAnd o (λ c. IsReadFault c files before mid end)
   unread None may e = absurd (words_apart.0 (sym (ap (λ (x : Ending). x.status) may.by_words) ∙ e))
   unread (Some c) may e = may.by_words.read e
 
 later : (before mid now : ℕ) → mid ≤ now → Rose before mid → Rose before now
 later before mid now fell rose = omega arith
 
-fault_later : (command : Command) (before mid now : Name → ℕ) (end : Ending) → NoneFell mid now → IsReadFault command before mid end → IsReadFault command before now end
-fault_later command before mid now end fell f = record { name = f.name; named = f.named; rose = later (before f.name) (mid f.name) (now f.name) (fell f.name) f.rose; says = f.says }
+fault_later : (command : Command) (files : Option Files) (before mid now : Name → ℕ) (end : Ending) → NoneFell mid now → IsReadFault command files before mid end → IsReadFault command files before now end
+fault_later command files before mid now end fell f = record { name = f.name; named = f.named; in_turn = f.in_turn; rose = later (before f.name) (mid f.name) (now f.name) (fell f.name) f.rose; says = f.says }
 
 by_words : (files : Option Files) (before mid now : Name → ℕ) (end : Ending) (o : Option Command) → NoneFell mid now → MayEndFor o files before mid end
-    → MatchOption o (Refuses end Words usage_line) (λ command. IfSome files (λ f. CallAnswer f (Some command) end) ⊎ IsReadFault command before now end)
-by_words files before mid now end None fell may = refuses end Words usage_line may.by_words
-by_words files before mid now end (Some c) fell may = elim (is_read_or_not end.status) [
-  | inl is ↦ inr (fault_later c before mid now end fell (may.by_words.read is))
-  | inr other ↦ inl (may.by_words.due other)
-]
+    → MatchOption (option_and_then database_of o) (CallAnswer no_files o end)
+    (λ database. IfSome files (λ f. CallAnswer f o end) ⊎ IsSomeAnd o (λ command. IsReadFault command files before now end))
+by_words files before mid now end None fell may = bad_words (refuses end Words usage_line may.by_words)
+by_words files before mid now end (Some c) fell may = by_database (database_of c) refl
+  where
+    by_database : (d : Option Name) → database_of c ≡ d
+        → MatchOption d (CallAnswer no_files (Some c) end) (λ database. IfSome files (λ f. CallAnswer f (Some c) end) ⊎ IsReadFault c files before now end)
+    by_database None is = may.by_words.without_files (subst (λ (d : Option Name). IsNone d) (sym is) refl)
+    by_database (Some database) is = elim (is_read_or_not end.status) [
+      | inl read ↦ inr (fault_later c files before mid now end fell (may.by_words.read read))
+      | inr other ↦ inl (may.by_words.due other)
+    ]
 
 not_written : (s : Status) (o : Option Command) → is_written s ≡ false → target o s ≡ None
 not_written s o e = rw e refl
@@ -118,15 +135,15 @@ pub record Delivered (words : List Name) (files : Option Files) (before mid now 
   pub fell : NoneFell mid now
   pub place_is : place ≡ target (command_of words) end.status
   pub files_are : old.files ≡ files
-  pub whole : s ≢ Write → s ≢ Memory → Gives place end s old new
+  pub whole : s ≢ Write → s ≢ Memory → GivesWhole place end s old new
   pub part : s ≡ Write → GivesPart place end old new
 
 module _ (words : List Name) (files : Option Files) (before mid now : Name → ℕ) (end : Ending) (place : Option Name) (s : Status) (old new : Told) where
   abbrev Done : Type 0
   Done = Delivered words files before mid now end place s old new
 
-  gives : Done → IsSettled s → Gives (target (command_of words) end.status) end s old new
-  gives d settled = subst (λ (p : Option Name). Gives p end s old new) d.place_is (d.whole (not_write s settled) (not_memory s settled))
+  gives : Done → IsSettled s → GivesWhole (target (command_of words) end.status) end s old new
+  gives d settled = subst (λ (p : Option Name). GivesWhole p end s old new) d.place_is (d.whole (not_write s settled) (not_memory s settled))
 
   pub due_given : Done → IsSettled s → IfSome files (λ f. IsGiven words f s old new)
   due_given d settled =
@@ -134,9 +151,12 @@ module _ (words : List Name) (files : Option Files) (before mid now : Name → �
       let not_unread : end.status ≢ Read = λ e. not_read s settled (sym g.status ∙ e) in
       given files (answered files before mid end (command_of words) d.may not_unread) g
     where
-      given : (t : Option Files) → IfSome t (λ f. CallAnswer f (command_of words) end) → Gives (target (command_of words) end.status) end s old new → IfSome t (λ f. IsGiven words f s old new)
+      given : (t : Option Files) → IfSome t (λ f. CallAnswer f (command_of words) end) → GivesWhole (target (command_of words) end.status) end s old new → IfSome t (λ f. IsGiven words f s old new)
       given None a g = tt
       given (Some f) a g = record { end = end; answer = a; gives = g }
+
+  pub given_without_files : Done → ReadsNothing (command_of words) → IsSettled s → IsGiven words no_files s old new
+  given_without_files d none settled = record { end = end; answer = answered_without_files files before mid end (command_of words) d.may none; gives = gives d settled }
 
   pub only_words : Done → s ≡ Words → IsNone (command_of words)
   only_words d e =
@@ -153,24 +173,20 @@ module _ (words : List Name) (files : Option Files) (before mid now : Name → �
     | inr (inr (inr is)) ↦ inr (inl is)
   ]
 
-  pub says_usage : Done → s ≡ Words → Gives None usage s old new
-  says_usage d e =
-      let g = d.whole (λ w. words_apart.1 (sym e ∙ w)) (λ m. words_apart.2 (sym e ∙ m)) in
-      let none = only_words d e in
-      let is_usage = end_is_usage files before mid end (command_of words) d.may none in
-      let nowhere : place ≡ None = d.place_is ∙ not_written end.status (command_of words) (ap is_written (g.status ∙ e)) in
-      subst (λ (x : Ending). Gives None x s old new) is_usage (subst (λ (p : Option Name). Gives p end s old new) nowhere g)
-
   pub says_unread : Done → s ≡ Read → IsSomeAnd (command_of words) (λ command. SaysReadFault command before now old new)
   says_unread d e =
       let g = d.whole (λ w. read_apart.0 (sym e ∙ w)) (λ m. read_apart.1 (sym e ∙ m)) in
       let nowhere : place ≡ None = d.place_is ∙ not_written end.status (command_of words) (ap is_written (g.status ∙ e)) in
       says (command_of words) (unread files before mid end (command_of words) d.may (g.status ∙ e))
-      (subst (λ (r : Status). Gives None end r old new) e (subst (λ (p : Option Name). Gives p end s old new) nowhere g))
+      (subst (λ (r : Status). GivesWhole None end r old new) e (subst (λ (p : Option Name). GivesWhole p end s old new) nowhere g))
     where
-      says : (o : Option Command) → IsSomeAnd o (λ c. IsReadFault c before mid end) → Gives None end Read old new → IsSomeAnd o (λ c. SaysReadFault c before now old new)
+      says : (o : Option Command) → IsSomeAnd o (λ c. IsReadFault c files before mid end) → GivesWhole None end Read old new → IsSomeAnd o (λ c. SaysReadFault c before now old new)
       says None f g = f
-      says (Some c) f g = record { end = end; fault = fault_later c before mid now end d.fell f; gives = g }
+      says (Some c) f g = record {
+        end = end;
+        fault = subst (λ (t : Option Files). IsReadFault c t before now end) (sym d.files_are) (fault_later c files before mid now end d.fell f);
+        gives = g;
+      }
 
   pub cut_short : Done → s ≡ Write → IsCutShort words before now old new
   cut_short d e = record {
@@ -223,10 +239,6 @@ none_of : {X : Type 0} (o : Option X) → IsNone o → o ≡ None
 none_of None e = refl
 none_of (Some x) e = absurd (some_not_none x e)
 
--- there is no command
-pub no_command : {X : Type 0} (f : X → Command) (found : Option X) (o : Option Command) → option_map f found ≡ o → IsNone o → IsNone found
-no_command f found o e none = none_back f found (e ∙ none_of o none)
-
 cond_none : {X : Type 0} (b : Bool) (o : Option X) → IsNone o → cond b o None ≡ None
 cond_none true o e = none_of o e
 cond_none false o e = refl
@@ -238,9 +250,11 @@ nowhere place o s e none = none_back (λ (b : Bor Name). b.now) place (e ∙ con
 pub nowhere_unwritten : (place : Option (Bor Name)) (o : Option Command) (s : Status) → option_copied place ≡ target o s → is_written s ≡ false → IsNone place
 nowhere_unwritten place o s e not = none_back (λ (b : Bor Name). b.now) place (e ∙ not_written s o not)
 
-pub no_place : (o : Option Command) → IsNone o → IsNone (in_place_of o)
+pub no_place : (o : Option Command) → ReadsNothing o → IsNone (in_place_of o)
 no_place None e = refl
-no_place (Some c) e = absurd (some_not_none c e)
+no_place (Some (unify command is_in_place)) e = absurd (some_not_none command.database e)
+no_place (Some (verify command)) e = refl
+no_place (Some (trial count)) e = refl
 
 -- it goes into the worksheet's file
 in_file : (place : Option Name) (o : Option Command) (b : Bool) (name : Name) → place ≡ cond b (in_place_of o) None → place ≡ Some name → in_place_of o ≡ Some name
@@ -277,7 +291,7 @@ status_written : (s t : Status) → s ≡ t → is_written t ≡ false → is_wr
 status_written s t e is = ap is_written e ∙ is
 
 -- no file changes where nothing is written
-pub files_kept : (old mid new : Option Files) (place : Option Name) (end : Ending) (s : Status) (o : Option Command) (before after : Told) → mid ≡ old → (s ≢ Write → s ≢ Memory → Gives place end s before after)
+pub files_kept : (old mid new : Option Files) (place : Option Name) (end : Ending) (s : Status) (o : Option Command) (before after : Told) → mid ≡ old → (s ≢ Write → s ≢ Memory → GivesWhole place end s before after)
     → place ≡ target o end.status → before.files ≡ old → after.files ≡ new → (s ≡ Memory → new ≡ mid) → is_written s ≡ false → s ≢ Write → new ≡ old
 files_kept old mid new place end s o before after same whole e was now memory not other = elim (is_memory_or_not s) [
   | inl is ↦ memory is ∙ same
@@ -287,27 +301,14 @@ files_kept old mid new place end s o before after same whole e was now memory no
       let put = subst (λ (p : Option Name). IsPut p end.out before after) none g.text in
       sym now ∙ put.0 ∙ was
 ]
-  where
-    is_memory_or_not : (s : Status) → (s ≡ Memory) ⊎ (s ≢ Memory)
-    is_memory_or_not s = elim (kinds s) [
-      | inl settled ↦ inr (not_memory s settled)
-      | inr (inl is) ↦ inr (λ e. read_apart.1 (sym is ∙ e))
-      | inr (inr (inl is)) ↦ inr (λ e. memory_not_write (sym e ∙ is))
-      | inr (inr (inr is)) ↦ inl is
-    ]
 
--- the statuses of an ending that says one line
-pub words_unwritten : (s : Status) → s ≡ Words → is_written s ≡ false
-words_unwritten s e = ap is_written e
-
-pub read_unwritten : (s : Status) → s ≡ Read → is_written s ≡ false
-read_unwritten s e = ap is_written e
-
-pub words_not_failed : (s : Status) → s ≡ Words → (s ≢ Write) × (s ≢ Memory)
-words_not_failed s e = ((λ w. words_apart.1 (sym e ∙ w)), (λ m. words_apart.2 (sym e ∙ m)))
-
-pub read_not_failed : (s : Status) → s ≡ Read → (s ≢ Write) × (s ≢ Memory)
-read_not_failed s e = ((λ w. read_apart.0 (sym e ∙ w)), (λ m. read_apart.1 (sym e ∙ m)))
+-- nor does the output
+pub out_kept : {T : Type 0} (old new : T) (place : Option Name) (end : Ending) (s : Status) (before after : Told) → (s ≢ Write → s ≢ Memory → GivesWhole place end s before after)
+    → (is_written end.status ≡ false → end.out ≡ []) → (s ≡ Memory → new ≡ old) → (end.out ≡ [] → new ≡ old) → is_written s ≡ false → s ≢ Write → new ≡ old
+out_kept old new place end s before after whole silent memory empty not other = elim (is_memory_or_not s) [
+  | inl is ↦ memory is
+  | inr differs ↦ empty (silent (status_written end.status s (whole other differs).status not))
+]
 
 -- what failed, since the call began
 pub since_start : (A B : Type 0) (place : Option Name) (before mid now : Name → ℕ) → NoneFell before mid → A ⊎ (B ⊎ IsSomeAnd place (λ n. Rose (mid n) (now n)))

@@ -1,11 +1,11 @@
 -- How a call may end, from what was found under the names of its files and what the texts gave.
-use Rattle.std.proofs.Common.{◌≡◌, ◌≢◌, ◌⊎◌, ◌≤◌, ℕ, Bool, true, false, List, Option, Some, None, Result, Ok, Err, IfSome, IsSomeAnd, IfOk, refl, sym, ◌∙◌, ap, subst, inl, inr, arith}
+use Rattle.std.proofs.Common.{◌≡◌, ◌≢◌, ◌⊎◌, ◌≤◌, ℕ, Bool, true, false, List, Option, Some, None, Result, Ok, Err, IfSome, IsSomeAnd, IsNone, IfOk, refl, sym, ◌∙◌, ap, subst, inl, inr, arith}
 use Rattle.std.specs.Option.{option_and_then}
 use Rattle.call_answers.specs.declared.ending.Ending.{Ending}
-use Rattle.call_answers.specs.CallAnswers.{CallAnswer, bad_words, bad_database, bad_worksheet, unified, verdict, tried, HasDatabase, database_of}
+use Rattle.call_answers.specs.CallAnswers.{CallAnswer, bad_words, bad_database, bad_worksheet, unified, verdict, tried, HasDatabase, database_of, no_files}
 use Rattle.call_answers.specs.CommandLine.{Command, SheetCommand, TheoremCommand, unify, verify, trial}
 use Rattle.call_answers.specs.Endings.{Refuses, Tells, Unifies}
-use Rattle.call_answers.specs.Given.{Reads, IsReadFault, read_fault}
+use Rattle.call_answers.specs.Given.{ReadsFile, HasSoundDatabase, IsReadFault, read_fault}
 use Rattle.call_answers.specs.Trial.{IsTried}
 use Rattle.call_answers.specs.Verified as said
 use Rattle.fault_lines.specs.FaultLines.{no_theorem_line, code_line, proof_line}
@@ -39,10 +39,24 @@ text_not_memory s is e = subst IsTextStatus e is
 
 -- ---- by an answer, or by a file that failed to be read
 
+some_not_none : {X : Type 0} (x : X) → IsNone (Some x) → ⊥
+some_not_none x e = cc
+
+-- a command whose database has a name reads a file
+reads_some : (command : Command) (name : Name) → database_of command ≡ Some name → IsNone (database_of command) → ⊥
+reads_some command name named none = some_not_none name (subst (λ (d : Option Name). IsNone d) named none)
+
+reads_none : (command : Command) (name : Name) → ReadsFile command name → IsNone (database_of command) → ⊥
+reads_none (unify command is_in_place) name read none = some_not_none command.database none
+reads_none (verify command) name read none = some_not_none command.database none
+reads_none (trial count) name read none = read
+
 module _ (command : Command) (told : Option Files) (before now : Name → ℕ) where
-  may_from_due : (end : Ending) → IsTextEnding end → IfSome told (λ files. CallAnswer files (Some command) end) → MayEnd command told before now end
-  may_from_due end is due = record {
+  may_from_due : (end : Ending) → IsTextEnding end → IfSome told (λ files. CallAnswer files (Some command) end)
+      → (IsNone (database_of command) → CallAnswer no_files (Some command) end) → MayEnd command told before now end
+  may_from_due end is due without_files = record {
     due = λ _. due;
+    without_files = without_files;
     read = λ e. absurd (text_not_read end.status is.status e);
     not_words = text_not_words end.status is.status;
     not_write = text_not_write end.status is.status;
@@ -50,12 +64,14 @@ module _ (command : Command) (told : Option Files) (before now : Name → ℕ) w
     silent = is.silent;
   }
 
-  may_not_read : (name : Name) (end : Ending) → Reads command name → Rose (before name) (now name) → end ≡ read_fault name → MayEnd command told before now end
-  may_not_read name end named rose says =
+  may_not_read : (name : Name) (end : Ending) → ReadsFile command name → (database_of command ≡ Some name) ⊎ IfSome told (HasSoundDatabase command) → Rose (before name) (now name) → end ≡ read_fault name
+      → MayEnd command told before now end
+  may_not_read name end named in_turn rose says =
       let is_read : end.status ≡ Read = ap (λ (x : Ending). x.status) says in
       record {
         due = λ not_read. absurd (not_read is_read);
-        read = λ _. record { name = name; named = named; rose = rose; says = says };
+        without_files = λ none. absurd (reads_none command name named none);
+        read = λ _. record { name = name; named = named; in_turn = in_turn; rose = rose; says = says };
         not_words = λ e. cc;
         not_write = λ e. cc;
         not_memory = λ e. cc;
@@ -82,46 +98,54 @@ due_refused command None name end named h = tt
 due_refused command (Some files) name end named h = due_refused_at command files name end (files name) refl named h
 
 -- the file of the database is refused
-pub may_refuse : (command : Command) (told : Option Files) (before now : Name → ℕ) (name : Name) (end : Ending) → database_of command ≡ Some name → Reads command name
+pub may_refuse : (command : Command) (told : Option Files) (before now : Name → ℕ) (name : Name) (end : Ending) → database_of command ≡ Some name → ReadsFile command name
     → IsRefused told name end ⊎ IsUnread before now name end → MayEnd command told before now end
 may_refuse command told before now name end named read (inl is) =
     may_from_due command told before now end (record { status = subst IsTextStatus (sym is.status) tt; silent = λ _. is.out }) (due_refused command told name end named is.due)
-may_refuse command told before now name end named read (inr is) = may_not_read command told before now name end read is.rose is.says
+    (λ none. absurd (reads_some command name named none))
+may_refuse command told before now name end named read (inr is) = may_not_read command told before now name end read (inl named) is.rose is.says
 
 -- ---- worksheets
 
-module _ (command : SheetCommand) (there : Bool) (database : List ℕ) where
+module _ (command : SheetCommand) (is_in_place : Bool) (database : List ℕ) where
   due_bad_sheet : (files : Files) (end : Ending) (file : Option (List ℕ)) → files command.sheet ≡ file → IsOpen (Some files) command.database database
-      → IsSomeAnd file (λ text. IsSheetRefusal text end) → CallAnswer files (Some (unify command there)) end
+      → IsSomeAnd file (λ text. IsSheetRefusal text end) → CallAnswer files (Some (unify command is_in_place)) end
   due_bad_sheet files end None e opened h = absurd h
   due_bad_sheet files end (Some text) e opened h = bad_worksheet {database = database} {sheet = text} {f = h.fault} opened.has opened.accepted.no_fault e h.stands h.refuses
 
   due_sheet_refused : (told : Option Files) (end : Ending) → IsOpen told command.database database → IfSome told (λ files. IsSomeAnd (files command.sheet) (λ text. IsSheetRefusal text end))
-      → IfSome told (λ files. CallAnswer files (Some (unify command there)) end)
+      → IfSome told (λ files. CallAnswer files (Some (unify command is_in_place)) end)
   due_sheet_refused None end opened h = tt
   due_sheet_refused (Some files) end opened h = due_bad_sheet files end (files command.sheet) refl opened h
 
+  -- the database has no fault
+  sound : (told : Option Files) → IsOpen told command.database database → IfSome told (HasSoundDatabase (unify command is_in_place))
+  sound None opened = tt
+  sound (Some files) opened = record { text = database; has = opened.has; no_fault = opened.accepted.no_fault }
+
   -- the file of the worksheet is refused, behind a database without a fault
   pub may_refuse_sheet : (told : Option Files) (before mid now : Name → ℕ) (end : Ending) → IsOpen told command.database database → NoneFell before mid
-      → IsSheetRefused told command.sheet end ⊎ IsUnread mid now command.sheet end → MayEnd (unify command there) told before now end
+      → IsSheetRefused told command.sheet end ⊎ IsUnread mid now command.sheet end → MayEnd (unify command is_in_place) told before now end
   may_refuse_sheet told before mid now end opened fell (inl is) =
-      may_from_due (unify command there) told before now end (record { status = subst IsTextStatus (sym is.status) tt; silent = λ _. is.out }) (due_sheet_refused told end opened is.due)
+      may_from_due (unify command is_in_place) told before now end (record { status = subst IsTextStatus (sym is.status) tt; silent = λ _. is.out }) (due_sheet_refused told end opened is.due)
+      (λ none. absurd (some_not_none command.database none))
   may_refuse_sheet told before mid now end opened fell (inr is) =
-      may_not_read (unify command there) told before now command.sheet end (inr refl) (rose_since (before command.sheet) (mid command.sheet) (now command.sheet) (fell command.sheet) is.rose) is.says
+      may_not_read (unify command is_in_place) told before now command.sheet end (inr refl) (inr (sound told opened)) (rose_since (before command.sheet) (mid command.sheet) (now command.sheet) (fell command.sheet) is.rose) is.says
 
   due_unified : (told : Option Files) (text : List ℕ) (end : Ending) → IsOpen told command.database database → Has told command.sheet text → IsUnified command.options database text end
-      → IfSome told (λ files. CallAnswer files (Some (unify command there)) end)
+      → IfSome told (λ files. CallAnswer files (Some (unify command is_in_place)) end)
   due_unified None text end opened has is = tt
   due_unified (Some files) text end opened has is = unified {database = database} {sheet = text} {db = is.db} opened.has opened.accepted.no_fault has is.is_database is.unifies
 
   -- the worksheet is unified
   pub may_unify : (told : Option Files) (before now : Name → ℕ) (sheet : sheets.Sheet) (end : Result Ending memory.Memory) → IsOpen told command.database database → IsOpenSheet told command.sheet sheet
       → ((text : List ℕ) → SaysSheet text sheet → IfOk end (IsUnified command.options database text)) → IfOk end IsTextEnding
-      → IfOk end (MayEnd (unify command there) told before now)
+      → IfOk end (MayEnd (unify command is_in_place) told before now)
   may_unify told before now sheet (Err e) opened read is st = tt
   may_unify told before now sheet (Ok end) opened read is st =
-      may_from_due (unify command there) told before now end st
+      may_from_due (unify command is_in_place) told before now end st
       (due_unified told read.text end opened read.has (is read.text (record { sound = read.readable.no_fault; reads = read.reads })))
+      (λ none. absurd (some_not_none command.database none))
 
 -- ---- theorems
 
@@ -152,6 +176,7 @@ may_verify command told before now database (Err e) opened is = tt
 may_verify command told before now database (Ok end) opened is =
     may_from_due (verify command) told before now end (subst IsTextEnding (sym is.says) (verdict_ending command.theorem is.verdict))
     (due_theorem command told database end opened is)
+    (λ none. absurd (some_not_none command.database none))
 
 -- ---- trials
 
@@ -162,4 +187,4 @@ due_trial count (Some files) end is = tried is
 pub may_try : (count : ℕ) (told : Option Files) (before now : Name → ℕ) (end : Result Ending memory.Memory) → IfOk end (IsTried count) → IfOk end IsTextEnding
     → IfOk end (MayEnd (trial count) told before now)
 may_try count told before now (Err e) is st = tt
-may_try count told before now (Ok end) is st = may_from_due (trial count) told before now end st (due_trial count told end is)
+may_try count told before now (Ok end) is st = may_from_due (trial count) told before now end st (due_trial count told end is) (λ _. tried is)

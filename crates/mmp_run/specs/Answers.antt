@@ -1,7 +1,7 @@
 -- What a call may answer, before anything is written.
-use Rattle.std.specs.Prelude.{◌≡◌, ◌≢◌, ℕ, List, [], Option, MatchOption, Some, IfSome, false}
+use Rattle.std.specs.Prelude.{◌≡◌, ◌≢◌, ℕ, List, [], Option, MatchOption, Some, IfSome, IsNone, false}
 use Rattle.call_answers.specs.declared.ending.Ending.{Ending}
-use Rattle.call_answers.specs.CallAnswers.{CallAnswer}
+use Rattle.call_answers.specs.CallAnswers.{CallAnswer, database_of, no_files}
 use Rattle.call_answers.specs.CommandLine.{Command}
 use Rattle.call_answers.specs.Given.{IsReadFault, is_written}
 use Rattle.mm_base.specs.Outside.{Files}
@@ -11,7 +11,8 @@ use Rattle.mmp_run.specs.Refusals.{usage}
 -- an ending that a call may have for this command, whatever the store tells
 pub record MayEnd (command : Command) (told : Option Files) (before now : List ℕ → ℕ) (end : Ending) : Type 0 where
   pub due : end.status ≢ Read → IfSome told (λ files. CallAnswer files (Some command) end)
-  pub read : end.status ≡ Read → IsReadFault command before now end
+  pub without_files : IsNone (database_of command) → CallAnswer no_files (Some command) end
+  pub read : end.status ≡ Read → IsReadFault command told before now end
   pub not_words : end.status ≢ Words
   pub not_write : end.status ≢ Write
   pub not_memory : end.status ≢ Memory

@@ -1,16 +1,16 @@
 //! A whole call.
 
-ghost use Rattle.std.specs.Prelude.{◌≡◌, ◌≢◌, ◌⊎◌, ℕ, List, Option, None, false, map, option_map, string_bytes, IfOk, IfSome, IsNone, IsSome, IsSomeAnd};
+ghost use Rattle.std.specs.Prelude.{◌≡◌, ◌≢◌, ◌⊎◌, ℕ, List, Option, Some, false, map, option_map, string_bytes, IfOk, IfSome, IsNone, IsSome, IsSomeAnd};
 ghost use Rattle.std.specs.Option.{option_copied};
+ghost use Rattle.call_answers.specs.CallAnswers.{ReadsNothing, no_files};
 ghost use Rattle.call_answers.specs.CommandLine.{command_of};
-ghost use Rattle.call_answers.specs.Given.{told, target, in_place_of, IsSettled, Gives, IsGiven, NoReadFault, SaysReadFault, IsCutShort, is_written};
+ghost use Rattle.call_answers.specs.Given.{told, target, in_place_of, IsSettled, IsGiven, NoReadFault, SaysReadFault, IsCutShort, is_written};
 ghost use Rattle.mm_base.specs.Outside.{Files, NoneFell, Rose};
 ghost use Rattle.mm_frames.specs.Contents.{contents_of};
 ghost use Rattle.mm_model.specs.Statements.{database_fault};
 ghost use Rattle.mmp_run.specs.Answers.{MayEnd, MayEndFor};
 ghost use Rattle.mmp_run.specs.Opened.{IsOpen};
 ghost use Rattle.mmp_run.specs.OpenedSheet.{IsOpenedSheet, SaysWhatIsSaid};
-ghost use Rattle.mmp_run.specs.Refusals.{usage};
 ghost use Rattle.mmp_run.specs.Shown.{shown, options_shown, unify_command, verify_command};
 ghost use Rattle.written_model.specs.declared.options.Options.{Options};
 
@@ -134,6 +134,7 @@ fn end_command<S: Store>(
     command: Command<'_>,
 ) -> Result<Ending, Memory>
     ensures answer { IfOk result (MayEnd (shown command.entry) (S.told store.old) (S.read_faults store.old) (S.read_faults store.new)) }
+    ensures not_called { ReadsNothing (Some (shown command.entry)) → store.new ≡ store.old }
     ensures same_files { S.told store.new ≡ S.told store.old }
     ensures replace_faults { NoneFell (S.replace_faults store.old) (S.replace_faults store.new) }
 {
@@ -155,7 +156,7 @@ fn end_words<S: Store>(
     command: Option<Command<'_>>,
 ) -> Result<Ending, Memory>
     ensures answer { IfOk result (MayEndFor (option_map shown command.entry) (S.told store.old) (S.read_faults store.old) (S.read_faults store.new)) }
-    ensures not_called { IsNone command.entry → store.new ≡ store.old }
+    ensures not_called { ReadsNothing (option_map shown command.entry) → store.new ≡ store.old }
     ensures same_files { S.told store.new ≡ S.told store.old }
     ensures replace_faults { NoneFell (S.replace_faults store.old) (S.replace_faults store.new) }
 {
@@ -205,8 +206,9 @@ fn place_of<'a>(command: Option<Command<'a>>, status: Status) -> Option<&'a str>
 /// `Finished`: the proof is accepted, as one line in `out` says; `Proof`: there is no such theorem or its proof is refused, by
 /// one line in `log`. For `trial` `Finished` and `Unfinished`: four lines are in `out`. `Database` and `Sheet`: the file is
 /// refused, by one line in `log`. `Words`: the words fit no command, and `log` has the usage line. `Read`: a file could not be
-/// read, and `log` names it. `Write`: a sink failed, or the store where the worksheet was to be put; nothing is in `log` unless
-/// the first text is whole. `Memory`: memory ran out, and nothing was written.
+/// read, and `log` names it. `Write`: a sink failed, or the store where the worksheet was to be put, and two texts are cut short;
+/// over told files, and for `trial` and words that fit no command over every store, they are those of one of the other statuses.
+/// Nothing is in `log` unless the first text is whole. `Memory`: memory ran out, and nothing was written.
 pub fn run<S: Store, O: Sink, L: Sink>(
     alloc: Global,
     words: &[String],
@@ -217,6 +219,11 @@ pub fn run<S: Store, O: Sink, L: Sink>(
     // Over told files each status but Read, Write and Memory is that of the answer to the words, which is given whole.
     ensures due { IsSettled result → IfSome (S.told store.old) (λ files. IsGiven (map string_bytes words.now) files result
         (told (S.told store.old) (O.told out.old) (L.told log.old)) (told (S.told store.new) (O.told out.new) (L.told log.new))) }
+
+    // Where no file is read, the same over every store, which is not called.
+    ensures without_files { ReadsNothing (command_of (map string_bytes words.now)) → IsSettled result → IsGiven (map string_bytes words.now) no_files result
+        (told (S.told store.old) (O.told out.old) (L.told log.old)) (told (S.told store.new) (O.told out.new) (L.told log.new)) }
+    ensures not_called { ReadsNothing (command_of (map string_bytes words.now)) → store.new ≡ store.old }
 
     // Where nothing failed, the answer is given, or memory is wanting. It follows from the clauses on the single statuses,
     // and says their sum.
@@ -231,23 +238,20 @@ pub fn run<S: Store, O: Sink, L: Sink>(
     // The words, over every store.
     ensures words_only { result ≡ Status.Words → IsNone (command_of (map string_bytes words.now)) }
     ensures words_always { IsNone (command_of (map string_bytes words.now)) → (result ≡ Status.Words) ⊎ ((result ≡ Status.Memory) ⊎ (result ≡ Status.Write)) }
-    ensures words_texts { result ≡ Status.Words → Gives None usage result
-        (told (S.told store.old) (O.told out.old) (L.told log.old)) (told (S.told store.new) (O.told out.new) (L.told log.new)) }
-    ensures words_output { result ≡ Status.Words → out.new ≡ out.old }
-    ensures not_called { IsNone (command_of (map string_bytes words.now)) → store.new ≡ store.old }
 
     // The failures, over every store.
     ensures read { result ≡ Status.Read → IsSomeAnd (command_of (map string_bytes words.now)) (λ command.
         SaysReadFault command (S.read_faults store.old) (S.read_faults store.new)
         (told (S.told store.old) (O.told out.old) (L.told log.old)) (told (S.told store.new) (O.told out.new) (L.told log.new))) }
-    ensures read_output { result ≡ Status.Read → out.new ≡ out.old }
     ensures write { result ≡ Status.Write → Rose (O.faults out.old) (O.faults out.new) ⊎ (Rose (L.faults log.old) (L.faults log.new)
         ⊎ IsSomeAnd (in_place_of (command_of (map string_bytes words.now))) (λ name. Rose (S.replace_faults store.old name) (S.replace_faults store.new name))) }
     ensures write_part { result ≡ Status.Write → IsCutShort (map string_bytes words.now) (S.read_faults store.old) (S.read_faults store.new)
         (told (S.told store.old) (O.told out.old) (L.told log.old)) (told (S.told store.new) (O.told out.new) (L.told log.new)) }
     ensures memory { result ≡ Status.Memory → (S.told store.new ≡ S.told store.old) × (out.new ≡ out.old) × (log.new ≡ log.old) }
 
-    // Where the worksheet is not written in its own place, no file changes; where it is, nothing is written to the output.
+    // The output and the files change only with a written text, the files only where it is a worksheet that is written in its own
+    // place, and then not the output.
+    ensures kept_output { is_written result ≡ false → result ≢ Status.Write → out.new ≡ out.old }
     ensures kept_files { is_written result ≡ false → result ≢ Status.Write → S.told store.new ≡ S.told store.old }
     ensures same_files { IsNone (in_place_of (command_of (map string_bytes words.now))) → S.told store.new ≡ S.told store.old }
     ensures in_place { IsSome (in_place_of (command_of (map string_bytes words.now))) → out.new ≡ out.old }

@@ -3,8 +3,8 @@
 ghost use Rattle.std.specs.Prelude.{◌≡◌, ◌≢◌, ◌⊎◌, [], None, IfSome, IsNone, IsSome, IsSomeAnd, OnOk, OnErr, IsErrOf};
 ghost use Rattle.std.specs.Io.KnownBytes.{Appends};
 ghost use Rattle.std.specs.Option.{option_copied};
-ghost use Rattle.call_answers.specs.Given.{told, Gives, GivesPart, IsPut, IsPutInPart};
-ghost use Rattle.mm_base.specs.Outside.{AppendsPart, NoneFell, Rose};
+ghost use Rattle.call_answers.specs.Given.{told, GivesWhole, GivesPart, IsPut, IsPutInPart, TakesPart};
+ghost use Rattle.mm_base.specs.Outside.{NoneFell, Rose};
 
 use call_answers::Ending;
 use mm_base::{Failed, ReplaceStop, Sink, Status, Store};
@@ -12,7 +12,7 @@ use mm_base::{Failed, ReplaceStop, Sink, Status, Store};
 // Writes a text, unless it is empty.
 fn put<S: Sink>(sink: &mut S, text: &[u8]) -> Result<(), Failed>
     ensures ok { OnOk result (Appends (S.told sink.old) (S.told sink.new) text.now) }
-    ensures part { OnErr result (AppendsPart (S.told sink.old) (S.told sink.new) text.now) }
+    ensures part { OnErr result (TakesPart (S.told sink.old) (S.told sink.new) text.now) }
     ensures failed { OnErr result (Rose (S.faults sink.old) (S.faults sink.new)) }
     ensures not_called { text.now ≡ [] → sink.new ≡ sink.old }
 {
@@ -58,7 +58,7 @@ pub fn deliver<S: Store, O: Sink, L: Sink>(
 ) -> Status
     requires not_write { end.now.status ≢ Status.Write }
     requires not_memory { end.now.status ≢ Status.Memory }
-    ensures whole { result ≢ Status.Write → result ≢ Status.Memory → Gives (option_copied place.entry) end.now result
+    ensures whole { result ≢ Status.Write → result ≢ Status.Memory → GivesWhole (option_copied place.entry) end.now result
         (told (S.told store.old) (O.told out.old) (L.told log.old)) (told (S.told store.new) (O.told out.new) (L.told log.new)) }
     ensures part { result ≡ Status.Write → GivesPart (option_copied place.entry) end.now
         (told (S.told store.old) (O.told out.old) (L.told log.old)) (told (S.told store.new) (O.told out.new) (L.told log.new)) }

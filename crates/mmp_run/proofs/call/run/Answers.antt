@@ -1,13 +1,14 @@
 use Rattle.std.proofs.Common.{◌≡◌, ℕ, List, Option, map, refl, sym, ◌∙◌, ap, subst, inl, inr}
 use Rattle.std.specs.Option.{option_copied}
 use Rattle.std.specs.String.{string_bytes}
+use Rattle.call_answers.specs.CallAnswers.{ReadsNothing}
 use Rattle.call_answers.specs.CommandLine.{Command, command_of}
-use Rattle.call_answers.specs.Given.{told, target, Gives, GivesPart}
+use Rattle.call_answers.specs.Given.{told, target, GivesWhole, GivesPart}
 use Rattle.mm_base.specs.Outside.{Files, Rose}
 use Rattle.mm_model.specs.Names.{Name}
 use Rattle.mmp_run.specs.Answers.{MayEndFor}
 use Rattle.mmp_run.specs.Shown.{shown}
-use Rattle.mmp_run.proofs.Delivered.{Delivered, due_given, only_words, words_ends, says_usage, says_unread, cut_short, is_complete, ends_not_write, ends_not_memory, ends_silent, no_command, nowhere, nowhere_unwritten, no_place, placed, replaced, out_stays, files_kept, since_start, in_its_place, words_unwritten, read_unwritten, words_not_failed, read_not_failed}
+use Rattle.mmp_run.proofs.Delivered.{Delivered, due_given, given_without_files, only_words, words_ends, says_unread, cut_short, is_complete, ends_not_write, ends_not_memory, ends_silent, nowhere, nowhere_unwritten, no_place, placed, replaced, out_stays, files_kept, out_kept, since_start, in_its_place}
 use Rattle.mmp_run.proofs.call.run.Goals as goal
 
 pub deliver-requires : goal.deliver-requires
@@ -35,7 +36,7 @@ returns-in-Ok g c =
       fell = c.deliver.ensures.read_faults;
       place_is = place_is;
       files_are = refl;
-      whole = λ w m. subst (λ (f : Option Files). Gives place end s (told f (g.O.Sink.told c.args.out.now) (g.L.Sink.told c.args.log.now)) new) c.in-Ok.ensures.same_files (c.deliver.ensures.whole w m);
+      whole = λ w m. subst (λ (f : Option Files). GivesWhole place end s (told f (g.O.Sink.told c.args.out.now) (g.L.Sink.told c.args.log.now)) new) c.in-Ok.ensures.same_files (c.deliver.ensures.whole w m);
       part = λ w. subst (λ (f : Option Files). GivesPart place end (told f (g.O.Sink.told c.args.out.now) (g.L.Sink.told c.args.log.now)) new) c.in-Ok.ensures.same_files (c.deliver.ensures.part w);
     } in
     let replaced_before = g.S.Store.replace_faults c.args.store.now in
@@ -45,25 +46,21 @@ returns-in-Ok g c =
     let LogRose : Type 0 = Rose (g.L.Sink.faults c.args.log.now) (g.L.Sink.faults c.deliver.new.log) in
     record {
       due = due_given words files before mid now end place s old new d;
+      without_files = given_without_files words files before mid now end place s old new d;
+      not_called = λ none.
+          c.deliver.ensures.not_called (nowhere c.place_of.result (command_of words) end.status place_is (no_place (command_of words) none))
+          ∙ c.in-Ok.ensures.not_called (subst ReadsNothing (sym c.read_words-command.ensures) none);
       complete = is_complete words files before mid now end place s old new d OutRose LogRose (λ n. Rose (replaced_before n) (replaced_now n))
           (λ w. since_start OutRose LogRose place replaced_before replaced_mid replaced_now c.in-Ok.ensures.replace_faults (c.deliver.ensures.cause w))
           (λ name e. placed place (command_of words) end.status name place_is e);
       words_only = only_words words files before mid now end place s old new d;
       words_always = words_ends words files before mid now end place s old new d;
-      words_texts = says_usage words files before mid now end place s old new d;
-      words_output = λ e.
-          let not = words_not_failed s e in
-          c.deliver.ensures.empty (ends_silent files before mid end (command_of words) may (words_unwritten end.status ((c.deliver.ensures.whole not.0 not.1).status ∙ e)));
-      not_called = λ none.
-          c.deliver.ensures.not_called (nowhere c.place_of.result (command_of words) end.status place_is (no_place (command_of words) none))
-          ∙ c.in-Ok.ensures.not_called (no_command shown c.read_words-command.result (command_of words) c.read_words-command.ensures none);
       read = says_unread words files before mid now end place s old new d;
-      read_output = λ e.
-          let not = read_not_failed s e in
-          c.deliver.ensures.empty (ends_silent files before mid end (command_of words) may (read_unwritten end.status ((c.deliver.ensures.whole not.0 not.1).status ∙ e)));
       write = λ w. in_its_place OutRose LogRose place (command_of words) end.status replaced_before replaced_mid replaced_now place_is c.in-Ok.ensures.replace_faults (c.deliver.ensures.cause w);
       write_part = cut_short words files before mid now end place s old new d;
       memory = λ m. let kept = c.deliver.ensures.memory m in (kept.0 ∙ c.in-Ok.ensures.same_files, kept.1, kept.2);
+      kept_output = out_kept c.args.out.now c.deliver.new.out place end s old new d.whole (ends_silent files before mid end (command_of words) may)
+          (λ m. (c.deliver.ensures.memory m).1) c.deliver.ensures.empty;
       kept_files = files_kept files (g.S.Store.told c.end_words.new.store) (g.S.Store.told c.deliver.new.store) place end s (command_of words) old new c.in-Ok.ensures.same_files d.whole place_is refl refl
           (λ m. (c.deliver.ensures.memory m).0);
       same_files = λ none.
