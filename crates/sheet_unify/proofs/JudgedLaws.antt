@@ -12,7 +12,7 @@ use Rattle.sheet_text.specs.declared.sheet.Sheet.{Sheet}
 use Rattle.sheet_text.specs.declared.sheet.SheetItem.{SheetItem}
 use Rattle.sheet_text.specs.declared.sheet.SheetItem.TheVariants as item
 use Rattle.sheet_text.specs.declared.sheet.SheetStep.{SheetStep}
-use Rattle.sheet_text.specs.Layout.{step_of_item, step_names, steps}
+use Rattle.sheet_text.specs.Layout.{step_of_item, step_names}
 use Rattle.solve_model.specs.declared.bound.Bound.{Bound}
 use Rattle.solve_model.specs.Bound.{work_size}
 use Rattle.solve_model.specs.Solutions.{Valuation}

@@ -1,10 +1,9 @@
 -- Lines that are put together are those of the definitions.
-use Rattle.std.specs.Prelude.{◌≡◌, ℕ, List, [], ◌∷◌, ◌++◌, map, flat_map, decimal, Bool, true, false, Option, Some, None, refl, codes, option_map}
-use Rattle.std.specs.List.{join_with_byte}
+use Rattle.std.specs.Prelude.{◌≡◌, ℕ, List, [], ◌∷◌, ◌++◌, map, decimal, Bool, true, false, Option, Some, None, refl, codes, option_map}
 use Rattle.std.specs.Fmt.{digits}
 use Rattle.std.proofs.Common.{sym, ap, ◌∙◌, append_assoc, append-nil}
 use Rattle.std.proofs.lemmas.Grind.{flat_map-append}
-use Rattle.fault_lines.specs.Refusals.{Refusal, at_line, too_much, formula_too_long, written_two_trees, too_much_written, proof_too_long, too_large}
+use Rattle.fault_lines.specs.Refusals.{at_line, formula_too_long}
 use Rattle.fault_lines.specs.FaultLines.{fault_name, refusal_line, sheet_faults}
 use Rattle.mm_base.specs.declared.kinds.Kinds.{Kinds}
 use Rattle.mm_base.specs.declared.symbols.Sym.{Sym}
@@ -29,7 +28,7 @@ use Rattle.written_model.specs.Report.{clash_words, lack_words, last_line, repor
 use Rattle.sheet_unify.specs.Answered.{refusal_of}
 use Rattle.sheet_unify.specs.declared.faults.UnifyFault.{UnifyFault}
 use Rattle.sheet_unify.specs.declared.faults.UnifyFault.TheVariants as faults
-use Rattle.sheet_unify.specs.Lines.{sheet_words_of, bind_words_of, shows, behind, clash_in, lack_in, words_in, report_text, error_text, place_text, number_text, step_text, formula_text}
+use Rattle.sheet_unify.specs.Lines.{sheet_words_of, bind_words_of, shows, behind, clash_in, lack_in, words_in, report_text, place_text, formula_text}
 
 pub joined : (x : Name) (xs : List Name) → spaced (x ∷ xs) ≡ x ++ behind xs
 joined x [] = sym (append-nil x)
