@@ -5,9 +5,10 @@ use Rattle.std.specs.Fmt.{digits}
 use Rattle.std.specs.Str.{bytes_eq}
 use Rattle.std.proofs.Common.{sym, ap}
 use Rattle.call_answers.specs.declared.ending.Ending.{Ending}
-use Rattle.call_answers.specs.CallAnswers.{CallAnswer, bad_words, bad_database, bad_worksheet, unified, no_files, IsAnswer}
-use Rattle.call_answers.specs.CommandLine.{SheetCommand, unify, usage_line}
+use Rattle.call_answers.specs.CallAnswers.{CallAnswer, bad_words, bad_database, bad_worksheet, unified, tried, no_files, IsAnswer}
+use Rattle.call_answers.specs.CommandLine.{SheetCommand, unify, trial, usage_line}
 use Rattle.call_answers.specs.Endings.{Unifies}
+use Rattle.call_answers.specs.Trial.{IsTried}
 use Rattle.fault_lines.specs.FaultLines.{database_line, refusal_line}
 use Rattle.fault_lines.specs.Refusals.{at_line}
 use Rattle.mm_base.specs.Outside.{Files}
@@ -37,6 +38,12 @@ nothing command is_in_place end (unified named e given is u) = cc
 
 pub unanswered : (end : Ending) → IsAnswer no_files (codes "unify" ∷ codes "P.mm" ∷ codes "r.mmp" ∷ []) end → ⊥
 unanswered end h = nothing _ _ end h
+
+-- ---- a trial over no files has its own answer alone
+
+pub trial_alone : (count : ℕ) (end : Ending) → CallAnswer no_files (Some (trial count)) end → IsTried count end
+trial_alone count end (bad_database named e r) = cc
+trial_alone count end (tried is) = is
 
 -- ---- a database in which `wff` is declared twice
 

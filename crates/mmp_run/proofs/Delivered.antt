@@ -5,12 +5,12 @@ use Rattle.std.specs.Option.{option_copied}
 use Rattle.call_answers.specs.declared.ending.Ending.{Ending}
 use Rattle.call_answers.specs.CallAnswers.{CallAnswer, bad_words, ReadsNothing, database_of, no_files}
 use Rattle.call_answers.specs.CommandLine.{Command, unify, verify, trial, command_of, usage_line}
-use Rattle.call_answers.specs.Given.{Told, told, is_written, in_place_of, target, IsSettled, GivesWhole, GivesPart, IsPut, IsGiven, ReadsFile, IsReadFault, SaysReadFault, NoReadFault, MayAnswer, IsCutShort}
+use Rattle.call_answers.specs.Given.{Told, is_written, in_place_of, target, IsSettled, GivesWhole, GivesPart, IsPut, IsGiven, IsReadFault, SaysReadFault, NoReadFault, MayAnswer, IsCutShort}
 use Rattle.mm_base.specs.Outside.{Files, Rose, NoneFell}
 use Rattle.mm_base.specs.declared.status.Status.{Status}
 use Rattle.mm_base.specs.declared.status.Status.TheVariants.{Finished, Unfinished, Database, Sheet, Words, Read, Write, Memory, Proof}
 use Rattle.mm_model.specs.Names.{Name}
-use Rattle.mmp_run.specs.Answers.{MayEnd, MayEndFor}
+use Rattle.mmp_run.specs.Answers.{MayEndFor}
 use Rattle.mmp_run.specs.Refusals.{usage}
 use Rattle.mmp_run.proofs.MayEnd.{rose_since}
 use Rattle.mmp_run.proofs.Refusals.{refuses}
@@ -246,9 +246,6 @@ cond_none false o e = refl
 -- the text goes to the output
 pub nowhere : (place : Option (Bor Name)) (o : Option Command) (s : Status) → option_copied place ≡ target o s → IsNone (in_place_of o) → IsNone place
 nowhere place o s e none = none_back (λ (b : Bor Name). b.now) place (e ∙ cond_none (is_written s) (in_place_of o) none)
-
-pub nowhere_unwritten : (place : Option (Bor Name)) (o : Option Command) (s : Status) → option_copied place ≡ target o s → is_written s ≡ false → IsNone place
-nowhere_unwritten place o s e not = none_back (λ (b : Bor Name). b.now) place (e ∙ not_written s o not)
 
 pub no_place : (o : Option Command) → ReadsNothing o → IsNone (in_place_of o)
 no_place None e = refl

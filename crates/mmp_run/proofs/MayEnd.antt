@@ -2,10 +2,10 @@
 use Rattle.std.proofs.Common.{◌≡◌, ◌≢◌, ◌⊎◌, ◌≤◌, ℕ, Bool, true, false, List, Option, Some, None, Result, Ok, Err, IfSome, IsSomeAnd, IsNone, IfOk, refl, sym, ◌∙◌, ap, subst, inl, inr, arith}
 use Rattle.std.specs.Option.{option_and_then}
 use Rattle.call_answers.specs.declared.ending.Ending.{Ending}
-use Rattle.call_answers.specs.CallAnswers.{CallAnswer, bad_words, bad_database, bad_worksheet, unified, verdict, tried, HasDatabase, database_of, no_files}
+use Rattle.call_answers.specs.CallAnswers.{CallAnswer, bad_database, bad_worksheet, unified, verdict, tried, HasDatabase, database_of, no_files}
 use Rattle.call_answers.specs.CommandLine.{Command, SheetCommand, TheoremCommand, unify, verify, trial}
-use Rattle.call_answers.specs.Endings.{Refuses, Tells, Unifies}
-use Rattle.call_answers.specs.Given.{ReadsFile, HasSoundDatabase, IsReadFault, read_fault}
+use Rattle.call_answers.specs.Endings.{Tells}
+use Rattle.call_answers.specs.Given.{ReadsFile, HasSoundDatabase, read_fault}
 use Rattle.call_answers.specs.Trial.{IsTried}
 use Rattle.call_answers.specs.Verified as said
 use Rattle.fault_lines.specs.FaultLines.{no_theorem_line, code_line, proof_line}

@@ -1,14 +1,12 @@
-use Rattle.std.proofs.Common.{◌≡◌, ℕ, List, Option, map, refl, sym, ◌∙◌, ap, subst, inl, inr}
+use Rattle.std.proofs.Common.{◌≡◌, Option, map, refl, sym, ◌∙◌, ap, subst}
 use Rattle.std.specs.Option.{option_copied}
 use Rattle.std.specs.String.{string_bytes}
 use Rattle.call_answers.specs.CallAnswers.{ReadsNothing}
 use Rattle.call_answers.specs.CommandLine.{Command, command_of}
 use Rattle.call_answers.specs.Given.{told, target, GivesWhole, GivesPart}
 use Rattle.mm_base.specs.Outside.{Files, Rose}
-use Rattle.mm_model.specs.Names.{Name}
 use Rattle.mmp_run.specs.Answers.{MayEndFor}
-use Rattle.mmp_run.specs.Shown.{shown}
-use Rattle.mmp_run.proofs.Delivered.{Delivered, due_given, given_without_files, only_words, words_ends, says_unread, cut_short, is_complete, ends_not_write, ends_not_memory, ends_silent, nowhere, nowhere_unwritten, no_place, placed, replaced, out_stays, files_kept, out_kept, since_start, in_its_place}
+use Rattle.mmp_run.proofs.Delivered.{Delivered, due_given, given_without_files, only_words, words_ends, says_unread, cut_short, is_complete, ends_not_write, ends_not_memory, ends_silent, nowhere, no_place, placed, out_stays, files_kept, out_kept, since_start, in_its_place}
 use Rattle.mmp_run.proofs.call.run.Goals as goal
 
 pub deliver-requires : goal.deliver-requires
