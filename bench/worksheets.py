@@ -36,7 +36,7 @@ def trial(program, database, folder, theorem, name, way, book):
 
 
 def is_open(text):
-    return any(re.search(r" &[A-Z]", line) for line in text.split("\n"))
+    return re.search(r" &\S*\d(\s|$)", text) is not None
 
 
 def chosen(book, count):
