@@ -26,8 +26,8 @@ h2::r.2 T ( ph -> ps )
 qed:1,2:ax-mp T ps
 ";
 
-/// Worksheets over small databases, and what comes of them.
-pub const ROWS: &[Row] = &[
+/// Modus ponens, a conclusion that does not fit, a comment, and a theorem of its database.
+pub const FITTING: &[Row] = &[
     // Modus ponens.
     Row {
         database: &[PROP],
@@ -130,6 +130,10 @@ qed fits mp
 finished
 ",
     },
+];
+
+/// Formulas that are left out, and what a proof leaves open.
+pub const BLANK: &[Row] = &[
     // Its formulas are left out.
     Row {
         database: &[DEMO],
@@ -230,6 +234,10 @@ qed fits ax-mp
 finished
 ",
     },
+];
+
+/// Cycles, a step in the middle that is set aside, and work variables that fall together.
+pub const TOGETHER: &[Row] = &[
     // A cycle.
     Row {
         database: &[PROP],
@@ -312,6 +320,10 @@ not finished
 not finished
 ",
     },
+];
+
+/// Derived steps, and references that are found.
+pub const DERIVED: &[Row] = &[
     // Derived steps.
     Row {
         database: &[PROP],
@@ -409,6 +421,10 @@ not finished
 finished
 ",
     },
+];
+
+/// Other verdicts, the place of the worksheet, and the order of a frame.
+pub const PLACED: &[Row] = &[
     // Other verdicts.
     Row {
         database: &[PROP],
@@ -493,6 +509,10 @@ finished
 finished
 ",
     },
+];
+
+/// Distinct variables.
+pub const DISTINCT: &[Row] = &[
     // Distinct variables.
     Row {
         database: Q,
@@ -586,6 +606,10 @@ finished
 not finished
 ",
     },
+];
+
+/// Formulas with two trees, and other faults.
+pub const REFUSED: &[Row] = &[
     // Formulas with two trees.
     Row {
         database: Q_TWICE,
@@ -671,6 +695,10 @@ not finished
         log: "sheet error 61 TheoremTaken at line 1
 ",
     },
+];
+
+/// Other typecodes, an assertion that any formula fits, and places in another order.
+pub const TYPED: &[Row] = &[
     // Work variables of another typecode.
     Row {
         database: &[DEMO],

@@ -5,7 +5,7 @@ use crate::calls::{Outside, Want, call_over, check, compare, honest, joined};
 use crate::databases::Q;
 use crate::further::FURTHER;
 use crate::row::Row;
-use crate::rows::ROWS;
+use crate::rows::{BLANK, DERIVED, DISTINCT, FITTING, PLACED, REFUSED, TOGETHER, TYPED};
 use mm_base::Status;
 use std::alloc::{AllocError, Global};
 use std::process::Abort;
@@ -90,20 +90,56 @@ fn check_row(rt: &impl Abort, alloc: Global, row: Row) -> Result<(), Fail> {
     check_over(rt, alloc, words.as_slice(), database.as_slice(), row)
 }
 
-#[test]
-fn rows_are_right(rt: HostRuntime) -> Result<(), Fail> {
-    for row in ROWS {
-        check_row(&rt, rt.alloc(), *row)?;
+fn check_rows(rt: &HostRuntime, rows: &[Row]) -> Result<(), Fail> {
+    for row in rows {
+        check_row(rt, rt.alloc(), *row)?;
     }
     Ok(())
 }
 
 #[test]
-fn further_rows_are_right(rt: HostRuntime) -> Result<(), Fail> {
-    for row in FURTHER {
-        check_row(&rt, rt.alloc(), *row)?;
-    }
-    Ok(())
+fn fitting_worksheets(rt: HostRuntime) -> Result<(), Fail> {
+    check_rows(&rt, FITTING)
+}
+
+#[test]
+fn blank_formulas(rt: HostRuntime) -> Result<(), Fail> {
+    check_rows(&rt, BLANK)
+}
+
+#[test]
+fn steps_together(rt: HostRuntime) -> Result<(), Fail> {
+    check_rows(&rt, TOGETHER)
+}
+
+#[test]
+fn derived_steps(rt: HostRuntime) -> Result<(), Fail> {
+    check_rows(&rt, DERIVED)
+}
+
+#[test]
+fn placed_worksheets(rt: HostRuntime) -> Result<(), Fail> {
+    check_rows(&rt, PLACED)
+}
+
+#[test]
+fn distinct_variables(rt: HostRuntime) -> Result<(), Fail> {
+    check_rows(&rt, DISTINCT)
+}
+
+#[test]
+fn refused_worksheets(rt: HostRuntime) -> Result<(), Fail> {
+    check_rows(&rt, REFUSED)
+}
+
+#[test]
+fn other_typecodes(rt: HostRuntime) -> Result<(), Fail> {
+    check_rows(&rt, TYPED)
+}
+
+#[test]
+fn further_worksheets(rt: HostRuntime) -> Result<(), Fail> {
+    check_rows(&rt, FURTHER)
 }
 
 // In the style of mmj2: with blank lines, indented formulas, a formula over two lines and a proof that is passed over.
