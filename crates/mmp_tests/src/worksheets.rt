@@ -90,56 +90,56 @@ fn check_row(rt: &impl Abort, alloc: Global, row: Row) -> Result<(), Fail> {
     check_over(rt, alloc, words.as_slice(), database.as_slice(), row)
 }
 
-fn check_rows(rt: &HostRuntime, rows: &[Row]) -> Result<(), Fail> {
+fn check_rows(rt: &impl Abort, alloc: Global, rows: &[Row]) -> Result<(), Fail> {
     for row in rows {
-        check_row(rt, rt.alloc(), *row)?;
+        check_row(rt, alloc, *row)?;
     }
     Ok(())
 }
 
 #[test]
 fn fitting_worksheets(rt: HostRuntime) -> Result<(), Fail> {
-    check_rows(&rt, FITTING)
+    check_rows(&rt, rt.alloc(), FITTING)
 }
 
 #[test]
 fn blank_formulas(rt: HostRuntime) -> Result<(), Fail> {
-    check_rows(&rt, BLANK)
+    check_rows(&rt, rt.alloc(), BLANK)
 }
 
 #[test]
 fn steps_together(rt: HostRuntime) -> Result<(), Fail> {
-    check_rows(&rt, TOGETHER)
+    check_rows(&rt, rt.alloc(), TOGETHER)
 }
 
 #[test]
 fn derived_steps(rt: HostRuntime) -> Result<(), Fail> {
-    check_rows(&rt, DERIVED)
+    check_rows(&rt, rt.alloc(), DERIVED)
 }
 
 #[test]
 fn placed_worksheets(rt: HostRuntime) -> Result<(), Fail> {
-    check_rows(&rt, PLACED)
+    check_rows(&rt, rt.alloc(), PLACED)
 }
 
 #[test]
 fn distinct_variables(rt: HostRuntime) -> Result<(), Fail> {
-    check_rows(&rt, DISTINCT)
+    check_rows(&rt, rt.alloc(), DISTINCT)
 }
 
 #[test]
 fn refused_worksheets(rt: HostRuntime) -> Result<(), Fail> {
-    check_rows(&rt, REFUSED)
+    check_rows(&rt, rt.alloc(), REFUSED)
 }
 
 #[test]
 fn other_typecodes(rt: HostRuntime) -> Result<(), Fail> {
-    check_rows(&rt, TYPED)
+    check_rows(&rt, rt.alloc(), TYPED)
 }
 
 #[test]
 fn further_worksheets(rt: HostRuntime) -> Result<(), Fail> {
-    check_rows(&rt, FURTHER)
+    check_rows(&rt, rt.alloc(), FURTHER)
 }
 
 // In the style of mmj2: with blank lines, indented formulas, a formula over two lines and a proof that is passed over.
