@@ -146,16 +146,20 @@ module _ (db : Database) (options : Options) (w : Writing) (numbers : List ℕ) 
   valuation : IsValuation db place (IsUnknown w.bound all_accepted) g
   valuation = S.the.most_general.is_valuation
 
-  pub open_typed : (k : ℕ) (b : BoundStep) (t : Tree) → slice_get w.bound.steps k ≡ Some b → b.tree ≡ Some t → HasNoFresh t → (x : Open) → Contains (open_leaves t) x → IsTypedAs db.rows place (open_code x) (open_value g x)
+  pub open_typed : (k : ℕ) (b : BoundStep) (t : Tree) → slice_get w.bound.steps k ≡ Some b → b.tree ≡ Some t → HasNoFresh t → (x : Open)
+      → Contains (open_leaves t) x → IsTypedAs db.rows place (open_code x) (open_value g x)
   open_typed k b t at is no_fresh (work c n) o =
       let on = IsUnknown.in_formula k b t at is o in
       record { code = valuation.code (named c n) on; typed = valuation.typed (named c n) on }
   open_typed k b t at is no_fresh (fresh c n) o = absurd (no_fresh_leaf c n t no_fresh o)
 
-  formula_typed_by : (k : ℕ) (b : BoundStep) → slice_get w.bound.steps k ≡ Some b → (tokens : List (List ℕ)) → (o : Option Tree) → b.tree ≡ o → HasTree db place tokens o → IsTyped db.rows place (formula_value g k o)
+  formula_typed_by : (k : ℕ) (b : BoundStep) → slice_get w.bound.steps k ≡ Some b → (tokens : List (List ℕ)) → (o : Option Tree) → b.tree ≡ o
+      → HasTree db place tokens o → IsTyped db.rows place (formula_value g k o)
   formula_typed_by k b at tokens None is h = valuation.typed (blank k) (IsUnknown.is_blank b at is)
   formula_typed_by k b at tokens (Some t) is h =
-      (replaced_on db.rows place (λ s c. Var s c) (open_value g) t (λ v o. record { code = code-Var v.sym v.code; typed = typed-Var db.rows place v.sym v.code }) (open_typed k b t at is h.parses.named) h.parses.typed).typed
+      (replaced_on db.rows place (λ s c. Var s c) (open_value g) t
+          (λ v o. record { code = code-Var v.sym v.code; typed = typed-Var db.rows place v.sym v.code })
+          (open_typed k b t at is h.parses.named) h.parses.typed).typed
 
   pub tree_at : (k : ℕ) (b : BoundStep) → slice_get w.bound.steps k ≡ Some b → (slice_index_or w.bound.steps k no_step).tree ≡ b.tree
   tree_at k b at = ap (λ (x : BoundStep). x.tree) (index_from_get w.bound.steps k b no_step at)

@@ -1,5 +1,6 @@
 -- The uses of the steps that were accepted.
-use Rattle.std.specs.Prelude.{◌≡◌, ◌<◌, ◌≤◌, ◌+◌, nat_le, ℕ, zero, suc, Bool, true, false, List, [], ◌∷◌, length, map, take, drop, Contains, slice_get, slice_index_or, Option, Some, None, refl}
+use Rattle.std.specs.Prelude.{◌≡◌, ◌<◌, ◌≤◌, ◌+◌, nat_le, ℕ, zero, suc, Bool, true, false, List, [], ◌∷◌, length, map, take, drop, Contains}
+use Rattle.std.specs.Prelude.{slice_get, slice_index_or, Option, Some, None, refl}
 use Rattle.std.specs.List.{AllByRecursion, AllZip}
 use Rattle.std.proofs.Common.{sym, ap, subst, ◌∙◌, arith, inl, inr, cond}
 use Rattle.std.proofs.lemmas.Bool.{ltb-true}
@@ -143,7 +144,8 @@ module _ (db : Database) (options : Options) (w : Writing) (numbers : List ℕ) 
 
   -- ---- one accepted step
 
-  module _ (k i : ℕ) (number_at : slice_get numbers k ≡ Some i) (x : Asked) (judgement_at : slice_get w.judgements k ≡ Some (accepted x)) (source : SheetStep) (source_at : slice_get (steps w.read) k ≡ Some source)
+  module _ (k i : ℕ) (number_at : slice_get numbers k ≡ Some i) (x : Asked) (judgement_at : slice_get w.judgements k ≡ Some (accepted x))
+      (source : SheetStep) (source_at : slice_get (steps w.read) k ≡ Some source)
       (more : List ℕ) (fills : AllZip (FillsAt (trees ds) i) (wanted_by g (accepted x)) more) where
     abbrev a : Assertion
     a = x.assertion
@@ -164,12 +166,15 @@ module _ (db : Database) (options : Options) (w : Writing) (numbers : List ℕ) 
     solves = all_of (Solves w.bound g) (accepted_all db options w numbers ds S) x S.the.most_general.solves is.member
 
     value : (v : TypedVariable) → Contains a.vars v → value_of u v.sym ≡ name_tree names (g (copy x.step v.sym v.code))
-    value v m = value_is u (λ (z : TypedVariable). name_tree names (g (copy x.step z.sym z.code))) whole.differ (map-map (name_tree names) (λ (z : TypedVariable). g (copy x.step z.sym z.code)) a.vars) v m
+    value v m =
+        value_is u (λ (z : TypedVariable). name_tree names (g (copy x.step z.sym z.code))) whole.differ
+            (map-map (name_tree names) (λ (z : TypedVariable). g (copy x.step z.sym z.code)) a.vars) v m
 
     valued_is : (t : Tree) → IsClosedTree t → HasOnly a.vars t → valued u t ≡ name_tree names (instance g x.step t)
     valued_is t closed known = sym (
         replace-replace (λ s c. Var s c) (λ s c. g (copy x.step s c)) (name_leaf names) leaf_tree t
-        ∙ replace-both (λ s c. name_tree names (g (copy x.step s c))) (λ s c. value_of u s) (λ y. name_tree names (leaf_tree y)) leaf_tree t (λ v o. sym (value v (known v o))) (λ y o. absurd (closed y o))
+        ∙ replace-both (λ s c. name_tree names (g (copy x.step s c))) (λ s c. value_of u s) (λ y. name_tree names (leaf_tree y)) leaf_tree t
+            (λ v o. sym (value v (known v o))) (λ y o. absurd (closed y o))
         )
 
     conclusion : valued u a.tree ≡ step_accepted.tree
@@ -250,7 +255,10 @@ module _ (db : Database) (options : Options) (w : Writing) (numbers : List ℕ) 
     on v m = IsUnknown.in_frame x v is.member m
 
     value_typed : (v : TypedVariable) → Contains a.vars v → IsTyped db.rows w.bound.place (value_of u v.sym)
-    value_typed v m = subst (IsTyped db.rows w.bound.place) (sym (value v m)) (name_typed db w.bound.place names (g (copy x.step v.sym v.code)) (S.the.most_general.is_valuation.typed (copy x.step v.sym v.code) (on v m))).typed
+    value_typed v m =
+        subst (IsTyped db.rows w.bound.place) (sym (value v m))
+            (name_typed db w.bound.place names (g (copy x.step v.sym v.code))
+                (S.the.most_general.is_valuation.typed (copy x.step v.sym v.code) (on v m))).typed
 
     value_code : (v : TypedVariable) → Contains a.vars v → code_of (value_of u v.sym) ≡ v.code
     value_code v m =
@@ -272,7 +280,9 @@ module _ (db : Database) (options : Options) (w : Writing) (numbers : List ℕ) 
           (shown_filled (take k numbers) more x.places a.hyps (instance g x.step) (FillsAt (trees ds) i) fills v h m o))
 
       lone : IsLoose w.bound (accepted_all db options w numbers ds S) g x.step v
-      lone = loose db w.bound (accepted_all db options w numbers ds S) g S.the (all_closed db options w numbers ds S) x v is.member own (λ y m e. once db options w numbers ds S x y is.member m e) not_listed
+      lone =
+          loose db w.bound (accepted_all db options w numbers ds S) g S.the (all_closed db options w numbers ds S) x v is.member own
+              (λ y m e. once db options w numbers ds S x y is.member m e) not_listed
 
       abbrev leaf : Open
       leaf = fresh v.code lone.number

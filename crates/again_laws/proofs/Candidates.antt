@@ -51,7 +51,8 @@ module _ (db : Database) (place : ℕ) (s : BoundStep) (a : Assertion) where
     pub usable : db.usable l ≡ Some a
     pub has_places : has_places_for s a ≡ true
 
-  by_earlier : (l : Label) (f : Frame) → db.frame l ≡ Some f → (t : Bool) → nat_lt (position_of db l) place ≡ t → cond t (standing_usable s (db.usable l)) (settled verdict.NotUsable) ≡ candidate a → FromLabel l
+  by_earlier : (l : Label) (f : Frame) → db.frame l ≡ Some f → (t : Bool) → nat_lt (position_of db l) place ≡ t
+      → cond t (standing_usable s (db.usable l)) (settled verdict.NotUsable) ≡ candidate a → FromLabel l
   by_earlier l f is true t e = let r = by_usable (db.usable l) e in record { frame = f; frame_is = is; earlier = t; usable = r.0; has_places = r.1 }
   by_earlier l f is false t e = absurd (settled_is_none verdict.NotUsable e)
 

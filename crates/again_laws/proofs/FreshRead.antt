@@ -1,5 +1,6 @@
 -- The names of new work variables are read as these.
-use Rattle.std.specs.Prelude.{◌≡◌, ◌⊎◌, ◌<◌, ◌^◌, ◌==◌, ℕ, Bool, true, false, List, [], ◌∷◌, length, map, take, drop, filter_map, flat_map, slice_get, Contains, Option, Some, None, option_map, refl}
+use Rattle.std.specs.Prelude.{◌≡◌, ◌⊎◌, ◌<◌, ◌^◌, ◌==◌, ℕ, Bool, true, false, List, [], ◌∷◌, length, map, take, drop, filter_map, flat_map, slice_get}
+use Rattle.std.specs.Prelude.{Contains, Option, Some, None, option_map, refl}
 use Rattle.std.proofs.Common.{sym, ap, subst, ◌∙◌, arith, inl, inr, cond}
 use Rattle.std.proofs.lemmas.Bool.{cases_Bool, and_parts, both_ways, eqb-true, ltb-true}
 use Rattle.std.proofs.lemmas.List.Elements.{Contains-append_left, Contains-append_right}
@@ -58,7 +59,9 @@ work_same a b e =
     ap (λ (c : Typecode). work_variable c a.number) (codes_same a.code b.code both.0) ∙ ap (λ n. work_variable b.code n) (eqb-true a.number b.number both.1)
 
 seen_by : (seen : List WorkVariable) (x : WorkVariable) (ws : List WorkVariable) (w : WorkVariable) → is_in seen w ≡ false → (x ≡ w) ⊎ Contains ws w
-    → (Contains ws w → is_in seen w ≡ false → Contains (not_seen seen ws) w) → (Contains ws w → is_in (x ∷ seen) w ≡ false → Contains (not_seen (x ∷ seen) ws) w) → (t : Bool) → is_in seen x ≡ t → Contains (not_seen seen (x ∷ ws)) w
+    → (Contains ws w → is_in seen w ≡ false → Contains (not_seen seen ws) w)
+        → (Contains ws w → is_in (x ∷ seen) w ≡ false → Contains (not_seen (x ∷ seen) ws) w) → (t : Bool) → is_in seen x ≡ t
+        → Contains (not_seen seen (x ∷ ws)) w
 seen_by seen x ws w off m old new true e = elim m [
   | inl s ↦ absurd (both_ways (is_in seen w) off (ap (is_in seen) (sym s) ∙ e))
   | inr k ↦ rw e (old k off)
@@ -136,14 +139,17 @@ module _ (db : Database) (options : Options) (w : Writing) (numbers : List ℕ) 
         let r = from_filter_map (leaf_of db place) (drop 1 tokens) (leaf.Var s c) m in
         by r.0 (symbol_of db r.0) refl r.2
       where
-        by_code : (z : Sym) (o : Option Typecode) → float_of z (db.active_at place).hyps ≡ o → option_map (λ (d : Typecode). leaf.Var z d) o ≡ Some (leaf.Var s c) → db.is_constant_at c.0 db.statement_count ≡ true
+        by_code : (z : Sym) (o : Option Typecode) → float_of z (db.active_at place).hyps ≡ o
+            → option_map (λ (d : Typecode). leaf.Var z d) o ≡ Some (leaf.Var s c) → db.is_constant_at c.0 db.statement_count ≡ true
         by_code z None is h = absurd cc
         by_code z (Some d) is h =
             let same : d ≡ c = cc in
             let m = find_typed (typed_variables (db.active_at place).hyps) z d is in
             (float_code c (symbols.active_codes place (typed z c) (subst (λ (x : Typecode). Contains (typed_variables (db.active_at place).hyps) (typed z x)) same m))).constant
 
-        by_active : (z : Sym) (b : Bool) → cond b (option_map (λ (d : Typecode). leaf.Var z d) (float_of z (db.active_at place).hyps)) None ≡ Some (leaf.Var s c) → db.is_constant_at c.0 db.statement_count ≡ true
+        by_active : (z : Sym) (b : Bool)
+            → cond b (option_map (λ (d : Typecode). leaf.Var z d) (float_of z (db.active_at place).hyps)) None ≡ Some (leaf.Var s c)
+            → db.is_constant_at c.0 db.statement_count ≡ true
         by_active z true h = by_code z (float_of z (db.active_at place).hyps) refl h
         by_active z false h = absurd cc
 
@@ -183,7 +189,8 @@ module _ (db : Database) (options : Options) (w : Writing) (numbers : List ℕ) 
 
   -- ---- the holder of a fresh leaf
 
-  wanted_holder : (n : ℕ) (o : Judgement) → slice_get w.judgements n ≡ Some o → (t : Tree) → Contains (wanted_by w.value o) t → (c : Typecode) (k : ℕ) → Occurs (fresh c k) t → (u : Unknown) × OnRead u × Occurs (fresh c k) (w.value u)
+  wanted_holder : (n : ℕ) (o : Judgement) → slice_get w.judgements n ≡ Some o → (t : Tree) → Contains (wanted_by w.value o) t → (c : Typecode) (k : ℕ)
+      → Occurs (fresh c k) t → (u : Unknown) × OnRead u × Occurs (fresh c k) (w.value u)
   wanted_holder n (stands z) e t m c k q = absurd (nothing t m)
   wanted_holder n (accepted y) e t m c k q =
       let r = contains_mapped (instance w.value y.step) (drop (length y.places) y.assertion.hyps) t m in

@@ -50,7 +50,9 @@ module _ (a b : Sym → Typecode → Tree) (p q : Open → Tree) where
   all_same [] h f g = refl
   all_same (t ∷ ts) h f g =
       let one = h.0 (λ v o. f v (Contains-append_left (typed_leaves t) (flatten (map typed_leaves ts)) v o)) (λ x o. g x (Contains-append_left (open_leaves t) (flatten (map open_leaves ts)) x o)) in
-      let rest = all_same ts h.1 (λ v o. f v (Contains-append_right (typed_leaves t) (flatten (map typed_leaves ts)) v o)) (λ x o. g x (Contains-append_right (open_leaves t) (flatten (map open_leaves ts)) x o)) in
+      let rest =
+          all_same ts h.1 (λ v o. f v (Contains-append_right (typed_leaves t) (flatten (map typed_leaves ts)) v o))
+              (λ x o. g x (Contains-append_right (open_leaves t) (flatten (map open_leaves ts)) x o)) in
       cc
 
   pub replace-both : (t : Tree) → Same t
@@ -84,7 +86,8 @@ module _ (a : Sym → Typecode → Tree) (p : Open → Tree) (v : TypedVariable)
   abbrev Passes : Tree → Type 0
   Passes t = Contains (typed_leaves t) v → Contains (open_leaves (a v.sym v.code)) y → Contains (open_leaves (replace a p t)) y
 
-  passes_all : (ts : List Tree) → Each Passes ts → Contains (flatten (map typed_leaves ts)) v → Contains (open_leaves (a v.sym v.code)) y → Contains (flatten (map open_leaves (map (replace a p) ts))) y
+  passes_all : (ts : List Tree) → Each Passes ts → Contains (flatten (map typed_leaves ts)) v → Contains (open_leaves (a v.sym v.code)) y
+      → Contains (flatten (map open_leaves (map (replace a p) ts))) y
   passes_all [] h m o = absurd (nothing v m)
   passes_all (t ∷ ts) h m o = elim (Contains-append_cases (typed_leaves t) (flatten (map typed_leaves ts)) v m) [
     | inl first ↦ Contains-append_left (open_leaves (replace a p t)) (flatten (map open_leaves (map (replace a p) ts))) y (h.0 first o)
@@ -147,7 +150,8 @@ module _ (a : Sym → Typecode → Tree) (p : Open → Tree) (v q : TypedVariabl
   abbrev Carries : Tree → Type 0
   Carries t = Contains (typed_leaves t) v → Contains (typed_leaves (a v.sym v.code)) q → Contains (typed_leaves (replace a p t)) q
 
-  carries_all : (ts : List Tree) → Each Carries ts → Contains (flatten (map typed_leaves ts)) v → Contains (typed_leaves (a v.sym v.code)) q → Contains (flatten (map typed_leaves (map (replace a p) ts))) q
+  carries_all : (ts : List Tree) → Each Carries ts → Contains (flatten (map typed_leaves ts)) v → Contains (typed_leaves (a v.sym v.code)) q
+      → Contains (flatten (map typed_leaves (map (replace a p) ts))) q
   carries_all [] h m o = absurd (nothing v m)
   carries_all (t ∷ ts) h m o = elim (Contains-append_cases (typed_leaves t) (flatten (map typed_leaves ts)) v m) [
     | inl one ↦ Contains-append_left (typed_leaves (replace a p t)) (flatten (map typed_leaves (map (replace a p) ts))) q (h.0 one o)

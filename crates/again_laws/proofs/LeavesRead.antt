@@ -1,5 +1,6 @@
 -- Each leaf of a written formula reads back as itself.
-use Rattle.std.specs.Prelude.{◌≡◌, ◌⊎◌, ◌<◌, ◌≤◌, ◌==◌, ℕ, zero, suc, Bool, true, false, List, [], ◌∷◌, length, map, drop, take, find, filter_map, nat_lt, slice_get, slice_index_or, Contains, Option, Some, None, is_some, refl}
+use Rattle.std.specs.Prelude.{◌≡◌, ◌⊎◌, ◌<◌, ◌≤◌, ◌==◌, ℕ, zero, suc, Bool, true, false, List, [], ◌∷◌, length, map, drop, take, find, filter_map}
+use Rattle.std.specs.Prelude.{nat_lt, slice_get, slice_index_or, Contains, Option, Some, None, is_some, refl}
 use Rattle.std.specs.List.{AllByRecursion, position, position_or_len}
 use Rattle.std.proofs.Common.{sym, ap, subst, ◌∙◌, arith, inl, inr, cond}
 use Rattle.std.proofs.lemmas.Bool.{cases_Bool}
@@ -66,7 +67,8 @@ pub record IsRowConstant (rows : List Production) (before : ℕ) (s : Sym) : Typ
   pub low : row.at < before
   pub inside : Contains row.items (item.Const s)
 
-const_source : (texts : List (List Leaf)) (s : Sym) (items : List Item) → Contains (items_text texts items) (leaf.Const s) → Contains items (item.Const s) ⊎ ((k : ℕ) × Contains (slice_index_or texts k []) (leaf.Const s))
+const_source : (texts : List (List Leaf)) (s : Sym) (items : List Item) → Contains (items_text texts items) (leaf.Const s)
+    → Contains items (item.Const s) ⊎ ((k : ℕ) × Contains (slice_index_or texts k []) (leaf.Const s))
 const_source texts s [] m = absurd (nothing (leaf.Const s) m)
 const_source texts s (item.Const z ∷ items) m = elim (Contains-append_cases (leaf.Const z ∷ []) (items_text texts items) (leaf.Const s) m) [
   | inl h ↦ inl (first (item.Const s) (item.Const z) items (same z (only (leaf.Const s) (leaf.Const z) h)))
@@ -222,7 +224,8 @@ module _ (db : Database) (options : Options) (w : Writing) (numbers : List ℕ) 
       below_ (y ∷ xs) zero l = (y, refl)
       below_ (y ∷ xs) (suc n) l = below_ xs n (omega (arith, l))
 
-module _ (db : Database) (options : Options) (w : Writing) (numbers : List ℕ) (ds : List WrittenStep) (S : Setting db options w numbers ds) (places : HasPlaces db) (owns : (l : Label) (f : Frame) → db.frame l ≡ Some f → IsOwn db f f.formula)
+module _ (db : Database) (options : Options) (w : Writing) (numbers : List ℕ) (ds : List WrittenStep) (S : Setting db options w numbers ds)
+    (places : HasPlaces db) (owns : (l : Label) (f : Frame) → db.frame l ≡ Some f → IsOwn db f f.formula)
     (fresh_read : (c : Typecode) (m k : ℕ) → IsWrittenLeaf (trees ds) c m → w.names c m ≡ Some k → leaf_of db w.bound.place (spelling (symbol_name db c.0) k) ≡ Some (leaf.Work c k)) where
   abbrev g : Valuation
   g = w.value
@@ -264,12 +267,15 @@ module _ (db : Database) (options : Options) (w : Writing) (numbers : List ℕ) 
   -- ---- variables
 
   variable_back : (q : TypedVariable) → IsReadVariable db w.bound (accepted_all db options w numbers ds S) g S.the.most_general (all_closed db options w numbers ds S) q → IsReadBack (variable_leaf q)
-  variable_back q r = read_leaf r.step r.bound_step r.tree r.at r.tree_is (variable_leaf q) (variable_shown db.rows place S.facts.grammar.rows_hold q r.tree (tree_typed r.step r.bound_step r.tree r.at r.tree_is) r.inside)
+  variable_back q r =
+      read_leaf r.step r.bound_step r.tree r.at r.tree_is (variable_leaf q)
+          (variable_shown db.rows place S.facts.grammar.rows_hold q r.tree (tree_typed r.step r.bound_step r.tree r.at r.tree_is) r.inside)
 
   held_variable : (u : Unknown) (q : TypedVariable) → OnRead u → Contains (typed_leaves (g u)) q → IsReadBack (variable_leaf q)
   held_variable u q on o = variable_back q (read_variable db w.bound (accepted_all db options w numbers ds S) g S.the.most_general (all_closed db options w numbers ds S) u q on o)
 
-  formula_variable_by : (j : ℕ) (b : BoundStep) → slice_get w.bound.steps j ≡ Some b → (o : Option Tree) → b.tree ≡ o → (q : TypedVariable) → Contains (typed_leaves (formula_value g j o)) q → IsReadBack (variable_leaf q)
+  formula_variable_by : (j : ℕ) (b : BoundStep) → slice_get w.bound.steps j ≡ Some b → (o : Option Tree) → b.tree ≡ o → (q : TypedVariable)
+      → Contains (typed_leaves (formula_value g j o)) q → IsReadBack (variable_leaf q)
   formula_variable_by j b at None is q m = held_variable (blank j) q (IsUnknown.is_blank b at is) m
   formula_variable_by j b at (Some t) is q m = elim (arises (λ s c. Var s c) (open_value g) q t m) [
     | inl h ↦ by_own h.0 h.1 (only q h.0 (rw leaves-Var at h.2))
@@ -283,7 +289,8 @@ module _ (db : Database) (options : Options) (w : Writing) (numbers : List ℕ) 
       by_open (work c n) o k = held_variable (named c n) q (IsUnknown.in_formula j b t at is o) k
       by_open (fresh c n) o k = absurd (nothing q (rw leaves-Fresh at k))
 
-  wanted_variable : (n : ℕ) (o : Judgement) → slice_get w.judgements n ≡ Some o → (t : Tree) → Contains (wanted_by g o) t → (q : TypedVariable) → Contains (typed_leaves t) q → IsReadBack (variable_leaf q)
+  wanted_variable : (n : ℕ) (o : Judgement) → slice_get w.judgements n ≡ Some o → (t : Tree) → Contains (wanted_by g o) t → (q : TypedVariable)
+      → Contains (typed_leaves t) q → IsReadBack (variable_leaf q)
   wanted_variable n (stands z) e t m q k = absurd (nothing t m)
   wanted_variable n (accepted y) e t m q k =
       let r = contains_mapped (instance g y.step) (drop (length y.places) y.assertion.hyps) t m in
@@ -305,7 +312,8 @@ module _ (db : Database) (options : Options) (w : Writing) (numbers : List ℕ) 
   value_work : (u : Unknown) (c : Typecode) (n : ℕ) → OnRead u → Occurs (work c n) (g u) → IsReadBack (leaf.Work c n)
   value_work u c n on o = held_work c n ((S.the.canonical u (work c n) on o).named_least).0
 
-  formula_work_by : (j : ℕ) (b : BoundStep) → slice_get w.bound.steps j ≡ Some b → (o : Option Tree) → b.tree ≡ o → (c : Typecode) (n : ℕ) → Occurs (work c n) (formula_value g j o) → IsReadBack (leaf.Work c n)
+  formula_work_by : (j : ℕ) (b : BoundStep) → slice_get w.bound.steps j ≡ Some b → (o : Option Tree) → b.tree ≡ o → (c : Typecode) (n : ℕ)
+      → Occurs (work c n) (formula_value g j o) → IsReadBack (leaf.Work c n)
   formula_work_by j b at None is c n m = value_work (blank j) c n (IsUnknown.is_blank b at is) m
   formula_work_by j b at (Some t) is c n m = elim (comes (λ s d. Var s d) (open_value g) (work c n) t m) [
     | inl h ↦ absurd (nothing (work c n) (rw open_leaves-Var at h.2))
@@ -347,7 +355,9 @@ module _ (db : Database) (options : Options) (w : Writing) (numbers : List ℕ) 
     | inl k ↦
         let r = S.filling.own k.0 i k.1 in
         let same : r.0 ≡ d = some_same r.0 d (sym r.1 ∙ e) in
-        let tree : d.tree ≡ formula w.bound g k.0 = ap (λ (x : WrittenStep). x.tree) (sym same ∙ r.2.is) ∙ filled_tree (take k.0 numbers) r.2.more r.2.source (formula w.bound g k.0) g r.2.judgement in
+        let tree : d.tree ≡ formula w.bound g k.0 =
+            ap (λ (x : WrittenStep). x.tree) (sym same ∙ r.2.is)
+                ∙ filled_tree (take k.0 numbers) r.2.more r.2.source (formula w.bound g k.0) g r.2.judgement in
         let b = S.bound_steps k.0 r.2.source r.2.source_at in
         let own = tree_at db options w numbers ds S k.0 b.0 b.1 in
         let whole : d.tree ≡ formula_value g k.0 b.0.tree = tree ∙ ap (formula_value g k.0) own in
@@ -394,7 +404,8 @@ module _ (db : Database) (options : Options) (w : Writing) (numbers : List ℕ) 
     | inr h ↦ absurd (no_variable_named h.0 q h.2)
   ]
 
-  back_by : (t : Tree) → IsTyped db.rows place t → ((q : TypedVariable) → Contains (typed_leaves t) q → IsReadBack (variable_leaf q)) → ((c : Typecode) (n : ℕ) → Occurs (work c n) t → IsReadBack (leaf.Work c n))
+  back_by : (t : Tree) → IsTyped db.rows place t → ((q : TypedVariable) → Contains (typed_leaves t) q → IsReadBack (variable_leaf q))
+      → ((c : Typecode) (n : ℕ) → Occurs (work c n) t → IsReadBack (leaf.Work c n))
       → (x : Leaf) → Contains (text db.rows t) x → IsReadBack x
   back_by t typed_ vars works (leaf.Const s) m =
       let r = rowed db.rows place s t typed_ m in

@@ -118,7 +118,8 @@ module _ (q : TypedVariable) where
     }
 
 module _ (db : Database) (bound : Bound) (accepted : List Asked) (g : Valuation) (general : IsMostGeneral db bound accepted g) (closed : AllByRecursion IsClosed accepted) where
-  not_lacking : (u : Unknown) (q : TypedVariable) → IsUnknown bound accepted u → Contains (typed_leaves (g u)) q → ((i : ℕ) → Contains (tree_leaves (slice_index_or bound.steps i no_step).tree) q → ⊥) → ⊥
+  not_lacking : (u : Unknown) (q : TypedVariable) → IsUnknown bound accepted u → Contains (typed_leaves (g u)) q
+      → ((i : ℕ) → Contains (tree_leaves (slice_index_or bound.steps i no_step).tree) q → ⊥) → ⊥
   not_lacking u q on o lacks =
       let solves = all_from (Solves bound (other q g)) accepted (λ x m. solves_one q g bound lacks x (all_of IsClosed accepted x closed m) (all_of (Solves bound g) accepted x general.solves m)) in
       let is = general.general (other q g) (other_valuation q g db bound.place (IsUnknown bound accepted) general.is_valuation) solves in
@@ -137,11 +138,14 @@ module _ (db : Database) (bound : Bound) (accepted : List Asked) (g : Valuation)
   read_by k b q at None e m = absurd (nothing q m)
   read_by k b q at (Some t) e m = record { step = k; bound_step = b; at = at; tree = t; tree_is = e; inside = m }
 
-  index_by : (steps_ : List BoundStep) (i : ℕ) (q : TypedVariable) → Contains (tree_leaves (slice_index_or steps_ i no_step).tree) q → Contains (flat_map (λ (b : BoundStep). tree_leaves b.tree) steps_) q
+  index_by : (steps_ : List BoundStep) (i : ℕ) (q : TypedVariable) → Contains (tree_leaves (slice_index_or steps_ i no_step).tree) q
+      → Contains (flat_map (λ (b : BoundStep). tree_leaves b.tree) steps_) q
   index_by [] i q m = absurd (nothing q m)
   index_by (b ∷ steps_) i q m = by i m (λ j. index_by steps_ j q)
     where
-      by : (j : ℕ) → Contains (tree_leaves (slice_index_or (b ∷ steps_) j no_step).tree) q → ((n : ℕ) → Contains (tree_leaves (slice_index_or steps_ n no_step).tree) q → Contains (flat_map (λ (x : BoundStep). tree_leaves x.tree) steps_) q)
+      by : (j : ℕ) → Contains (tree_leaves (slice_index_or (b ∷ steps_) j no_step).tree) q
+          → ((n : ℕ) → Contains (tree_leaves (slice_index_or steps_ n no_step).tree) q
+              → Contains (flat_map (λ (x : BoundStep). tree_leaves x.tree) steps_) q)
           → Contains (flat_map (λ (x : BoundStep). tree_leaves x.tree) (b ∷ steps_)) q
       by zero n rest = Contains-append_left (tree_leaves b.tree) (flat_map (λ (x : BoundStep). tree_leaves x.tree) steps_) q n
       by (suc j) n rest = Contains-append_right (tree_leaves b.tree) (flat_map (λ (x : BoundStep). tree_leaves x.tree) steps_) q (rest j n)

@@ -1,5 +1,6 @@
 -- The number of a new work variable is below 2^32: numbers are used up by symbols and by the work variables of formulas.
-use Rattle.std.specs.Prelude.{◌≡◌, ◌⊎◌, ◌<◌, ◌≤◌, ◌+◌, ◌-◌, ◌^◌, nat_lt, ℕ, zero, suc, Bool, true, false, List, [], ◌∷◌, ◌++◌, length, map, take, flat_map, sum, slice_get, slice_index_or, Contains, Option, Some, None, refl}
+use Rattle.std.specs.Prelude.{◌≡◌, ◌⊎◌, ◌<◌, ◌≤◌, ◌+◌, ◌-◌, ◌^◌, nat_lt, ℕ, zero, suc, Bool, true, false, List, [], ◌∷◌, ◌++◌, length, map, take}
+use Rattle.std.specs.Prelude.{flat_map, sum, slice_get, slice_index_or, Contains, Option, Some, None, refl}
 use Rattle.std.specs.Option.{option_map_or}
 use Rattle.std.proofs.Common.{sym, ap, subst, ◌∙◌, arith, inl, inr}
 use Rattle.std.proofs.lemmas.Bool.{cases_Bool, ltb-true}
@@ -183,9 +184,12 @@ read_in db bound c n h =
     by None k = absurd (nothing (work_variable c n) k)
     by (Some t) k = work_in_tree db t c n k
 
-taken_leaf : (db : Database) (bound : Bound) (ts : List Tree) (j : ℕ) (c : Typecode) (n : ℕ) → is_in (take j (new_works db bound ts)) (work_variable c n) ≡ true → Contains (flat_map open_leaves ts) (work c n)
+taken_leaf : (db : Database) (bound : Bound) (ts : List Tree) (j : ℕ) (c : Typecode) (n : ℕ)
+    → is_in (take j (new_works db bound ts)) (work_variable c n) ≡ true → Contains (flat_map open_leaves ts) (work c n)
 taken_leaf db bound ts j c n h =
-    let m = not_seen_in (read_works db bound) (flat_map (works_in db) ts) (work_variable c n) (taken_in j (new_works db bound ts) (work_variable c n) (in_contains (take j (new_works db bound ts)) (work_variable c n) h)) in
+    let m =
+        not_seen_in (read_works db bound) (flat_map (works_in db) ts) (work_variable c n)
+            (taken_in j (new_works db bound ts) (work_variable c n) (in_contains (take j (new_works db bound ts)) (work_variable c n) h)) in
     let r = from_flat_map (works_in db) ts (work_variable c n) m in
     into_flat_map open_leaves ts r.0 (work c n) r.1 (work_in_tree db r.0 c n r.2)
 

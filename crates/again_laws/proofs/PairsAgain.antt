@@ -1,5 +1,6 @@
 -- The written pairs, read again.
-use Rattle.std.specs.Prelude.{◌≡◌, ◌⊎◌, ◌&&◌, ◌||◌, ◌==◌, not, nat_lt, ℕ, suc, Bool, true, false, List, [], ◌∷◌, ◌++◌, map, filter, filter_map, find, flat_map, fold, zip, slice_get, Contains, Option, Some, None, option_map, refl}
+use Rattle.std.specs.Prelude.{◌≡◌, ◌⊎◌, ◌&&◌, ◌||◌, ◌==◌, not, nat_lt, ℕ, suc, Bool, true, false, List, [], ◌∷◌, ◌++◌, map, filter, filter_map, find}
+use Rattle.std.specs.Prelude.{flat_map, fold, zip, slice_get, Contains, Option, Some, None, option_map, refl}
 use Rattle.std.specs.List.{AllByRecursion, list_all, list_any}
 use Rattle.std.specs.Option.{option_map_or}
 use Rattle.std.proofs.Common.{sym, ap, subst, ◌∙◌, arith, inl, inr, cond, append_assoc}
@@ -127,7 +128,9 @@ ordered_again v w = by (nat_lt v.0 w.0) refl
 ordered_parts : (P : Sym → Type 0) (v w : Sym) → P v → P w → P (ordered v w).a × P (ordered v w).b
 ordered_parts P v w pv pw = by (nat_lt v.0 w.0)
   where
-    by : (t : Bool) → P (cond t (let p : Pair = record { a = v; b = w } in p) (let p : Pair = record { a = w; b = v } in p)).a × P (cond t (let p : Pair = record { a = v; b = w } in p) (let p : Pair = record { a = w; b = v } in p)).b
+    by : (t : Bool)
+        → P (cond t (let p : Pair = record { a = v; b = w } in p) (let p : Pair = record { a = w; b = v } in p)).a
+            × P (cond t (let p : Pair = record { a = v; b = w } in p) (let p : Pair = record { a = w; b = v } in p)).b
     by true = (pv, pw)
     by false = (pw, pv)
 
@@ -160,22 +163,30 @@ module _ (v : Sym) where
 
 -- ---- the value of a symbol is that of a variable, or none
 
-find_zip : (vars : List TypedVariable) (values : List Tree) (s : Sym) → (option_map_or (λ (p : TypedVariable × Tree). p.1) (find (λ (p : TypedVariable × Tree). p.0.sym.0 == s.0) (zip vars values)) no_tree ≡ no_tree)
-    ⊎ ((j : ℕ) × (x : TypedVariable) × (t : Tree) × (slice_get vars j ≡ Some x) × (slice_get values j ≡ Some t) × (option_map_or (λ (p : TypedVariable × Tree). p.1) (find (λ (p : TypedVariable × Tree). p.0.sym.0 == s.0) (zip vars values)) no_tree ≡ t))
+find_zip : (vars : List TypedVariable) (values : List Tree) (s : Sym)
+    → (option_map_or (λ (p : TypedVariable × Tree). p.1) (find (λ (p : TypedVariable × Tree). p.0.sym.0 == s.0) (zip vars values)) no_tree ≡ no_tree)
+    ⊎ ((j : ℕ) × (x : TypedVariable) × (t : Tree) × (slice_get vars j ≡ Some x) × (slice_get values j ≡ Some t)
+        × (option_map_or (λ (p : TypedVariable × Tree). p.1) (find (λ (p : TypedVariable × Tree). p.0.sym.0 == s.0) (zip vars values)) no_tree ≡ t))
 find_zip [] values s = inl refl
 find_zip (x ∷ vars) [] s = inl refl
 find_zip (x ∷ vars) (t ∷ values) s = by (x.sym.0 == s.0) refl (find_zip vars values s)
   where
     by : (b : Bool) → (x.sym.0 == s.0) ≡ b → ((option_map_or (λ (p : TypedVariable × Tree). p.1) (find (λ (p : TypedVariable × Tree). p.0.sym.0 == s.0) (zip vars values)) no_tree ≡ no_tree)
-        ⊎ ((j : ℕ) × (y : TypedVariable) × (u : Tree) × (slice_get vars j ≡ Some y) × (slice_get values j ≡ Some u) × (option_map_or (λ (p : TypedVariable × Tree). p.1) (find (λ (p : TypedVariable × Tree). p.0.sym.0 == s.0) (zip vars values)) no_tree ≡ u)))
+        ⊎ ((j : ℕ) × (y : TypedVariable) × (u : Tree) × (slice_get vars j ≡ Some y) × (slice_get values j ≡ Some u)
+            × (option_map_or (λ (p : TypedVariable × Tree). p.1) (find (λ (p : TypedVariable × Tree). p.0.sym.0 == s.0) (zip vars values)) no_tree
+                ≡ u)))
         → (option_map_or (λ (p : TypedVariable × Tree). p.1) (find (λ (p : TypedVariable × Tree). p.0.sym.0 == s.0) (zip (x ∷ vars) (t ∷ values))) no_tree ≡ no_tree)
-        ⊎ ((j : ℕ) × (y : TypedVariable) × (u : Tree) × (slice_get (x ∷ vars) j ≡ Some y) × (slice_get (t ∷ values) j ≡ Some u) × (option_map_or (λ (p : TypedVariable × Tree). p.1) (find (λ (p : TypedVariable × Tree). p.0.sym.0 == s.0) (zip (x ∷ vars) (t ∷ values))) no_tree ≡ u))
+        ⊎ ((j : ℕ) × (y : TypedVariable) × (u : Tree) × (slice_get (x ∷ vars) j ≡ Some y) × (slice_get (t ∷ values) j ≡ Some u)
+            × (option_map_or (λ (p : TypedVariable × Tree). p.1)
+                (find (λ (p : TypedVariable × Tree). p.0.sym.0 == s.0) (zip (x ∷ vars) (t ∷ values))) no_tree
+                ≡ u))
     by true e rest = inr (0, x, t, refl, refl, rw e refl)
     by false e (inl h) = inl (rw e h)
     by false e (inr h) = inr (suc h.0, h.1, h.2, h.3, h.4, rw e h.5)
 
 module _ (db : Database) (options : Options) (w : Writing) (numbers : List ℕ) (ds : List WrittenStep) (S : Setting db options w numbers ds) (rd : Binds db w.read w.bound)
-    (back : (i : ℕ) (t : Tree) → slice_get (trees (written_steps db options w numbers ds S)) i ≡ Some t → (x : Leaf) → Contains (text db.rows t) x → leaf_of db w.bound.place (leaf_name db x) ≡ Some x) where
+    (back : (i : ℕ) (t : Tree) → slice_get (trees (written_steps db options w numbers ds S)) i ≡ Some t → (x : Leaf) → Contains (text db.rows t) x
+        → leaf_of db w.bound.place (leaf_name db x) ≡ Some x) where
   abbrev es : List WrittenStep
   es = written_steps db options w numbers ds S
 
@@ -205,7 +216,10 @@ module _ (db : Database) (options : Options) (w : Writing) (numbers : List ℕ) 
       let all : list_all (is_variable_at db (place_of db w.read)) p.names ≡ true = from_not (list_all (is_variable_at db (place_of db w.read)) p.names) ok in
       let one = all_passes (is_variable_at db (place_of db w.read)) p.names token.0 all token.1 in
       let told = symbol_told db token.0 v token.2 in
-      let tested : list_any (λ (x : Sym). x.0 == v.0) (db.active_at (place_of db w.read)).variables ≡ true = ap (λ o. option_map_or (λ (z : Sym). list_any (λ (x : Sym). x.0 == z.0) (db.active_at (place_of db w.read)).variables) o false) (sym token.2) ∙ one in
+      let tested : list_any (λ (x : Sym). x.0 == v.0) (db.active_at (place_of db w.read)).variables ≡ true =
+          ap (λ o. option_map_or (λ (z : Sym). list_any (λ (x : Sym). x.0 == z.0) (db.active_at (place_of db w.read)).variables) o false)
+              (sym token.2)
+              ∙ one in
       record {
         found = symbol_found db S.facts v told.within;
         active = subst (λ n. list_any (λ (x : Sym). x.0 == v.0) (db.active_at n).variables ≡ true) (sym rd.place) tested;
@@ -228,7 +242,9 @@ module _ (db : Database) (options : Options) (w : Writing) (numbers : List ℕ) 
   active_by : (s : Sym) (v : Sym) (c : Typecode) → declared_leaf db place s ≡ Some (leaf.Var v c) → list_any (λ (x : Sym). x.0 == s.0) (db.active_at place).variables ≡ true
   active_by s v c e = by_constant (db.is_constant_at s place) refl
     where
-      by_active : (b : Bool) → list_any (λ (x : Sym). x.0 == s.0) (db.active_at place).variables ≡ b → cond b (option_map (λ (d : Typecode). leaf.Var s d) (float_of s (db.active_at place).hyps)) None ≡ Some (leaf.Var v c) → list_any (λ (x : Sym). x.0 == s.0) (db.active_at place).variables ≡ true
+      by_active : (b : Bool) → list_any (λ (x : Sym). x.0 == s.0) (db.active_at place).variables ≡ b
+          → cond b (option_map (λ (d : Typecode). leaf.Var s d) (float_of s (db.active_at place).hyps)) None ≡ Some (leaf.Var v c)
+          → list_any (λ (x : Sym). x.0 == s.0) (db.active_at place).variables ≡ true
       by_active true is h = is
       by_active false is h = absurd cc
 
@@ -315,7 +331,10 @@ module _ (db : Database) (options : Options) (w : Writing) (numbers : List ℕ) 
 
   all_good : (mode : DvMode) (p : Pair) → Contains (pairs_of mode w.bound.pairs es) p → IsGoodPair p
   all_good dv.Given p m = given_good p m
-  all_good dv.Add p m = elim (Contains-append_cases w.bound.pairs (flat_map (λ (e : WrittenStep). needed_by e.by) es) p ((holds_same (w.bound.pairs ++ flat_map (λ (e : WrittenStep). needed_by e.by) es) p).0 m)) [
+  all_good dv.Add p m =
+      elim
+          (Contains-append_cases w.bound.pairs (flat_map (λ (e : WrittenStep). needed_by e.by) es) p
+              ((holds_same (w.bound.pairs ++ flat_map (λ (e : WrittenStep). needed_by e.by) es) p).0 m)) [
     | inl h ↦ given_good p h
     | inr h ↦
         let e = from_flat_map (λ (x : WrittenStep). needed_by x.by) es p h in

@@ -133,7 +133,8 @@ module _ (db : Database) (options : Options) (w : Writing) (numbers : List ℕ) 
   filled_reference front more s t v (stands z) = refl
 
   -- a hypothesis is not accepted
-  filled_count : (k : ℕ) (s : SheetStep) → slice_get (steps w.read) k ≡ Some s → s.hyp ≡ true → (front more : List ℕ) (t : Tree) (o : Judgement) → slice_get w.judgements k ≡ Some o → length (filled_step front more s t g o).places ≡ length s.places
+  filled_count : (k : ℕ) (s : SheetStep) → slice_get (steps w.read) k ≡ Some s → s.hyp ≡ true → (front more : List ℕ) (t : Tree) (o : Judgement)
+      → slice_get w.judgements k ≡ Some o → length (filled_step front more s t g o).places ≡ length s.places
   filled_count k s at h front more t (stands z) o_at = length-map s.places _
   filled_count k s at h front more t (accepted x) o_at =
       let b = S.bound_steps k s at in
@@ -189,7 +190,9 @@ module _ (db : Database) (options : Options) (w : Writing) (numbers : List ℕ) 
           hyp = same_hyp n e seen ∙ hyp_d;
           name = same_name n e seen ∙ ap (λ (x : WrittenStep). x.name) own.is ∙ filled_name own.front own.more s (formula w.bound g k) g own.judgement;
           tree = same_written n e seen ∙ ap (name_tree w.names) (ap (λ (x : WrittenStep). x.tree) own.is ∙ filled_tree own.front own.more s (formula w.bound g k) g own.judgement);
-          reference = λ h. ap (λ (x : WrittenStep). x.reference) (same_all n e seen (hyp_d ∙ h)) ∙ ap (λ (x : WrittenStep). x.reference) own.is ∙ filled_reference own.front own.more s (formula w.bound g k) g own.judgement;
+          reference =
+              λ h. ap (λ (x : WrittenStep). x.reference) (same_all n e seen (hyp_d ∙ h)) ∙ ap (λ (x : WrittenStep). x.reference) own.is
+                  ∙ filled_reference own.front own.more s (formula w.bound g k) g own.judgement;
           places = λ h.
               ap (λ (x : WrittenStep). length x.places) (same_all n e seen (hyp_d ∙ h)) ∙ ap (λ (x : WrittenStep). length x.places) own.is
               ∙ filled_count k s at h own.front own.more (formula w.bound g k) own.judgement own.judgement_at;
@@ -208,7 +211,8 @@ module _ (db : Database) (options : Options) (w : Writing) (numbers : List ℕ) 
 
   -- ---- the typecodes of trees
 
-  formula_code_by : (k : ℕ) (b : BoundStep) → slice_get w.bound.steps k ≡ Some b → (tokens : List Name) → (o : Option Tree) → b.tree ≡ o → HasTree db place tokens o → code_of (formula_value g k o) ≡ logic_code db
+  formula_code_by : (k : ℕ) (b : BoundStep) → slice_get w.bound.steps k ≡ Some b → (tokens : List Name) → (o : Option Tree) → b.tree ≡ o
+      → HasTree db place tokens o → code_of (formula_value g k o) ≡ logic_code db
   formula_code_by k b at tokens None is h = S.the.most_general.is_valuation.code (blank k) (IsUnknown.is_blank b at is)
   formula_code_by k b at tokens (Some t) is h =
       (replaced_on db.rows place (λ s c. Var s c) (open_value g) t (λ v o. record { code = code-Var v.sym v.code; typed = typed-Var db.rows place v.sym v.code })
@@ -237,7 +241,9 @@ module _ (db : Database) (options : Options) (w : Writing) (numbers : List ℕ) 
     | inl k ↦
         let r = S.filling.own k.0 i k.1 in
         let same : r.0 ≡ d = some_same r.0 d (sym r.1 ∙ e) in
-        let tree : d.tree ≡ formula w.bound g k.0 = ap (λ (x : WrittenStep). x.tree) (sym same ∙ r.2.is) ∙ filled_tree (take k.0 numbers) r.2.more r.2.source (formula w.bound g k.0) g r.2.judgement in
+        let tree : d.tree ≡ formula w.bound g k.0 =
+            ap (λ (x : WrittenStep). x.tree) (sym same ∙ r.2.is)
+                ∙ filled_tree (take k.0 numbers) r.2.more r.2.source (formula w.bound g k.0) g r.2.judgement in
         let b = S.bound_steps k.0 r.2.source r.2.source_at in
         ap code_of (tree ∙ ap (formula_value g k.0) (tree_at db options w numbers ds S k.0 b.0 b.1)) ∙ formula_code_by k.0 b.0 b.1 r.2.source.formula b.0.tree refl b.2.tree
     | inr m ↦ wanted_code m.by m.judgement m.judgement_at d.tree m.wanted

@@ -1,5 +1,6 @@
 -- A step that was set aside is set aside again: what solves it among the written steps solves it among those that were read.
-use Rattle.std.specs.Prelude.{◌≡◌, ◌⊎◌, ◌≤◌, ◌<◌, ◌==◌, ◌&&◌, ℕ, zero, suc, Bool, true, false, List, [], ◌∷◌, ◌++◌, length, map, take, Contains, slice_get, slice_index_or, Option, Some, None, refl}
+use Rattle.std.specs.Prelude.{◌≡◌, ◌⊎◌, ◌≤◌, ◌<◌, ◌==◌, ◌&&◌, ℕ, zero, suc, Bool, true, false, List, [], ◌∷◌, ◌++◌, length, map, take, Contains}
+use Rattle.std.specs.Prelude.{slice_get, slice_index_or, Option, Some, None, refl}
 use Rattle.std.specs.List.{AllByRecursion}
 use Rattle.std.proofs.Common.{sym, ap, subst, ◌∙◌, arith, inl, inr, cond}
 use Rattle.std.proofs.lemmas.Bool.{cases_Bool, ltb-true, eq-eqb, eqb-true}
@@ -165,7 +166,8 @@ module _ (db : Database) (options : Options) (w : Writing) (numbers : List ℕ) 
     lifted-value : (j : ℕ) (b : BoundStep) → slice_get bound.steps j ≡ Some b → (o : Option Tree) → b.tree ≡ o → formula_value lifted j o ≡ refine r (formula_value g j o)
     lifted-value j b at None is = refl
     lifted-value j b at (Some t) is =
-        replace-agree (λ s c. Var s c) (λ s c. refine r (Var s c)) (open_value lifted) (λ x. refine r (open_value g x)) (λ s c. sym (replace-Var _ r s c)) t (λ x o. lifted_open x t (no_fresh_read j b t at is) o)
+        replace-agree (λ s c. Var s c) (λ s c. refine r (Var s c)) (open_value lifted) (λ x. refine r (open_value g x))
+            (λ s c. sym (replace-Var _ r s c)) t (λ x o. lifted_open x t (no_fresh_read j b t at is) o)
         ∙ sym (replace-replace (λ s c. Var s c) (λ s c. Var s c) r (open_value g) t)
 
     lifted-formula : (j : ℕ) (b : BoundStep) → slice_get bound.steps j ≡ Some b → formula bound lifted j ≡ refine r (formula bound g j)
@@ -196,7 +198,8 @@ module _ (db : Database) (options : Options) (w : Writing) (numbers : List ℕ) 
 
     -- ---- a step accepted before
 
-    places_before : (j : ℕ) → (j == k) ≡ false → (ys : List Given) (hs : List Tree) → ((y : Given) → Contains ys y → is_place_below j y ≡ true) → j ≤ length bound.steps → AllByRecursion IsClosedTree hs
+    places_before : (j : ℕ) → (j == k) ≡ false → (ys : List Given) (hs : List Tree) → ((y : Given) → Contains ys y → is_place_below j y ≡ true)
+        → j ≤ length bound.steps → AllByRecursion IsClosedTree hs
         → PlacesFit bound g j ys hs → PlacesFit bound lifted j ys hs
     places_before j off [] hs low le closed f = f
     places_before j off (y ∷ ys) [] low le closed f = f
@@ -266,7 +269,10 @@ module _ (db : Database) (options : Options) (w : Writing) (numbers : List ℕ) 
 
     lifted_typed : (z : Unknown) → OnRead z → IsTypedAs db.rows place (unknown_code db z) (refine r (g z))
     lifted_typed z on =
-        let t = replaced_on db.rows place (λ s c. Var s c) r (g z) (λ q o. record { code = code-Var q.sym q.code; typed = typed-Var db.rows place q.sym q.code }) (leaf_typed z on) (S.the.most_general.is_valuation.typed z on) in
+        let t =
+            replaced_on db.rows place (λ s c. Var s c) r (g z)
+                (λ q o. record { code = code-Var q.sym q.code; typed = typed-Var db.rows place q.sym q.code }) (leaf_typed z on)
+                (S.the.most_general.is_valuation.typed z on) in
         record { code = t.code ∙ S.the.most_general.is_valuation.code z on; typed = t.typed }
 
     -- ---- those accepted before, and the step
@@ -378,7 +384,8 @@ module _ (db : Database) (options : Options) (w : Writing) (numbers : List ℕ) 
     now_solved : Solves other v now
     now_solved = all_of (Solves other v) asked_now now again.solves now_in
 
-    now_places : (ys : List Given) (hs : List Tree) → ((y : Given) → Contains ys y → is_place_below k y ≡ true) → k ≤ length bound.steps → PlacesFit other v i (map (written_place (take k numbers)) ys) hs → PlacesFit bound lifted k ys hs
+    now_places : (ys : List Given) (hs : List Tree) → ((y : Given) → Contains ys y → is_place_below k y ≡ true) → k ≤ length bound.steps
+        → PlacesFit other v i (map (written_place (take k numbers)) ys) hs → PlacesFit bound lifted k ys hs
     now_places [] hs low le f = f
     now_places (y ∷ ys) [] low le f = absurd f
     now_places (given.Gap ∷ ys) (h ∷ hs) low le f = now_places ys hs (λ y m. low y (later y given.Gap ys m)) le f

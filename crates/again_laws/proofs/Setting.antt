@@ -124,7 +124,10 @@ module _ (db : Database) (options : Options) (w : Writing) where
   steps_searched (step e ∷ items) (o ∷ others) h =
       let rest = steps_searched items others h.1 in
       let f = h.0 in
-      subst (λ (x : WrittenItem). AllZip (IsSearched db w.bound.place options.dv w.bound.pairs (steps_in (after_naming db options w))) (e ∷ steps_in items) (steps_in (x ∷ others))) (sym f.1) (f.2, rest)
+      subst
+          (λ (x : WrittenItem). AllZip (IsSearched db w.bound.place options.dv w.bound.pairs (steps_in (after_naming db options w)))
+              (e ∷ steps_in items) (steps_in (x ∷ others)))
+          (sym f.1) (f.2, rest)
 
 abbrev HasTreeAt : Database → ℕ → List Name → BoundStep → Type 0
 HasTreeAt db p f b = HasTree db p f b.tree
@@ -133,7 +136,8 @@ abbrev pub filling_of : Writing → Filling
 filling_of w = fold (fill_item (step_names w.read) w.bound w.value w.judgements) (record { items = []; numbers = [] }) w.read.items
 
 module _ (facts_law : HasDatabaseFacts) (whole_law : AssertionsAreWhole) (spellable_law : ReadIsSpellable) where
-  pub setting : (db : Database) (text : List ℕ) (options : Options) (w : Writing) → IsOpened options.kinds db → Writes db text options w → Setting db options w (filling_of w).numbers (steps_in (after_filling db options w))
+  pub setting : (db : Database) (text : List ℕ) (options : Options) (w : Writing) → IsOpened options.kinds db → Writes db text options w
+      → Setting db options w (filling_of w).numbers (steps_in (after_filling db options w))
   setting db text options w opened h =
       let place = h.binds.place in
       let long : length (steps w.read) ≡ length w.judgements = sym (steps_long h.reads.read w.read h.reads.same) ∙ zip_long _ (steps h.reads.read) w.bound.steps h.binds.steps ∙ sym h.judged.count in

@@ -1,5 +1,6 @@
 -- The written steps have no fault that a step's words show.
-use Rattle.std.specs.Prelude.{◌≡◌, ◌⊎◌, ◌<◌, ◌+◌, ◌&&◌, ◌||◌, not, ◌==◌, nat_lt, nat_le, ℕ, zero, suc, Bool, true, false, List, [], ◌∷◌, length, map, take, filter, filter_map, slice_get, codes, Contains, Option, Some, None, is_some, refl}
+use Rattle.std.specs.Prelude.{◌≡◌, ◌⊎◌, ◌<◌, ◌+◌, ◌&&◌, ◌||◌, not, ◌==◌, nat_lt, nat_le, ℕ, zero, suc, Bool, true, false, List, [], ◌∷◌, length, map}
+use Rattle.std.specs.Prelude.{take, filter, filter_map, slice_get, codes, Contains, Option, Some, None, is_some, refl}
 use Rattle.std.specs.List.{AllByRecursion, list_all, list_any}
 use Rattle.std.specs.Option.{option_map_or}
 use Rattle.std.specs.Str.{bytes_eq}
@@ -20,7 +21,8 @@ use Rattle.sheet_text.specs.declared.sheet.SheetStep.{SheetStep}
 use Rattle.sheet_text.specs.Layout.{steps, step_of_item}
 use Rattle.sheet_text.specs.Spellable.{is_token}
 use Rattle.solve_model.specs.Bound.{Binds}
-use Rattle.solve_model.specs.BindFaults.{step_rules, BindFaultAt, hyps_differ, hyp_label_taken, hyp_with_hyps, is_blank, not_provable, unknown_symbol, wants_formula, formula_long, hyp_label_twice, begins_with_token}
+use Rattle.solve_model.specs.BindFaults.{step_rules, BindFaultAt, hyps_differ, hyp_label_taken, hyp_with_hyps, is_blank, not_provable, unknown_symbol}
+use Rattle.solve_model.specs.BindFaults.{wants_formula, formula_long, hyp_label_twice, begins_with_token}
 use Rattle.solve_model.specs.Binding.{existing, is_new, place_of, given_hyps, same_tokens, names_of, hyps_before, has_label, is_hyp, is_qed}
 use Rattle.solve_model.specs.Formulas.{leaf_of, is_known}
 use Rattle.written_model.specs.declared.options.Options.{Options}
@@ -66,14 +68,16 @@ derived_no_qed n (inl e) = ap (λ x. bytes_eq x (codes "qed")) e
 derived_no_qed n (inr h) = ap (λ x. bytes_eq x (codes "qed")) h.1
 
 -- what a sheet that binds says of its steps
-pub bound_rule : (db : Database) (s : Sheet) → ((line code : ℕ) → BindFaultAt db s line code → ⊥) → (k : ℕ) (code : ℕ) (rule : ℕ → SheetStep → Bool) → slice_get (step_rules db s) k ≡ Some (code, rule) → (i : ℕ) (t : SheetStep) → slice_get (steps s) i ≡ Some t → rule i t ≡ false
+pub bound_rule : (db : Database) (s : Sheet) → ((line code : ℕ) → BindFaultAt db s line code → ⊥) → (k : ℕ) (code : ℕ) (rule : ℕ → SheetStep → Bool)
+    → slice_get (step_rules db s) k ≡ Some (code, rule) → (i : ℕ) (t : SheetStep) → slice_get (steps s) i ≡ Some t → rule i t ≡ false
 bound_rule db s sound k code rule e i t at = elim (cases_Bool (rule i t)) [
   | inl d ↦ absurd (sound t.line code (BindFaultAt.at_step k i {code = code} {rule = rule} {t = t} e at d))
   | inr d ↦ d
 ]
 
 module _ (db : Database) (options : Options) (w : Writing) (numbers : List ℕ) (ds : List WrittenStep) (S : Setting db options w numbers ds)
-    (woven : Woven (λ k s e. slice_get (steps w.read) k ≡ Some s → IsWrittenOf db options w numbers ds S k s e) (IsNewOf db options w numbers ds S) 0 (steps w.read) (written_steps db options w numbers ds S))
+    (woven : Woven (λ k s e. slice_get (steps w.read) k ≡ Some s → IsWrittenOf db options w numbers ds S k s e) (IsNewOf db options w numbers ds S) 0
+        (steps w.read) (written_steps db options w numbers ds S))
     (rd : Binds db w.read w.bound) (inked : (k : ℕ) (s : SheetStep) → slice_get (steps w.read) k ≡ Some s → list_all is_token s.formula ≡ true) where
   abbrev es : List WrittenStep
   es = written_steps db options w numbers ds S
@@ -101,13 +105,17 @@ module _ (db : Database) (options : Options) (w : Writing) (numbers : List ℕ) 
     pub at : slice_get (steps w.read) number ≡ Some source
     pub own : Own number source e
     pub before : hyps_before ws i ≡ hyps_before w.read number
-    pub labels : (l : Name) → list_any (λ (u : SheetStep). u.hyp && has_label u.reference l) (take i (steps ws)) ≡ list_any (λ (u : SheetStep). u.hyp && has_label u.reference l) (take number (steps w.read))
+    pub labels : (l : Name)
+        → list_any (λ (u : SheetStep). u.hyp && has_label u.reference l) (take i (steps ws))
+            ≡ list_any (λ (u : SheetStep). u.hyp && has_label u.reference l) (take number (steps w.read))
 
   -- a part of the steps, each with what it was
   abbrev Held : ℕ → SheetStep → WrittenStep → Type 0
   Held k s e = (slice_get (steps w.read) k ≡ Some s) × Own k s e
 
-  held : (k : ℕ) (xs : List SheetStep) (ys : List WrittenStep) → ((j : ℕ) (s : SheetStep) → slice_get xs j ≡ Some s → slice_get (steps w.read) (k + j) ≡ Some s) → Woven Placed New k xs ys → Woven Held New k xs ys
+  held : (k : ℕ) (xs : List SheetStep) (ys : List WrittenStep)
+      → ((j : ℕ) (s : SheetStep) → slice_get xs j ≡ Some s → slice_get (steps w.read) (k + j) ≡ Some s) → Woven Placed New k xs ys
+      → Woven Held New k xs ys
   held k [] [] f h = h
   held k (s ∷ xs) [] f h = h
   held k [] (e ∷ ys) f h = (h.0, held k [] ys f h.1)
@@ -142,7 +150,9 @@ module _ (db : Database) (options : Options) (w : Writing) (numbers : List ℕ) 
         own = subst (λ n. Own n r.1 e) place own.1;
         before =
             ap (λ xs. length (filter (λ (x : SheetStep). x.hyp) xs)) taken
-            ∙ ap (λ (xs : List SheetStep). length xs) (filter-map_ (written_step db) (λ (x : WrittenStep). x.hyp) (λ (x : SheetStep). x.hyp) (λ x. refl) (take i es)) ∙ length-map_ (written_step db) (filter (λ (x : WrittenStep). x.hyp) (take i es))
+            ∙ ap (λ (xs : List SheetStep). length xs)
+                (filter-map_ (written_step db) (λ (x : WrittenStep). x.hyp) (λ (x : SheetStep). x.hyp) (λ x. refl) (take i es))
+                ∙ length-map_ (written_step db) (filter (λ (x : WrittenStep). x.hyp) (take i es))
             ∙ woven_count Held New (λ (s : SheetStep). s.hyp) (λ (x : WrittenStep). x.hyp) hyp_same (λ x n. n.hyp) 0 (take r.0 (steps w.read)) (take i es) r.4;
         labels = λ l.
             ap (list_any (λ (u : SheetStep). u.hyp && has_label u.reference l)) taken
@@ -156,7 +166,8 @@ module _ (db : Database) (options : Options) (w : Writing) (numbers : List ℕ) 
 
   -- ---- a source's own rules
 
-  read_rule : (k : ℕ) (code : ℕ) (rule : ℕ → SheetStep → Bool) → slice_get (step_rules db w.read) k ≡ Some (code, rule) → (i : ℕ) (t : SheetStep) → slice_get (steps w.read) i ≡ Some t → rule i t ≡ false
+  read_rule : (k : ℕ) (code : ℕ) (rule : ℕ → SheetStep → Bool) → slice_get (step_rules db w.read) k ≡ Some (code, rule) → (i : ℕ) (t : SheetStep)
+      → slice_get (steps w.read) i ≡ Some t → rule i t ≡ false
   read_rule = bound_rule db w.read rd.sound
 
   -- a hypothesis or `qed` is not blank
@@ -191,7 +202,8 @@ module _ (db : Database) (options : Options) (w : Writing) (numbers : List ℕ) 
   known k s at = subst (λ p. list_all (is_known db p) s.formula ≡ true) (sym rd.place) (from_not (list_all (is_known db (place_of db w.read)) s.formula) (read_rule 4 66 _ refl k s at))
 
   -- a formula that is that of the database stays
-  stays : (i : ℕ) (e : WrittenStep) (f : IsFrom i e) → (f.source.hyp || is_qed f.source) ≡ true → (formula : List _) → same_tokens f.source.formula (names_of db formula) ≡ true → formula_tokens db e.tree ≡ f.source.formula
+  stays : (i : ℕ) (e : WrittenStep) (f : IsFrom i e) → (f.source.hyp || is_qed f.source) ≡ true → (formula : List _)
+      → same_tokens f.source.formula (names_of db formula) ≡ true → formula_tokens db e.tree ≡ f.source.formula
   stays i e f h formula same =
       let full = filled f.number f.source f.at h in
       ap (formula_tokens db) f.own.tree
@@ -202,7 +214,8 @@ module _ (db : Database) (options : Options) (w : Writing) (numbers : List ℕ) 
   differ_new : (i : ℕ) (e : WrittenStep) → New e → hyps_differ db ws i (written_step db e) ≡ false
   differ_new i e n = let hyp = n.hyp in let qed = derived_no_qed e.name n.derived in rw (hyp, qed) refl
 
-  hyp_part : (i : ℕ) (e : WrittenStep) (f : IsFrom i e) (n : ℕ) (b : Bool) → f.source.hyp ≡ b → (b && option_map_or (λ h. not (is_hyp db h f.source)) (slice_get (given_hyps db w.read) n) (is_some (existing db w.read))) ≡ false
+  hyp_part : (i : ℕ) (e : WrittenStep) (f : IsFrom i e) (n : ℕ) (b : Bool) → f.source.hyp ≡ b
+      → (b && option_map_or (λ h. not (is_hyp db h f.source)) (slice_get (given_hyps db w.read) n) (is_some (existing db w.read))) ≡ false
       → (b && option_map_or (λ h. not (is_hyp db h (written_step db e))) (slice_get (given_hyps db w.read) n) (is_some (existing db w.read))) ≡ false
   hyp_part i e f n false is h = refl
   hyp_part i e f n true is h = by (slice_get (given_hyps db w.read) n) h
@@ -210,12 +223,14 @@ module _ (db : Database) (options : Options) (w : Writing) (numbers : List ℕ) 
       asked_of : (f.source.hyp || is_qed f.source) ≡ true
       asked_of = ap (λ b. b || is_qed f.source) is
 
-      by : (o : Option Hyp) → option_map_or (λ h. not (is_hyp db h f.source)) o (is_some (existing db w.read)) ≡ false → option_map_or (λ h. not (is_hyp db h (written_step db e))) o (is_some (existing db w.read)) ≡ false
+      by : (o : Option Hyp) → option_map_or (λ h. not (is_hyp db h f.source)) o (is_some (existing db w.read)) ≡ false
+          → option_map_or (λ h. not (is_hyp db h (written_step db e))) o (is_some (existing db w.read)) ≡ false
       by None q = q
       by (Some hyp) q =
           let both = and_parts (has_label f.source.reference hyp.name) (same_tokens f.source.formula (names_of db hyp.formula)) (from_not (is_hyp db hyp f.source) q) in
           let label : has_label e.reference hyp.name ≡ true = ap (λ r. has_label r hyp.name) (f.own.reference is) ∙ both.0 in
-          let tokens : same_tokens (formula_tokens db e.tree) (names_of db hyp.formula) ≡ true = ap (λ ts. same_tokens ts (names_of db hyp.formula)) (stays i e f asked_of hyp.formula both.1) ∙ both.1 in
+          let tokens : same_tokens (formula_tokens db e.tree) (names_of db hyp.formula) ≡ true =
+              ap (λ ts. same_tokens ts (names_of db hyp.formula)) (stays i e f asked_of hyp.formula both.1) ∙ both.1 in
           rw (label, tokens) refl
 
   qed_part : (i : ℕ) (e : WrittenStep) (f : IsFrom i e) (n : ℕ) (b : Bool) → is_qed f.source ≡ b
@@ -233,7 +248,8 @@ module _ (db : Database) (options : Options) (w : Writing) (numbers : List ℕ) 
           last true = refl
           last false = refl
 
-      by : (o : Option Frame) → option_map_or (λ (x : Frame). not (same_tokens f.source.formula (names_of db x.formula))) o false ≡ false → option_map_or (λ (x : Frame). not (same_tokens (formula_tokens db e.tree) (names_of db x.formula))) o false ≡ false
+      by : (o : Option Frame) → option_map_or (λ (x : Frame). not (same_tokens f.source.formula (names_of db x.formula))) o false ≡ false
+          → option_map_or (λ (x : Frame). not (same_tokens (formula_tokens db e.tree) (names_of db x.formula))) o false ≡ false
       by None q = refl
       by (Some x) q =
           let same = from_not (same_tokens f.source.formula (names_of db x.formula)) q in
@@ -256,19 +272,32 @@ module _ (db : Database) (options : Options) (w : Writing) (numbers : List ℕ) 
   taken_own : (i : ℕ) (e : WrittenStep) → IsFrom i e → hyp_label_taken db ws i (written_step db e) ≡ false
   taken_own i e f =
       let rule = read_rule 1 63 _ refl f.number f.source f.at in
-      ap (λ b. is_new db w.read && b && nat_le (length (given_hyps db w.read)) (hyps_before ws i) && option_map_or (λ l. is_some (label_of db l) || bytes_eq l w.read.theorem) e.reference false) f.own.hyp
+      ap (λ b. is_new db w.read && b && nat_le (length (given_hyps db w.read)) (hyps_before ws i)
+          && option_map_or (λ l. is_some (label_of db l) || bytes_eq l w.read.theorem) e.reference false) f.own.hyp
       ∙ ap (λ n. is_new db w.read && f.source.hyp && nat_le (length (given_hyps db w.read)) n && option_map_or (λ l. is_some (label_of db l) || bytes_eq l w.read.theorem) e.reference false) f.before
       ∙ by f.source.hyp refl rule
     where
-      by : (b : Bool) → f.source.hyp ≡ b → (is_new db w.read && b && nat_le (length (given_hyps db w.read)) (hyps_before w.read f.number) && option_map_or (λ l. is_some (label_of db l) || bytes_eq l w.read.theorem) f.source.reference false) ≡ false
-          → (is_new db w.read && b && nat_le (length (given_hyps db w.read)) (hyps_before w.read f.number) && option_map_or (λ l. is_some (label_of db l) || bytes_eq l w.read.theorem) e.reference false) ≡ false
-      by true is q = ap (λ r. is_new db w.read && true && nat_le (length (given_hyps db w.read)) (hyps_before w.read f.number) && option_map_or (λ l. is_some (label_of db l) || bytes_eq l w.read.theorem) r false) (f.own.reference is) ∙ q
-      by false is q = ap (λ b. b && nat_le (length (given_hyps db w.read)) (hyps_before w.read f.number) && option_map_or (λ l. is_some (label_of db l) || bytes_eq l w.read.theorem) e.reference false) (and_false (is_new db w.read))
+      by : (b : Bool) → f.source.hyp ≡ b
+          → (is_new db w.read && b && nat_le (length (given_hyps db w.read)) (hyps_before w.read f.number)
+              && option_map_or (λ l. is_some (label_of db l) || bytes_eq l w.read.theorem) f.source.reference false)
+              ≡ false
+          → (is_new db w.read && b && nat_le (length (given_hyps db w.read)) (hyps_before w.read f.number)
+              && option_map_or (λ l. is_some (label_of db l) || bytes_eq l w.read.theorem) e.reference false)
+              ≡ false
+      by true is q =
+          ap (λ r. is_new db w.read && true && nat_le (length (given_hyps db w.read)) (hyps_before w.read f.number)
+              && option_map_or (λ l. is_some (label_of db l) || bytes_eq l w.read.theorem) r false) (f.own.reference is) ∙ q
+      by false is q =
+          ap (λ b. b && nat_le (length (given_hyps db w.read)) (hyps_before w.read f.number)
+              && option_map_or (λ l. is_some (label_of db l) || bytes_eq l w.read.theorem) e.reference false) (and_false (is_new db w.read))
 
   taken_new : (i : ℕ) (e : WrittenStep) → New e → hyp_label_taken db ws i (written_step db e) ≡ false
   taken_new i e n =
       ap (λ b. is_new db w.read && b && nat_le (length (given_hyps db w.read)) (hyps_before ws i) && option_map_or (λ l. is_some (label_of db l) || bytes_eq l w.read.theorem) e.reference false) n.hyp
-      ∙ ap (λ b. b && nat_le (length (given_hyps db w.read)) (hyps_before ws i) && option_map_or (λ l. is_some (label_of db l) || bytes_eq l w.read.theorem) e.reference false) (and_false (is_new db w.read))
+      ∙ ap
+          (λ b. b && nat_le (length (given_hyps db w.read)) (hyps_before ws i)
+              && option_map_or (λ l. is_some (label_of db l) || bytes_eq l w.read.theorem) e.reference false)
+          (and_false (is_new db w.read))
 
   -- ---- 64 and 72
 
@@ -281,9 +310,13 @@ module _ (db : Database) (options : Options) (w : Writing) (numbers : List ℕ) 
 
   twice_own : (i : ℕ) (e : WrittenStep) → IsFrom i e → hyp_label_twice ws i (written_step db e) ≡ false
   twice_own i e f =
-      ap (λ b. b && option_map_or (λ l. list_any (λ (u : SheetStep). u.hyp && has_label u.reference l) (take i (steps ws))) e.reference false) f.own.hyp ∙ by f.source.hyp refl (read_rule 7 72 _ refl f.number f.source f.at)
+      ap (λ b. b
+          && option_map_or (λ l. list_any (λ (u : SheetStep). u.hyp && has_label u.reference l) (take i (steps ws))) e.reference false) f.own.hyp
+          ∙ by f.source.hyp refl (read_rule 7 72 _ refl f.number f.source f.at)
     where
-      same : (o : Option Name) → option_map_or (λ l. list_any (λ (u : SheetStep). u.hyp && has_label u.reference l) (take i (steps ws))) o false ≡ option_map_or (λ l. list_any (λ (u : SheetStep). u.hyp && has_label u.reference l) (take f.number (steps w.read))) o false
+      same : (o : Option Name)
+          → option_map_or (λ l. list_any (λ (u : SheetStep). u.hyp && has_label u.reference l) (take i (steps ws))) o false
+              ≡ option_map_or (λ l. list_any (λ (u : SheetStep). u.hyp && has_label u.reference l) (take f.number (steps w.read))) o false
       same None = refl
       same (Some l) = f.labels l
 
@@ -295,7 +328,9 @@ module _ (db : Database) (options : Options) (w : Writing) (numbers : List ℕ) 
 
   -- ---- all of them
 
-  module _ (provable_known : is_known db w.bound.place db.provable ≡ true) (back : (i : ℕ) (t : Tree) → slice_get (trees es) i ≡ Some t → (x : Leaf) → Contains (text db.rows t) x → leaf_of db w.bound.place (leaf_name db x) ≡ Some x)
+  module _ (provable_known : is_known db w.bound.place db.provable ≡ true)
+      (back : (i : ℕ) (t : Tree) → slice_get (trees es) i ≡ Some t → (x : Leaf) → Contains (text db.rows t) x
+          → leaf_of db w.bound.place (leaf_name db x) ≡ Some x)
       (short : (i : ℕ) (e : WrittenStep) → slice_get es i ≡ Some e → most_formula_tokens < length (formula_tokens db e.tree) → ⊥) where
     names_known : (xs : List Leaf) → ((x : Leaf) → Contains xs x → leaf_of db w.bound.place (leaf_name db x) ≡ Some x) → list_all (is_known db w.bound.place) (map (leaf_name db) xs) ≡ true
     names_known [] h = refl
@@ -315,7 +350,8 @@ module _ (db : Database) (options : Options) (w : Writing) (numbers : List ℕ) 
         ap (λ p. not (list_all (is_known db p) (formula_tokens db e.tree))) (sym rd.place) ∙ ap not all
 
     provable_false : (e : WrittenStep) → not_provable db (written_step db e) ≡ false
-    provable_false e = let self : bytes_eq db.provable db.provable ≡ true = (bytes_eq-Decides db.provable db.provable).1 refl in ap (λ b. not (is_blank (written_step db e)) && not b) self ∙ and_false (not (is_blank (written_step db e)))
+    provable_false e = let self : bytes_eq db.provable db.provable ≡ true = (bytes_eq-Decides db.provable db.provable).1 refl in
+        ap (λ b. not (is_blank (written_step db e)) && not b) self ∙ and_false (not (is_blank (written_step db e)))
 
     filled_false : (e : WrittenStep) → is_blank (written_step db e) ≡ false
     filled_false e = let off : (suc (length (map (leaf_name db) (text db.rows e.tree))) == 0) ≡ false = grind (arith, nat_tests) in off
@@ -332,7 +368,8 @@ module _ (db : Database) (options : Options) (w : Writing) (numbers : List ℕ) 
         above : (n : ℕ) → nat_lt most_formula_tokens n ≡ true → most_formula_tokens < n
         above n d = grind (arith, nat_tests, d)
 
-    both : (rule : ℕ → SheetStep → Bool) → ((i : ℕ) (e : WrittenStep) → New e → rule i (written_step db e) ≡ false) → ((i : ℕ) (e : WrittenStep) → IsFrom i e → rule i (written_step db e) ≡ false)
+    both : (rule : ℕ → SheetStep → Bool) → ((i : ℕ) (e : WrittenStep) → New e → rule i (written_step db e) ≡ false)
+        → ((i : ℕ) (e : WrittenStep) → IsFrom i e → rule i (written_step db e) ≡ false)
         → (i : ℕ) (e : WrittenStep) → slice_get es i ≡ Some e → rule i (written_step db e) ≡ false
     both rule n f i e at = elim (from_where i e at) [ inl x ↦ n i e x | inr x ↦ f i e x ]
 
@@ -354,7 +391,13 @@ module _ (db : Database) (options : Options) (w : Writing) (numbers : List ℕ) 
                 (λ i e at. wants_false e),
                 (
                   long_false,
-                  (both (hyp_label_twice ws) (λ i e n. ap (λ b. b && option_map_or (λ l. list_any (λ (u : SheetStep). u.hyp && has_label u.reference l) (take i (steps ws))) e.reference false) n.hyp) twice_own, tt),
+                  (both (hyp_label_twice ws)
+                      (λ i e n. ap
+                          (λ b. b
+                              && option_map_or
+                                  (λ l. list_any (λ (u : SheetStep). u.hyp && has_label u.reference l)
+                                      (take i (steps ws))) e.reference false) n.hyp) twice_own,
+                      tt),
                 ),
               ),
             ),

@@ -31,19 +31,28 @@ use Rattle.again_laws.proofs.LeafLaws.{leaves-Var, leaves-Work, leaves-Fresh, le
 
 -- ---- the texts of slots
 
-slot_shown : (k : ℕ) (texts : List (List Leaf)) (x : Leaf) → Contains (slice_index_or texts k []) x → (items : List Item) → place_of k (slot_order items) < length (slot_order items) → Contains (items_text texts items) x
+slot_shown : (k : ℕ) (texts : List (List Leaf)) (x : Leaf) → Contains (slice_index_or texts k []) x → (items : List Item)
+    → place_of k (slot_order items) < length (slot_order items) → Contains (items_text texts items) x
 slot_shown k texts x m [] less = absurd (omega (arith, less))
 slot_shown k texts x m (item.Const s ∷ items) less = Contains-append_right (leaf.Const s ∷ []) (items_text texts items) x (slot_shown k texts x m items less)
 slot_shown k texts x m (item.Slot j ∷ items) less = elim (cases_Bool (k == j)) [
-  | inl d ↦ let same : k ≡ j = grind (arith, nat_tests) in Contains-append_left (slice_index_or texts j []) (items_text texts items) x (subst (λ (n : ℕ). Contains (slice_index_or texts n []) x) same m)
-  | inr d ↦ let rest : suc (place_of k (slot_order items)) < suc (length (slot_order items)) = rw d at less in Contains-append_right (slice_index_or texts j []) (items_text texts items) x (slot_shown k texts x m items (omega (arith, rest)))
+  | inl d ↦ let same : k ≡ j = grind (arith, nat_tests) in
+      Contains-append_left (slice_index_or texts j []) (items_text texts items) x (subst (λ (n : ℕ). Contains (slice_index_or texts n []) x) same m)
+  | inr d ↦ let rest : suc (place_of k (slot_order items)) < suc (length (slot_order items)) = rw d at less in
+      Contains-append_right (slice_index_or texts j []) (items_text texts items) x (slot_shown k texts x m items (omega (arith, rest)))
 ]
 
 -- what stands in the texts of slots stands in the text of one
 slot_source : (texts : List (List Leaf)) (x : Leaf) → ((s : Sym) → x ≡ leaf.Const s → ⊥) → (items : List Item) → Contains (items_text texts items) x → (k : ℕ) × Contains (slice_index_or texts k []) x
 slot_source texts x no_const [] m = absurd (nothing x m)
-slot_source texts x no_const (item.Const s ∷ items) m = elim (Contains-append_cases (leaf.Const s ∷ []) (items_text texts items) x m) [ inl h ↦ absurd (no_const s (sym (only x (leaf.Const s) h))) | inr h ↦ slot_source texts x no_const items h ]
-slot_source texts x no_const (item.Slot j ∷ items) m = elim (Contains-append_cases (slice_index_or texts j []) (items_text texts items) x m) [ inl h ↦ (j, h) | inr h ↦ slot_source texts x no_const items h ]
+slot_source texts x no_const (item.Const s ∷ items) m =
+    elim
+        (Contains-append_cases (leaf.Const s ∷ []) (items_text texts items) x m) [ inl h ↦ absurd
+            (no_const s (sym (only x (leaf.Const s) h))) | inr h ↦ slot_source texts x no_const items h ]
+slot_source texts x no_const (item.Slot j ∷ items) m =
+    elim
+        (Contains-append_cases (slice_index_or texts j []) (items_text texts items) x m) [ inl h ↦
+            (j, h) | inr h ↦ slot_source texts x no_const items h ]
 
 -- ---- leaves of a kind: a list of them for each tree, and what they are in a text
 
@@ -55,7 +64,8 @@ module _ {Y : Type 0} (L : Tree → List Y) (y : Y) (x : Leaf) (at_node : (l : L
     abbrev Shown : Tree → Type 0
     Shown t = IsTyped rows before t → Contains (L t) y → Contains (text rows t) x
 
-    child_shown : (ts : List Tree) → Each Shown ts → Each (IsTyped rows before) ts → Contains (flatten (map L ts)) y → (k : ℕ) × (k < length ts) × Contains (slice_index_or (map (text rows) ts) k []) x
+    child_shown : (ts : List Tree) → Each Shown ts → Each (IsTyped rows before) ts → Contains (flatten (map L ts)) y
+        → (k : ℕ) × (k < length ts) × Contains (slice_index_or (map (text rows) ts) k []) x
     child_shown [] h p m = absurd (nothing y m)
     child_shown (t ∷ ts) h p m = elim (Contains-append_cases (L t) (flatten (map L ts)) y m) [
       | inl o ↦ (0, omega arith, h.0 p.0 o)
@@ -107,7 +117,8 @@ module _ {Y : Type 0} (L : Tree → List Y) (y : Y) (x : Leaf) (at_node : (l : L
 abbrev pub variable_leaf : TypedVariable → Leaf
 variable_leaf v = leaf.Var v.sym v.code
 
-pub variable_shown : (rows : List Production) (before : ℕ) → AreRows rows → (v : TypedVariable) (t : Tree) → IsTyped rows before t → Contains (typed_leaves t) v → Contains (text rows t) (variable_leaf v)
+pub variable_shown : (rows : List Production) (before : ℕ) → AreRows rows → (v : TypedVariable) (t : Tree) → IsTyped rows before t
+    → Contains (typed_leaves t) v → Contains (text rows t) (variable_leaf v)
 variable_shown rows before are v =
     shown typed_leaves v (variable_leaf v) leaves-Node rows before are
     (λ s c m. ap variable_leaf (only v (typed s c) (rw leaves-Var at m)))
@@ -130,7 +141,8 @@ variable_told rows v =
     const : (s : Sym) → variable_leaf v ≡ leaf.Const s → ⊥
     const s e = cc
 
-pub work_shown : (rows : List Production) (before : ℕ) → AreRows rows → (d : Typecode) (m : ℕ) (t : Tree) → IsTyped rows before t → Contains (open_leaves t) (work d m) → Contains (text rows t) (leaf.Work d m)
+pub work_shown : (rows : List Production) (before : ℕ) → AreRows rows → (d : Typecode) (m : ℕ) (t : Tree) → IsTyped rows before t
+    → Contains (open_leaves t) (work d m) → Contains (text rows t) (leaf.Work d m)
 work_shown rows before are d m =
     shown open_leaves (work d m) (leaf.Work d m) open_leaves-Node rows before are
     (λ s c o. absurd (nothing (work d m) (rw open_leaves-Var at o)))

@@ -1,5 +1,6 @@
 -- A leaf's name reads back as that leaf.
-use Rattle.std.specs.Prelude.{◌≡◌, ◌⊎◌, ◌<◌, ◌≤◌, ◌^◌, ℕ, Bool, true, false, List, [], ◌∷◌, length, filter_map, slice_get, slice_index_or, Contains, Option, Some, None, option_map, refl, nat_lt}
+use Rattle.std.specs.Prelude.{◌≡◌, ◌⊎◌, ◌<◌, ◌≤◌, ◌^◌, ℕ, Bool, true, false, List, [], ◌∷◌, length, filter_map, slice_get, slice_index_or, Contains}
+use Rattle.std.specs.Prelude.{Option, Some, None, option_map, refl, nat_lt}
 use Rattle.std.specs.List.{position, position_or_len}
 use Rattle.std.specs.Str.{bytes_eq}
 use Rattle.std.proofs.Common.{sym, ap, subst, ◌∙◌, inl, inr, cond, get_or}
@@ -109,7 +110,8 @@ work_told db token d x e = by_constant (db.is_constant_at d.0 db.statement_count
         no : None ≡ Some x → ⊥
         no q = cc
 
-pub work_made : (db : Database) (token : Name) (d : Typecode) (n : ℕ) → db.is_constant_at d.0 db.statement_count ≡ true → IsNameOf token (symbol_name db d.0) n → work_of db token d ≡ Some (leaf.Work d n)
+pub work_made : (db : Database) (token : Name) (d : Typecode) (n : ℕ) → db.is_constant_at d.0 db.statement_count ≡ true
+    → IsNameOf token (symbol_name db d.0) n → work_of db token d ≡ Some (leaf.Work d n)
 work_made db token d n constant named = let number = told_number token (symbol_name db d.0) n named in rw (constant, number) refl
 
 -- ---- a token's leaf has the token's name
@@ -135,7 +137,8 @@ constant_read db facts place s less constant = let found = symbol_found db facts
 
 -- ---- a work variable is read
 
-first_is : {X Y : Type 0} (f : X → Option Y) (xs : List X) (x : X) (y : Y) → Contains xs x → f x ≡ Some y → ((z : X) (q : Y) → Contains xs z → f z ≡ Some q → q ≡ y) → slice_get (filter_map f xs) 0 ≡ Some y
+first_is : {X Y : Type 0} (f : X → Option Y) (xs : List X) (x : X) (y : Y) → Contains xs x → f x ≡ Some y
+    → ((z : X) (q : Y) → Contains xs z → f z ≡ Some q → q ≡ y) → slice_get (filter_map f xs) 0 ≡ Some y
 first_is f [] x y m e only = absurd (nothing x m)
 first_is f (z ∷ xs) x y m e only = by (f z) refl (λ k. first_is f xs x y k e (λ p q n h. only p q (later p z xs n) h))
   where
@@ -146,8 +149,10 @@ first_is f (z ∷ xs) x y m e only = by (f z) refl (λ k. first_is f xs x y k e 
         clash q = cc
     by (Some q) is rest = rw is (ap (λ w. Some w) (only z q (first z z xs refl) is))
 
-module _ (db : Database) (facts : IsDatabase db) (place : ℕ) (within : (d : Typecode) → Contains (work_codes db place) d → db.is_constant_at d.0 db.statement_count ≡ true → d.0.0 < length db.symbols) where
-  code_same : (c d : Typecode) → Contains (work_codes db place) c → Contains (work_codes db place) d → db.is_constant_at c.0 db.statement_count ≡ true → db.is_constant_at d.0 db.statement_count ≡ true
+module _ (db : Database) (facts : IsDatabase db) (place : ℕ)
+    (within : (d : Typecode) → Contains (work_codes db place) d → db.is_constant_at d.0 db.statement_count ≡ true → d.0.0 < length db.symbols) where
+  code_same : (c d : Typecode) → Contains (work_codes db place) c → Contains (work_codes db place) d → db.is_constant_at c.0 db.statement_count ≡ true
+      → db.is_constant_at d.0 db.statement_count ≡ true
       → symbol_name db c.0 ≡ symbol_name db d.0 → c ≡ d
   code_same c d mc md kc kd e =
       let one = symbol_found db facts c.0 (within c mc kc) in
@@ -155,7 +160,8 @@ module _ (db : Database) (facts : IsDatabase db) (place : ℕ) (within : (d : Ty
       let same : c.0 ≡ d.0 = some_same c.0 d.0 (sym one ∙ ap (symbol_of db) e ∙ two) in
       ap (λ (s : Sym). let t : Typecode = record { 0 = s } in t) same
 
-  pub work_read : (c : Typecode) (n : ℕ) → 1 ≤ n → n < 2 ^ 32 → Contains (work_codes db place) c → db.is_constant_at c.0 db.statement_count ≡ true → symbol_of db (spelling (symbol_name db c.0) n) ≡ None
+  pub work_read : (c : Typecode) (n : ℕ) → 1 ≤ n → n < 2 ^ 32 → Contains (work_codes db place) c → db.is_constant_at c.0 db.statement_count ≡ true
+      → symbol_of db (spelling (symbol_name db c.0) n) ≡ None
       → leaf_of db place (spelling (symbol_name db c.0) n) ≡ Some (leaf.Work c n)
   work_read c n one small mc kc new =
       let token = spelling (symbol_name db c.0) n in

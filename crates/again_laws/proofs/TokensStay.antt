@@ -65,7 +65,8 @@ declared_one db facts token y inked e = elim (cases_Bool (nat_lt y.0 (length db.
     clash q = cc
 
 -- tokens that are the names of symbols are declared
-pub all_declared : (db : Database) → IsDatabase db → (tokens : List Name) (ys : List Sym) → list_all is_token tokens ≡ true → same_tokens tokens (names_of db ys) ≡ true → (token : Name) → Contains tokens token → IsDeclared db token
+pub all_declared : (db : Database) → IsDatabase db → (tokens : List Name) (ys : List Sym) → list_all is_token tokens ≡ true
+    → same_tokens tokens (names_of db ys) ≡ true → (token : Name) → Contains tokens token → IsDeclared db token
 all_declared db facts [] ys inked same token m = absurd (nothing token m)
 all_declared db facts (t ∷ tokens) [] inked same token m = absurd (clash same)
   where
@@ -92,7 +93,8 @@ known_names db place (t ∷ tokens) h = by (leaf_of db place t) refl (known_name
     by None e rest = let bad : false ≡ true = rw e at known in absurd cc
     by (Some x) e rest = let name = leaf_told db place t x e in rw e (ap (λ n. n ∷ map (leaf_name db) (filter_map (leaf_of db place) tokens)) name ∙ ap (λ ns. t ∷ ns) rest)
 
-pub tokens_back : (db : Database) (place : ℕ) (tokens : List Name) (t : Tree) → (tokens ≡ [] → ⊥) → begins_with_token db.provable tokens ≡ true → list_all (is_known db place) tokens ≡ true → text db.rows t ≡ expression_of db place tokens → formula_tokens db t ≡ tokens
+pub tokens_back : (db : Database) (place : ℕ) (tokens : List Name) (t : Tree) → (tokens ≡ [] → ⊥) → begins_with_token db.provable tokens ≡ true
+    → list_all (is_known db place) tokens ≡ true → text db.rows t ≡ expression_of db place tokens → formula_tokens db t ≡ tokens
 tokens_back db place [] t filled provable known e = absurd (filled refl)
 tokens_back db place (p ∷ rest) t filled provable known e =
     let first : p ≡ db.provable = (bytes_eq-Decides p db.provable).0 provable in
@@ -111,7 +113,8 @@ module _ (db : Database) (options : Options) (w : Writing) (numbers : List ℕ) 
   named_stays : (t : Tree) → IsClosedTree t → name_tree w.names t ≡ t
   named_stays t closed = replace-agree (λ s c. Var s c) (λ s c. Var s c) (name_leaf w.names) leaf_tree (λ s c. refl) t (λ x o. absurd (closed x o)) ∙ replace-self t
 
-  no_work : (tokens : List Name) → ((token : Name) → Contains tokens token → IsDeclared db token) → (t : Tree) → text db.rows t ≡ expression_of db place tokens → (c : Typecode) (n : ℕ) → Contains (text db.rows t) (leaf.Work c n) → ⊥
+  no_work : (tokens : List Name) → ((token : Name) → Contains tokens token → IsDeclared db token) → (t : Tree)
+      → text db.rows t ≡ expression_of db place tokens → (c : Typecode) (n : ℕ) → Contains (text db.rows t) (leaf.Work c n) → ⊥
   no_work tokens declared t e c n m =
       let r = from_filter_map (leaf_of db place) (drop 1 tokens) (leaf.Work c n) (subst (λ xs. Contains xs (leaf.Work c n)) e m) in
       let d = declared r.0 (dropped tokens r.0 r.1) in
@@ -122,19 +125,22 @@ module _ (db : Database) (options : Options) (w : Writing) (numbers : List ℕ) 
       dropped [] x k = k
       dropped (y ∷ xs) x (k, l, q) = (suc k, omega (arith, l), q)
 
-  by_tree : (k : ℕ) (b : BoundStep) → slice_get w.bound.steps k ≡ Some b → (tokens : List Name) → (tokens ≡ [] → ⊥) → begins_with_token db.provable tokens ≡ true → list_all (is_known db place) tokens ≡ true
+  by_tree : (k : ℕ) (b : BoundStep) → slice_get w.bound.steps k ≡ Some b → (tokens : List Name) → (tokens ≡ [] → ⊥)
+      → begins_with_token db.provable tokens ≡ true → list_all (is_known db place) tokens ≡ true
       → ((token : Name) → Contains tokens token → IsDeclared db token) → (o : Option Tree) → HasTree db place tokens o → formula_tokens db (name_tree w.names (formula_value w.value k o)) ≡ tokens
   by_tree k b at tokens filled provable known declared None h = absurd (filled h)
   by_tree k b at tokens filled provable known declared (Some t) h =
       let closed : IsClosedTree t = closed_by t h.parses.typed h.parses.named h.parses.written in
-      ap (λ u. formula_tokens db (name_tree w.names u)) (stays_valued w.value t closed) ∙ ap (formula_tokens db) (named_stays t closed) ∙ tokens_back db place tokens t filled provable known h.parses.written
+      ap (λ u. formula_tokens db (name_tree w.names u)) (stays_valued w.value t closed) ∙ ap (formula_tokens db) (named_stays t closed)
+          ∙ tokens_back db place tokens t filled provable known h.parses.written
     where
       closed_by : (u : Tree) → IsTyped db.rows place u → HasNoFresh u → text db.rows u ≡ expression_of db place tokens → IsClosedTree u
       closed_by u typed_ named_ e (work c n) o = no_work tokens declared u e c n (work_shown db.rows place S.facts.grammar.rows_hold c n u typed_ o)
       closed_by u typed_ named_ e (fresh c n) o = no_fresh_leaf c n u named_ o
 
   -- a formula whose tokens are those of symbols of the database
-  pub tokens_stay : (k : ℕ) (s : SheetStep) → slice_get (steps w.read) k ≡ Some s → (s.formula ≡ [] → ⊥) → begins_with_token db.provable s.formula ≡ true → list_all (is_known db place) s.formula ≡ true
+  pub tokens_stay : (k : ℕ) (s : SheetStep) → slice_get (steps w.read) k ≡ Some s → (s.formula ≡ [] → ⊥)
+      → begins_with_token db.provable s.formula ≡ true → list_all (is_known db place) s.formula ≡ true
       → list_all is_token s.formula ≡ true → (ys : List Sym) → same_tokens s.formula (names_of db ys) ≡ true → formula_tokens db (name_tree w.names (formula w.bound w.value k)) ≡ s.formula
   tokens_stay k s at filled provable known inked ys same =
       let b = S.bound_steps k s at in

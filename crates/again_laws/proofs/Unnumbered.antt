@@ -1,5 +1,6 @@
 -- What is bound does not rest on the numbers of lines.
-use Rattle.std.specs.Prelude.{◌≡◌, ◌⊎◌, ◌&&◌, ◌||◌, not, ℕ, zero, suc, Bool, true, false, List, [], ◌∷◌, ◌++◌, length, map, take, drop, find, filter, filter_map, flat_map, nat_lt, nat_le, is_some, slice_get, Option, Some, None, refl}
+use Rattle.std.specs.Prelude.{◌≡◌, ◌⊎◌, ◌&&◌, ◌||◌, not, ℕ, zero, suc, Bool, true, false, List, [], ◌∷◌, ◌++◌, length, map, take, drop, find, filter}
+use Rattle.std.specs.Prelude.{filter_map, flat_map, nat_lt, nat_le, is_some, slice_get, Option, Some, None, refl}
 use Rattle.std.specs.List.{AllZip, list_any}
 use Rattle.std.specs.Option.{option_map_or}
 use Rattle.std.proofs.Common.{sym, ap, subst, ◌∙◌, cond, inl, inr}
@@ -20,7 +21,8 @@ use Rattle.sheet_text.specs.Reads.{unnumbered, unnumbered_item, unnumbered_pairs
 use Rattle.solve_model.specs.declared.bound.Bound.{Bound}
 use Rattle.solve_model.specs.declared.bound.BoundStep.{BoundStep}
 use Rattle.solve_model.specs.PairSets.{pair_set}
-use Rattle.solve_model.specs.Binding.{existing, is_new, place_of, given_hyps, same_tokens, names_of, hyps_before, has_label, is_hyp, is_qed, symbols_from, two_of, given_pairs, new_hyp, theorem_hyps, qed_formula, theorem_of, mandatory_of}
+use Rattle.solve_model.specs.Binding.{existing, is_new, place_of, given_hyps, same_tokens, names_of, hyps_before, has_label, is_hyp, is_qed}
+use Rattle.solve_model.specs.Binding.{symbols_from, two_of, given_pairs, new_hyp, theorem_hyps, qed_formula, theorem_of, mandatory_of}
 use Rattle.solve_model.specs.BindFaults.{header_rules, step_rules, BindFaultAt, hyps_differ, hyp_label_taken, hyp_label_twice, not_variable, asks_for_tree}
 use Rattle.solve_model.specs.Formulas.{HasNoTree, HasTwoTrees}
 use Rattle.solve_model.specs.Bound.{IsBoundStep, Binds}
@@ -66,11 +68,15 @@ pub any-map_ : {X Y : Type 0} (f : X → Y) (p : X → Bool) (q : Y → Bool) �
 any-map_ f p q h [] = refl
 any-map_ f p q h (x ∷ xs) = ap (λ t. t || list_any q (map f xs)) (h x) ∙ ap (λ t. p x || t) (any-map_ f p q h xs)
 
-find-map_ : {X Y : Type 0} (f : X → Y) (p : X → Bool) (q : Y → Bool) → ((x : X) → q (f x) ≡ p x) → (xs : List X) → (find q (map f xs) ≡ None) × (find p xs ≡ None) ⊎ ((x : X) × (find p xs ≡ Some x) × (find q (map f xs) ≡ Some (f x)))
+find-map_ : {X Y : Type 0} (f : X → Y) (p : X → Bool) (q : Y → Bool) → ((x : X) → q (f x) ≡ p x) → (xs : List X)
+    → (find q (map f xs) ≡ None) × (find p xs ≡ None) ⊎ ((x : X) × (find p xs ≡ Some x) × (find q (map f xs) ≡ Some (f x)))
 find-map_ f p q h [] = inl (refl, refl)
 find-map_ f p q h (x ∷ xs) = by (p x) refl (find-map_ f p q h xs)
   where
-    by : (t : Bool) → p x ≡ t → ((find q (map f xs) ≡ None) × (find p xs ≡ None) ⊎ ((y : _) × (find p xs ≡ Some y) × (find q (map f xs) ≡ Some (f y)))) → (find q (map f (x ∷ xs)) ≡ None) × (find p (x ∷ xs) ≡ None) ⊎ ((y : _) × (find p (x ∷ xs) ≡ Some y) × (find q (map f (x ∷ xs)) ≡ Some (f y)))
+    by : (t : Bool) → p x ≡ t
+        → ((find q (map f xs) ≡ None) × (find p xs ≡ None) ⊎ ((y : _) × (find p xs ≡ Some y) × (find q (map f xs) ≡ Some (f y))))
+        → (find q (map f (x ∷ xs)) ≡ None) × (find p (x ∷ xs) ≡ None)
+            ⊎ ((y : _) × (find p (x ∷ xs) ≡ Some y) × (find q (map f (x ∷ xs)) ≡ Some (f y)))
     by true e rest = let there : q (f x) ≡ true = h x ∙ e in inr (x, rw e refl, rw there refl)
     by false e rest = let there : q (f x) ≡ false = h x ∙ e in rw (e, there) rest
 
@@ -84,7 +90,9 @@ module _ (db : Database) (s : Sheet) where
   before_are : (i : ℕ) → hyps_before t i ≡ hyps_before s i
   before_are i =
       ap (λ xs. length (filter (λ (x : SheetStep). x.hyp) (take i xs))) steps_are ∙ ap (λ xs. length (filter (λ (x : SheetStep). x.hyp) xs)) (take-map plain i (steps s))
-      ∙ ap (λ (xs : List SheetStep). length xs) (filter-map_ plain (λ (x : SheetStep). x.hyp) (λ (x : SheetStep). x.hyp) (λ x. refl) (take i (steps s))) ∙ length-map_ plain (filter (λ (x : SheetStep). x.hyp) (take i (steps s)))
+      ∙ ap (λ (xs : List SheetStep). length xs)
+          (filter-map_ plain (λ (x : SheetStep). x.hyp) (λ (x : SheetStep). x.hyp) (λ x. refl) (take i (steps s)))
+          ∙ length-map_ plain (filter (λ (x : SheetStep). x.hyp) (take i (steps s)))
 
   differ_are : (i : ℕ) (x : SheetStep) → hyps_differ db t i (plain x) ≡ hyps_differ db s i x
   differ_are i x =
@@ -99,7 +107,8 @@ module _ (db : Database) (s : Sheet) where
     where
       one : (l : Name) → list_any (λ (u : SheetStep). u.hyp && has_label u.reference l) (take i (steps t)) ≡ list_any (λ (u : SheetStep). u.hyp && has_label u.reference l) (take i (steps s))
       one l =
-          ap (λ xs. list_any (λ (u : SheetStep). u.hyp && has_label u.reference l) (take i xs)) steps_are ∙ ap (list_any (λ (u : SheetStep). u.hyp && has_label u.reference l)) (take-map plain i (steps s))
+          ap (λ xs. list_any (λ (u : SheetStep). u.hyp && has_label u.reference l) (take i xs)) steps_are
+              ∙ ap (list_any (λ (u : SheetStep). u.hyp && has_label u.reference l)) (take-map plain i (steps s))
           ∙ any-map_ plain (λ (u : SheetStep). u.hyp && has_label u.reference l) (λ (u : SheetStep). u.hyp && has_label u.reference l) (λ u. refl) (take i (steps s))
 
       by : (o : Option Name) → (x.hyp && option_map_or (λ l. list_any (λ (u : SheetStep). u.hyp && has_label u.reference l) (take i (steps t))) o false)
@@ -183,7 +192,9 @@ module _ (db : Database) (s : Sheet) where
   zip_back place (x ∷ ss) [] h = absurd h
   zip_back place (x ∷ ss) (b ∷ bs) h = let it = h.0 in (record { hyp = it.hyp; name = it.name; places = it.places; reference = it.reference; tree = it.tree }, zip_back place ss bs h.1)
 
-  pairs-same : (ps : List PairLine) → flat_map (λ (p : PairLine). two_of (filter_map (symbol_of db) p.names)) (map unnumbered_pairs ps) ≡ flat_map (λ (p : PairLine). two_of (filter_map (symbol_of db) p.names)) ps
+  pairs-same : (ps : List PairLine)
+      → flat_map (λ (p : PairLine). two_of (filter_map (symbol_of db) p.names)) (map unnumbered_pairs ps)
+          ≡ flat_map (λ (p : PairLine). two_of (filter_map (symbol_of db) p.names)) ps
   pairs-same [] = refl
   pairs-same (p ∷ ps) = ap (λ xs. two_of (filter_map (symbol_of db) p.names) ++ xs) (pairs-same ps)
 
@@ -193,7 +204,8 @@ module _ (db : Database) (s : Sheet) where
   hyps_are : theorem_hyps db t ≡ theorem_hyps db s
   hyps_are =
       ap (λ xs. (db.active_at (place_of db s)).hyps ++ map (new_hyp db) (drop (length (given_hyps db s)) (filter (λ (x : SheetStep). x.hyp) xs))) steps_are
-      ∙ ap (λ xs. (db.active_at (place_of db s)).hyps ++ map (new_hyp db) (drop (length (given_hyps db s)) xs)) (filter-map_ plain (λ (x : SheetStep). x.hyp) (λ (x : SheetStep). x.hyp) (λ x. refl) (steps s))
+      ∙ ap (λ xs. (db.active_at (place_of db s)).hyps ++ map (new_hyp db) (drop (length (given_hyps db s)) xs))
+          (filter-map_ plain (λ (x : SheetStep). x.hyp) (λ (x : SheetStep). x.hyp) (λ x. refl) (steps s))
       ∙ ap (λ xs. (db.active_at (place_of db s)).hyps ++ map (new_hyp db) xs) (drop-map plain (length (given_hyps db s)) (filter (λ (x : SheetStep). x.hyp) (steps s)))
       ∙ ap (λ xs. (db.active_at (place_of db s)).hyps ++ xs) (map-map (new_hyp db) plain (drop (length (given_hyps db s)) (filter (λ (x : SheetStep). x.hyp) (steps s))))
 
@@ -201,7 +213,8 @@ module _ (db : Database) (s : Sheet) where
   qed_are = ap (λ xs. option_map_or (λ (x : SheetStep). symbols_from db x.formula) (find is_qed xs) []) steps_are ∙ by (find-map_ plain is_qed is_qed (λ x. refl) (steps s))
     where
       by : (find is_qed (map plain (steps s)) ≡ None) × (find is_qed (steps s) ≡ None) ⊎ ((x : SheetStep) × (find is_qed (steps s) ≡ Some x) × (find is_qed (map plain (steps s)) ≡ Some (plain x)))
-          → option_map_or (λ (x : SheetStep). symbols_from db x.formula) (find is_qed (map plain (steps s))) [] ≡ option_map_or (λ (x : SheetStep). symbols_from db x.formula) (find is_qed (steps s)) []
+          → option_map_or (λ (x : SheetStep). symbols_from db x.formula) (find is_qed (map plain (steps s))) []
+              ≡ option_map_or (λ (x : SheetStep). symbols_from db x.formula) (find is_qed (steps s)) []
       by (inl h) = let one = h.0 in let two = h.1 in rw (one, two) refl
       by (inr h) = let one = h.1 in let two = h.2 in rw (one, two) refl
 

@@ -1,5 +1,6 @@
 -- The uses of the written steps.
-use Rattle.std.specs.Prelude.{◌≡◌, ◌<◌, ◌≤◌, ◌+◌, ◌&&◌, not, nat_lt, nat_le, is_none, ℕ, zero, suc, Bool, true, false, List, [], ◌∷◌, ◌++◌, length, map, drop, Contains, slice_get, Some, None, refl}
+use Rattle.std.specs.Prelude.{◌≡◌, ◌<◌, ◌≤◌, ◌+◌, ◌&&◌, not, nat_lt, nat_le, is_none, ℕ, zero, suc, Bool, true, false, List, [], ◌∷◌, ◌++◌, length}
+use Rattle.std.specs.Prelude.{map, drop, Contains, slice_get, Some, None, refl}
 use Rattle.std.specs.List.{AllZip, list_all, range_with_len}
 use Rattle.std.proofs.Common.{sym, ap, subst, ◌∙◌, arith, inl, inr}
 use Rattle.std.proofs.lemmas.Bool.{and_parts}
@@ -59,7 +60,8 @@ given_hold ns ts u same (t ∷ hs) (given.Gap ∷ gs) h = absurd (none h.0)
     none e = cc
 given_hold ns ts u same (t ∷ hs) (given.Step k ∷ gs) h = (ap (λ xs. slice_get xs k) same ∙ h.0, given_hold ns ts u same hs gs h.1)
 
-given_shown : (ns : List WrittenStep) (u : Use) (v : TypedVariable) (hs : List Tree) (gs : List Given) → AllGiven ns u hs gs → (j : ℕ) (t : Tree) → slice_get hs j ≡ Some t → Contains (typed_leaves t) v → Contains (shown_leaves gs hs) v
+given_shown : (ns : List WrittenStep) (u : Use) (v : TypedVariable) (hs : List Tree) (gs : List Given) → AllGiven ns u hs gs → (j : ℕ) (t : Tree)
+    → slice_get hs j ≡ Some t → Contains (typed_leaves t) v → Contains (shown_leaves gs hs) v
 given_shown ns u v [] gs h j t e m = absurd (none j e)
   where
     none : (n : ℕ) → slice_get [] n ≡ Some t → ⊥
@@ -189,7 +191,9 @@ module _ (db : Database) (options : Options) (w : Writing) (numbers : List ℕ) 
           frame_is = is.frame;
           earlier = (let r : nat_lt (position_of db c.label) place ≡ true = grind (arith, nat_tests, less) in r);
           usable = fit.is_usable;
-          has_places = (let le : length c.places ≤ length u.assertion.hyps = omega (arith, count) in let r : nat_le (length c.places) (length u.assertion.hyps) ≡ true = grind (arith, nat_tests, le) in r);
+          has_places =
+              (let le : length c.places ≤ length u.assertion.hyps = omega (arith, count) in
+                  let r : nat_le (length c.places) (length u.assertion.hyps) ≡ true = grind (arith, nat_tests, le) in r);
         }
 
     found_codes : (v : TypedVariable) → Contains u.assertion.vars v → code_of (value_of u v.sym) ≡ v.code
@@ -210,7 +214,9 @@ module _ (db : Database) (options : Options) (w : Writing) (numbers : List ℕ) 
 
     found_shown : (v : TypedVariable) → StandsIn u.assertion v → Contains (shown_by u.assertion c.places) v
     found_shown v (inl o) = Contains-append_left (typed_leaves u.assertion.tree) (shown_leaves c.places u.assertion.hyps) v o
-    found_shown v (inr o) = Contains-append_right (typed_leaves u.assertion.tree) (shown_leaves c.places u.assertion.hyps) v (given_shown named_steps u v u.assertion.hyps c.places fit.hyps o.0 o.1 o.2 o.3)
+    found_shown v (inr o) =
+        Contains-append_right (typed_leaves u.assertion.tree) (shown_leaves c.places u.assertion.hyps) v
+            (given_shown named_steps u v u.assertion.hyps c.places fit.hyps o.0 o.1 o.2 o.3)
 
     pub found_use : IsUse i step_found u
     found_use = record {

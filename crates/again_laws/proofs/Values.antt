@@ -16,12 +16,14 @@ find_value vars values s = option_map_or (λ (p : TypedVariable × Tree). p.1) (
 same_sym : (s t : Sym) → (s.0 == t.0) ≡ true → s ≡ t
 same_sym s t e = ap (λ (n : ℕ). let x : Sym = record { 0 = n } in x) (eqb-true s.0 t.0 e)
 
-later_by : (w : TypedVariable) (vars : List TypedVariable) (x : Tree) (values : List Tree) (j : ℕ) (v : TypedVariable) (t : Tree) → VariablesDiffer (w ∷ vars) → slice_get vars j ≡ Some v → find_value vars values v.sym ≡ t
+later_by : (w : TypedVariable) (vars : List TypedVariable) (x : Tree) (values : List Tree) (j : ℕ) (v : TypedVariable) (t : Tree)
+    → VariablesDiffer (w ∷ vars) → slice_get vars j ≡ Some v → find_value vars values v.sym ≡ t
     → (b : Bool) → (w.sym.0 == v.sym.0) ≡ b → find_value (w ∷ vars) (x ∷ values) v.sym ≡ t
 later_by w vars x values j v t differ at rest true is = let bad : zero ≡ suc j = differ 0 (suc j) w v refl at (same_sym w.sym v.sym is) in absurd (omega (arith, bad))
 later_by w vars x values j v t differ at rest false is = rw is rest
 
-value_found : (vars : List TypedVariable) (values : List Tree) → VariablesDiffer vars → (j : ℕ) (v : TypedVariable) (t : Tree) → slice_get vars j ≡ Some v → slice_get values j ≡ Some t → find_value vars values v.sym ≡ t
+value_found : (vars : List TypedVariable) (values : List Tree) → VariablesDiffer vars → (j : ℕ) (v : TypedVariable) (t : Tree)
+    → slice_get vars j ≡ Some v → slice_get values j ≡ Some t → find_value vars values v.sym ≡ t
 value_found [] values differ j v t at is = absurd cc
 value_found (w ∷ vars) [] differ j v t at is = absurd cc
 value_found (w ∷ vars) (x ∷ values) differ zero v t at is =
@@ -29,7 +31,9 @@ value_found (w ∷ vars) (x ∷ values) differ zero v t at is =
     let test : (w.sym.0 == v.sym.0) ≡ true = eq-eqb w.sym.0 v.sym.0 (ap (λ (z : TypedVariable). z.sym.0) same) in
     rw test (some_same x t is)
 value_found (w ∷ vars) (x ∷ values) differ (suc j) v t at is =
-    later_by w vars x values j v t differ at (value_found vars values (λ a b p q f h s. let r : suc a ≡ suc b = differ (suc a) (suc b) p q f h s in omega (arith, r)) j v t at is) (w.sym.0 == v.sym.0) refl
+    later_by w vars x values j v t differ at
+        (value_found vars values (λ a b p q f h s. let r : suc a ≡ suc b = differ (suc a) (suc b) p q f h s in omega (arith, r)) j v t at is)
+        (w.sym.0 == v.sym.0) refl
 
 -- the value of the variable at a place is the tree there
 pub value_at : (u : Use) → VariablesDiffer u.assertion.vars → (j : ℕ) (v : TypedVariable) (t : Tree) → slice_get u.assertion.vars j ≡ Some v → slice_get u.values j ≡ Some t → value_of u v.sym ≡ t

@@ -33,7 +33,8 @@ use Rattle.again_laws.proofs.WrittenKinds.{use_written}
 
 -- ---- the judgements of written steps
 
-pub judgement_there : (n : ℕ) (es : List WrittenStep) (i : ℕ) (o : Judgement) → slice_get (judgements_from n es) i ≡ Some o → (e : WrittenStep) × (slice_get es i ≡ Some e) × (o ≡ judgement_by (n + i) e e.by)
+pub judgement_there : (n : ℕ) (es : List WrittenStep) (i : ℕ) (o : Judgement) → slice_get (judgements_from n es) i ≡ Some o
+    → (e : WrittenStep) × (slice_get es i ≡ Some e) × (o ≡ judgement_by (n + i) e e.by)
 judgement_there n [] i o h = absurd cc
 judgement_there n (e ∷ es) zero o h = let place : n ≡ n + 0 = omega arith in (e, refl, sym (some_same (judgement_by n e e.by) o h) ∙ ap (λ k. judgement_by k e e.by) place)
 judgement_there n (e ∷ es) (suc i) o h =
@@ -108,7 +109,9 @@ module _ (db : Database) (options : Options) (w : Writing) (numbers : List ℕ) 
   pub second_formula : (v : Valuation) (k : ℕ) (t : Tree) → slice_get (trees es) k ≡ Some t → formula second_bound v k ≡ replace (λ s c. Var s c) (open_value v) t
   second_formula v k t at =
       let e = get_mapped (λ (x : WrittenStep). x.tree) es k t at in
-      let tree : (slice_index_or second_bound.steps k no_step).tree ≡ Some t = ap (λ (b : BoundStep). b.tree) (index_from_get second_bound.steps k (bound_step db options w e.0) no_step (step_again k e.0 e.1)) ∙ ap (λ x. Some x) e.2 in
+      let tree : (slice_index_or second_bound.steps k no_step).tree ≡ Some t =
+          ap (λ (b : BoundStep). b.tree) (index_from_get second_bound.steps k (bound_step db options w e.0) no_step (step_again k e.0 e.1))
+              ∙ ap (λ x. Some x) e.2 in
       ap (formula_value v k) tree
 
   pub copy_value : (i : ℕ) (e : WrittenStep) (u : Use) → slice_get es i ≡ Some e → e.by ≡ Some u → (s : Sym) (c : Typecode) → second_value (copy i s c) ≡ value_of u s

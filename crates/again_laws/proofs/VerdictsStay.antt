@@ -71,7 +71,9 @@ orders_written : (front : List ℕ) (b c : BoundStep) (a : Assertion) → c.plac
 orders_written front b c a e = ap (λ t. cond t (orders (length c.places) c.places) (c.places ∷ [])) (free_written front b c a e) ∙ by (is_free b a)
   where
     by : (t : Bool) → cond t (orders (length c.places) c.places) (c.places ∷ []) ≡ map (map (written_place front)) (cond t (orders (length b.places) b.places) (b.places ∷ []))
-    by true = ap (λ ps. orders (length ps) ps) e ∙ ap (λ n. orders n (map (written_place front) b.places)) (length-map b.places (written_place front)) ∙ orders-map (written_place front) (length b.places) b.places
+    by true =
+        ap (λ ps. orders (length ps) ps) e ∙ ap (λ n. orders n (map (written_place front) b.places)) (length-map b.places (written_place front))
+            ∙ orders-map (written_place front) (length b.places) b.places
     by false = ap (λ ps. ps ∷ []) e
 
 module _ (db : Database) (options : Options) (w : Writing) (numbers : List ℕ) (ds : List WrittenStep) (S : Setting db options w numbers ds) where
@@ -128,7 +130,9 @@ module _ (db : Database) (options : Options) (w : Writing) (numbers : List ℕ) 
         record {
           value = second_value db options w numbers ds S;
           is_valuation = record { code = λ z on. V.code z (more_known z on); typed = λ z on. V.typed z (more_known z on) };
-          solves = all_from (Solves wb (second_value db options w numbers ds S)) (before ++ this ∷ []) (λ y m. all_of (Solves wb (second_value db options w numbers ds S)) asks y (all_solve db options w numbers ds S) (asked_in y m));
+          solves =
+              all_from (Solves wb (second_value db options w numbers ds S)) (before ++ this ∷ [])
+                  (λ y m. all_of (Solves wb (second_value db options w numbers ds S)) asks y (all_solve db options w numbers ds S) (asked_in y m));
         }
 
     used_judgement : IsJudgement db wb before i (bound_step db options w e) (standing db wb.place (bound_step db options w e)) (judgement_by i e e.by)
@@ -170,7 +174,8 @@ module _ (db : Database) (options : Options) (w : Writing) (numbers : List ℕ) 
     low : (a : Assertion) (gs : List Given) → Contains (orders_of b a) gs → (y : Given) → Contains gs y → is_place_below k y ≡ true
     low a gs m y o = all_passes (is_place_below k) h.source.places y (S.below k h.source h.source_at) (subst (λ ys. Contains ys y) here.2.places (order_elements b a gs m y o))
 
-    none_fits : (a : Assertion) → AllByRecursion (λ places. FitsIn db w.bound (accepted_in (take k w.judgements)) k a places → ⊥) (orders_of b a) → AllByRecursion (λ places. FitsIn db wb earlier i a places → ⊥) (orders_of s a)
+    none_fits : (a : Assertion) → AllByRecursion (λ places. FitsIn db w.bound (accepted_in (take k w.judgements)) k a places → ⊥) (orders_of b a)
+        → AllByRecursion (λ places. FitsIn db wb earlier i a places → ⊥) (orders_of s a)
     none_fits a none =
         subst (AllByRecursion (λ places. FitsIn db wb earlier i a places → ⊥)) (sym (orders_written (take k numbers) b s a places_are))
         (all_from (λ places. FitsIn db wb earlier i a places → ⊥) (map (map (written_place (take k numbers))) (orders_of b a))
@@ -196,7 +201,10 @@ module _ (db : Database) (options : Options) (w : Writing) (numbers : List ℕ) 
   judged_by i e at (IsWritten.used u by h) = used_judgement i e u at by h
   judged_by i e at (IsWritten.standing h) = standing_judgement i e h (accepted_in (take i J))
   judged_by i e at (IsWritten.made name t is) =
-      subst (λ (x : WrittenStep). IsJudgement db wb (accepted_in (take i J)) i (bound_step db options w x) (standing db wb.place (bound_step db options w x)) (judgement_by i x x.by)) (sym is) IsJudgement.other
+      subst
+          (λ (x : WrittenStep). IsJudgement db wb (accepted_in (take i J)) i (bound_step db options w x)
+              (standing db wb.place (bound_step db options w x)) (judgement_by i x x.by))
+          (sym is) IsJudgement.other
 
   each : (i : ℕ) (s : BoundStep) (o : Judgement) → slice_get wb.steps i ≡ Some s → slice_get J i ≡ Some o → IsJudgement db wb (accepted_in (take i J)) i s (standing db wb.place s) o
   each i s o s_at o_at =

@@ -48,7 +48,8 @@ same_number s t e = ap (λ (n : ℕ). let x : Sym = record { 0 = n } in x) (eqb-
 abbrev CodeIs : List TypedVariable → Sym → Typecode → Type 0
 CodeIs vars s c = option_map (λ (v : TypedVariable). v.code) (find (λ (v : TypedVariable). v.sym.0 == s.0) vars) ≡ Some c
 
-find_by : (v : TypedVariable) (vars : List TypedVariable) (s : Sym) (c : Typecode) → (CodeIs vars s c → Contains vars (typed s c)) → CodeIs (v ∷ vars) s c → (b : Bool) → (v.sym.0 == s.0) ≡ b → Contains (v ∷ vars) (typed s c)
+find_by : (v : TypedVariable) (vars : List TypedVariable) (s : Sym) (c : Typecode) → (CodeIs vars s c → Contains vars (typed s c))
+    → CodeIs (v ∷ vars) s c → (b : Bool) → (v.sym.0 == s.0) ≡ b → Contains (v ∷ vars) (typed s c)
 find_by v vars s c rest e true is =
     let h : Some v.code ≡ Some c = rw is at e in
     let one = same_number v.sym s is in
@@ -60,7 +61,8 @@ pub find_typed : (vars : List TypedVariable) (s : Sym) (c : Typecode) → CodeIs
 find_typed [] s c e = absurd cc
 find_typed (v ∷ vars) s c e = find_by v vars s c (find_typed vars s c) e (v.sym.0 == s.0) refl
 
-found_by : (w : TypedVariable) (vars : List TypedVariable) → VariablesDiffer (w ∷ vars) → (k : ℕ) (v : TypedVariable) → slice_get vars k ≡ Some v → CodeIs vars v.sym v.code → (b : Bool) → (w.sym.0 == v.sym.0) ≡ b → CodeIs (w ∷ vars) v.sym v.code
+found_by : (w : TypedVariable) (vars : List TypedVariable) → VariablesDiffer (w ∷ vars) → (k : ℕ) (v : TypedVariable) → slice_get vars k ≡ Some v
+    → CodeIs vars v.sym v.code → (b : Bool) → (w.sym.0 == v.sym.0) ≡ b → CodeIs (w ∷ vars) v.sym v.code
 found_by w vars differ k v e rest true is = let bad : zero ≡ suc k = differ 0 (suc k) w v refl e (same_number w.sym v.sym is) in absurd (omega (arith, bad))
 found_by w vars differ k v e rest false is = rw is rest
 
@@ -104,19 +106,24 @@ module _ (db : Database) (facts : IsDatabase db) (f : Frame) where
         let r = from_filter_map (own_leaf db f) (drop 1 formula) (variable_leaf v) m in
         own_is_known db f r.0 v r.2
 
-    stands : (v : TypedVariable) (k : ℕ) → VariablesDiffer (typed_variables f.hyps) → slice_get (typed_variables f.hyps) k ≡ Some v → db.is_constant_at v.sym f.at ≡ false → Contains (drop 1 formula) v.sym → Contains (typed_leaves t) v
+    stands : (v : TypedVariable) (k : ℕ) → VariablesDiffer (typed_variables f.hyps) → slice_get (typed_variables f.hyps) k ≡ Some v
+        → db.is_constant_at v.sym f.at ≡ false → Contains (drop 1 formula) v.sym → Contains (typed_leaves t) v
     stands v k differ e plain m =
         let code : float_of v.sym f.hyps ≡ Some v.code = typed_found (typed_variables f.hyps) differ k v e in
         let is : own_leaf db f v.sym ≡ Some (variable_leaf v) = rw (plain, code) refl in
-        variable_told db.rows v t (subst (λ xs. Contains xs (variable_leaf v)) (own.expression ∙ sym read.tree.parses.written) (into_filter_map (own_leaf db f) (drop 1 formula) v.sym (variable_leaf v) m is))
+        variable_told db.rows v t
+            (subst (λ xs. Contains xs (variable_leaf v)) (own.expression ∙ sym read.tree.parses.written)
+                (into_filter_map (own_leaf db f) (drop 1 formula) v.sym (variable_leaf v) m is))
 
-  all_closed : (hs : List Hyp) (ts : List Tree) → AllByRecursion (λ (h : Hyp). IsOwn db f h.formula) hs → AllZip (λ (h : Hyp) (t : Tree). IsRead db f.at h.formula t) hs ts → AllByRecursion IsClosedTree ts
+  all_closed : (hs : List Hyp) (ts : List Tree) → AllByRecursion (λ (h : Hyp). IsOwn db f h.formula) hs
+      → AllZip (λ (h : Hyp) (t : Tree). IsRead db f.at h.formula t) hs ts → AllByRecursion IsClosedTree ts
   all_closed [] [] own read = tt
   all_closed [] (t ∷ ts) own read = absurd read
   all_closed (h ∷ hs) [] own read = absurd read
   all_closed (h ∷ hs) (t ∷ ts) own read = (closed h.formula t own.0 read.0, all_closed hs ts own.1 read.1)
 
-  all_known : (hs : List Hyp) (ts : List Tree) → AllByRecursion (λ (h : Hyp). IsOwn db f h.formula) hs → AllZip (λ (h : Hyp) (t : Tree). IsRead db f.at h.formula t) hs ts → AllByRecursion (HasOnly (typed_variables f.hyps)) ts
+  all_known : (hs : List Hyp) (ts : List Tree) → AllByRecursion (λ (h : Hyp). IsOwn db f h.formula) hs
+      → AllZip (λ (h : Hyp) (t : Tree). IsRead db f.at h.formula t) hs ts → AllByRecursion (HasOnly (typed_variables f.hyps)) ts
   all_known [] [] own read = tt
   all_known [] (t ∷ ts) own read = absurd read
   all_known (h ∷ hs) [] own read = absurd read

@@ -73,7 +73,8 @@ module _ {A B : Type 0} (Own : ℕ → A → B → Type 0) (New : B → Type 0) 
     woven_any k (a ∷ xa) (b ∷ bs) (inr h) = ap (λ t. t || list_any q bs) (own k a b h.0) ∙ ap (λ t. p a || t) (woven_any (suc k) xa bs h.1)
 
 -- other images
-pub woven_zip : {A B C : Type 0} (Own : ℕ → A → B → Type 0) (New : B → Type 0) (Own_ : ℕ → A → C → Type 0) (New_ : C → Type 0) (R : B → C → Type 0) → ((k : ℕ) (a : A) (b : B) (c : C) → Own k a b → R b c → Own_ k a c) → ((b : B) (c : C) → New b → R b c → New_ c)
+pub woven_zip : {A B C : Type 0} (Own : ℕ → A → B → Type 0) (New : B → Type 0) (Own_ : ℕ → A → C → Type 0) (New_ : C → Type 0) (R : B → C → Type 0)
+    → ((k : ℕ) (a : A) (b : B) (c : C) → Own k a b → R b c → Own_ k a c) → ((b : B) (c : C) → New b → R b c → New_ c)
     → (k : ℕ) (xa : List A) (bs : List B) (cs : List C) → Woven Own New k xa bs → AllZip R bs cs → Woven Own_ New_ k xa cs
 woven_zip Own New Own_ New_ R f g k xa [] [] h z = same xa h
   where

@@ -1,5 +1,6 @@
 -- The written steps are woven from those of the worksheet and new ones.
-use Rattle.std.specs.Prelude.{◌≡◌, ◌⊎◌, ◌<◌, ◌≤◌, ◌+◌, not, ℕ, zero, suc, Bool, true, false, List, [], ◌∷◌, ◌++◌, length, map, find, fold, zip, filter_map, unwrap_or, decimal, codes, slice_get, Some, refl}
+use Rattle.std.specs.Prelude.{◌≡◌, ◌⊎◌, ◌<◌, ◌≤◌, ◌+◌, not, ℕ, zero, suc, Bool, true, false, List, [], ◌∷◌, ◌++◌, length, map, find, fold, zip}
+use Rattle.std.specs.Prelude.{filter_map, unwrap_or, decimal, codes, slice_get, Some, refl}
 use Rattle.std.specs.List.{AllByRecursion, range_with_len}
 use Rattle.std.proofs.Common.{sym, ap, subst, ◌∙◌, arith, inl, inr, append_assoc}
 use Rattle.std.proofs.lemmas.List.{length-append}
@@ -27,7 +28,8 @@ found_derived : (p : Name → Bool) (ns : List ℕ) → IsDerivedName (unwrap_or
 found_derived p [] = inl refl
 found_derived p (n ∷ ns) = by (p (codes "d" ++ decimal n)) refl (found_derived p ns)
   where
-    by : (t : Bool) → p (codes "d" ++ decimal n) ≡ t → IsDerivedName (unwrap_or (find p (map (λ k. codes "d" ++ decimal k) ns)) []) → IsDerivedName (unwrap_or (find p (map (λ k. codes "d" ++ decimal k) (n ∷ ns))) [])
+    by : (t : Bool) → p (codes "d" ++ decimal n) ≡ t → IsDerivedName (unwrap_or (find p (map (λ k. codes "d" ++ decimal k) ns)) [])
+        → IsDerivedName (unwrap_or (find p (map (λ k. codes "d" ++ decimal k) (n ∷ ns))) [])
     by true e rest = rw e (inr (n, refl))
     by false e rest = rw e rest
 
@@ -58,7 +60,8 @@ module _ (names : List Name) (bound : Bound) (g : Valuation) (judgements : List 
   abbrev Weave : List SheetStep → List WrittenStep → Type 0
   Weave ss ds = Woven IsOwnStep IsNewStep 0 ss ds
 
-  module _ (front : List SheetStep) (f : Filling) (s : SheetStep) (count : length front ≡ length f.numbers) (h : Weave front (steps_in f.items)) (o : Judgement) (o_at : slice_get judgements (length f.numbers) ≡ Some o) where
+  module _ (front : List SheetStep) (f : Filling) (s : SheetStep) (count : length front ≡ length f.numbers) (h : Weave front (steps_in f.items))
+      (o : Judgement) (o_at : slice_get judgements (length f.numbers) ≡ Some o) where
     abbrev k : ℕ
     k = length f.numbers
 
@@ -84,13 +87,17 @@ module _ (names : List Name) (bound : Bound) (g : Valuation) (judgements : List 
         (weave_all IsOwnStep IsNewStep k (s ∷ []) made (last ∷ []) (all_new _ new (all_derived (length new) (names ++ map (λ (x : WrittenStep). x.name) es))) (inr (last_own, tt)))
 
     steps_are : steps_in ((f.items ++ map step made) ++ step last ∷ []) ≡ es ++ (made ++ last ∷ [])
-    steps_are = steps-append (f.items ++ map step made) (step last ∷ []) ∙ ap (λ xs. xs ++ last ∷ []) (steps-append f.items (map step made) ∙ ap (λ xs. es ++ xs) (steps-steps made)) ∙ append_assoc es made (last ∷ [])
+    steps_are =
+        steps-append (f.items ++ map step made) (step last ∷ [])
+            ∙ ap (λ xs. xs ++ last ∷ []) (steps-append f.items (map step made) ∙ ap (λ xs. es ++ xs) (steps-steps made))
+            ∙ append_assoc es made (last ∷ [])
 
     more_woven : Weave (front ++ s ∷ []) (steps_in ((f.items ++ map step made) ++ step last ∷ []))
     more_woven = subst (Weave (front ++ s ∷ [])) (sym steps_are) (woven-append IsOwnStep IsNewStep 0 front (s ∷ []) es (made ++ last ∷ []) h added)
 
   module _ (ss : List SheetStep) (enough : length ss ≤ length judgements) where
-    one : (front : List SheetStep) (f : Filling) (s : SheetStep) → length front ≡ length f.numbers → Weave front (steps_in f.items) → length f.numbers < length judgements → Weave (front ++ s ∷ []) (steps_in (fill_item names bound g judgements f (item.Step s)).items)
+    one : (front : List SheetStep) (f : Filling) (s : SheetStep) → length front ≡ length f.numbers → Weave front (steps_in f.items)
+        → length f.numbers < length judgements → Weave (front ++ s ∷ []) (steps_in (fill_item names bound g judgements f (item.Step s)).items)
     one front f s count h less = by (get_below judgements (length f.numbers) less)
       where
         by : ((o : Judgement) × (slice_get judgements (length f.numbers) ≡ Some o)) → Weave (front ++ s ∷ []) (steps_in (fill_item names bound g judgements f (item.Step s)).items)
@@ -98,7 +105,9 @@ module _ (names : List Name) (bound : Bound) (g : Valuation) (judgements : List 
             let found = index_from_get judgements (length f.numbers) o (stands verdict.NoRef) o_at in
             rw found (more_woven front f s count h o o_at)
 
-    run : (items : List SheetItem) (front : List SheetStep) (f : Filling) → ss ≡ front ++ filter_map step_of_item items → length front ≡ length f.numbers → Weave front (steps_in f.items) → Weave ss (steps_in (fold (fill_item names bound g judgements) f items).items)
+    run : (items : List SheetItem) (front : List SheetStep) (f : Filling) → ss ≡ front ++ filter_map step_of_item items
+        → length front ≡ length f.numbers → Weave front (steps_in f.items)
+        → Weave ss (steps_in (fold (fill_item names bound g judgements) f items).items)
     run [] front f split count h = subst (λ xs. Weave xs (steps_in f.items)) (sym (split ∙ append-nil front)) h
       where
         append-nil : (xs : List SheetStep) → xs ++ [] ≡ xs

@@ -1,5 +1,6 @@
 -- What is written and reported does not rest on the numbers of fresh leaves in the values of uses.
-use Rattle.std.specs.Prelude.{◌≡◌, ◌++◌, ◌==◌, ◌&&◌, ◌||◌, not, ℕ, zero, suc, List, [], ◌∷◌, length, map, filter, filter_map, flat_map, fold, find, zip, slice_get, if◌then◌else◌, unwrap_or, Contains, Option, Some, None, option_map, is_none, is_some, refl}
+use Rattle.std.specs.Prelude.{◌≡◌, ◌++◌, ◌==◌, ◌&&◌, ◌||◌, not, ℕ, zero, suc, List, [], ◌∷◌, length, map, filter, filter_map, flat_map, fold, find}
+use Rattle.std.specs.Prelude.{zip, slice_get, if◌then◌else◌, unwrap_or, Contains, Option, Some, None, option_map, is_none, is_some, refl}
 use Rattle.std.specs.List.{list_all}
 use Rattle.std.specs.Option.{option_map_or}
 use Rattle.std.proofs.Common.{sym, ap, subst, ◌∙◌, inl, inr}

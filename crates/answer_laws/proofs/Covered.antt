@@ -22,7 +22,8 @@ use Rattle.mm_model.proofs.RowLaws.{is_row, row_stands}
 use Rattle.mm_model.proofs.TypedLaws.{typed_here, typed_held}
 use Rattle.solve_model.specs.Trees.{Open, flatten, variables, Occurs}
 use Rattle.answer_laws.proofs.Elements.{nothing, first, later, piece_of, in_pieces, kept_from, in_kept}
-use Rattle.answer_laws.proofs.Marks.{Mark, variable, open_leaf, open_part, variable_part, open_parts, variable_parts, leaves, marks, item_marks, row_marks, leaves-Var, leaves-Work, leaves-Fresh, leaves-Node, marks-Var, marks-Work, marks-Fresh, marks-Node}
+use Rattle.answer_laws.proofs.Marks.{Mark, variable, open_leaf, open_part, variable_part, open_parts, variable_parts, leaves, marks, item_marks}
+use Rattle.answer_laws.proofs.Marks.{row_marks, leaves-Var, leaves-Work, leaves-Fresh, leaves-Node, marks-Var, marks-Work, marks-Fresh, marks-Node}
 
 -- a slot that has a place in the text stands in it
 slot_stands : (k : ℕ) (is : List Item) → place_of k (slot_order is) < length (slot_order is) → Contains is (item.Slot k)

@@ -1,5 +1,6 @@
 -- The names of derived steps are labels, are not used before and differ.
-use Rattle.std.specs.Prelude.{◌≡◌, ◌<◌, ◌≤◌, ◌+◌, ◌^◌, ◌++◌, ◌||◌, ◌==◌, not, ℕ, zero, suc, Bool, true, false, List, [], ◌∷◌, length, map, find, unwrap_or, decimal, Option, Some, codes, refl}
+use Rattle.std.specs.Prelude.{◌≡◌, ◌<◌, ◌≤◌, ◌+◌, ◌^◌, ◌++◌, ◌||◌, ◌==◌, not, ℕ, zero, suc, Bool, true, false, List, [], ◌∷◌, length, map, find}
+use Rattle.std.specs.Prelude.{unwrap_or, decimal, Option, Some, codes, refl}
 use Rattle.std.specs.List.{AllByRecursion, list_all, range_with_len}
 use Rattle.std.specs.Str.{bytes_eq}
 use Rattle.std.proofs.Common.{sym, ap, subst, ◌∙◌, arith, inl, inr, ◌⊎◌, append_assoc, cond, ne_eqb}
@@ -196,7 +197,8 @@ fewer : (u : Name) (used ds : List Name) → AreNew (u ∷ used) ds → AreNew u
 fewer u used [] h = tt
 fewer u used (d ∷ ds) h = (record { label = h.0.label; unmarked = h.0.unmarked; is_new = (or_parts (bytes_eq d u) (contains used d) h.0.is_new).1 }, fewer u used ds h.1)
 
-pub derived_extend : (k : ℕ) (used xs : List Name) → k + length used + 1 ≤ 2 ^ 64 → ((n : Name) → contains xs n ≡ true → contains used n ≡ true) → has_twice xs ≡ false → Extends used xs (derived_names k used)
+pub derived_extend : (k : ℕ) (used xs : List Name) → k + length used + 1 ≤ 2 ^ 64 → ((n : Name) → contains xs n ≡ true → contains used n ≡ true)
+    → has_twice xs ≡ false → Extends used xs (derived_names k used)
 derived_extend zero used xs small inside twice = record { are_new = tt; differ = ap has_twice (nil xs) ∙ twice }
   where
     nil : (ys : List Name) → ys ++ [] ≡ ys

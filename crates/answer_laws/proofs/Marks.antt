@@ -21,7 +21,8 @@ use Rattle.mm_model.specs.declared.rows.Production.{Production}
 use Rattle.mm_model.specs.Texts.{row_of, text, item_text, items_text, row_text}
 use Rattle.mm_model.proofs.TextLaws.{text-Node}
 use Rattle.solve_model.specs.Trees.{Open, work, fresh, replace, open_leaves, variables, flatten, layer_leaves}
-use Rattle.solve_model.proofs.TreeLaws.{replace-Var, replace-Work, replace-Fresh, replace-Node, open_leaves-Var, open_leaves-Work, open_leaves-Fresh, open_leaves-Node, variables-Var, variables-Work, variables-Fresh, variables-Node}
+use Rattle.solve_model.proofs.TreeLaws.{replace-Var, replace-Work, replace-Fresh, replace-Node, open_leaves-Var, open_leaves-Work, open_leaves-Fresh}
+use Rattle.solve_model.proofs.TreeLaws.{open_leaves-Node, variables-Var, variables-Work, variables-Fresh, variables-Node}
 
 -- a leaf: a variable, or an open leaf
 pub data Mark : Type 0 where

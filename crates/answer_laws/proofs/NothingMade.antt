@@ -1,5 +1,6 @@
 -- Written again, a worksheet has nothing to fill and nothing to name.
-use Rattle.std.specs.Prelude.{◌≡◌, ◌<◌, ◌+◌, ◌++◌, nat_lt, ℕ, zero, suc, Bool, true, false, List, [], ◌∷◌, length, map, fold, slice_get, slice_index_or, unwrap_or, Option, Some, None, option_map, refl}
+use Rattle.std.specs.Prelude.{◌≡◌, ◌<◌, ◌+◌, ◌++◌, nat_lt, ℕ, zero, suc, Bool, true, false, List, [], ◌∷◌, length, map, fold, slice_get}
+use Rattle.std.specs.Prelude.{slice_index_or, unwrap_or, Option, Some, None, option_map, refl}
 use Rattle.std.specs.Option.{option_map_or}
 use Rattle.std.proofs.Common.{sym, ap, subst, ◌∙◌, arith, length-append, append_assoc, append-nil, drop_of_length-le, ltb-true, ltb-false}
 use Rattle.std.proofs.lemmas.List.Elements.{filter_map-append}
@@ -201,7 +202,8 @@ module _ (db : Database) (options : Options) (w : Writing) where
     at_next : (f : Filling) (i : ℕ) (e : WrittenStep) → At i f → At (suc i) (after f i e)
     at_next f i e a =
         let one = length-append f.numbers (i ∷ []) in
-        let two : length (steps_in (f.items ++ step (step_again e) ∷ [])) ≡ length (steps_in f.items) + 1 = ap length (filter_map-append step_of f.items (step (step_again e) ∷ [])) ∙ length-append (steps_in f.items) (step_again e ∷ []) in
+        let two : length (steps_in (f.items ++ step (step_again e) ∷ [])) ≡ length (steps_in f.items) + 1 =
+            ap length (filter_map-append step_of f.items (step (step_again e) ∷ [])) ∙ length-append (steps_in f.items) (step_again e ∷ []) in
         let count = a.count in
         let written = a.written in
         record { count = omega (arith, one, count); written = omega (arith, two, written); numbers = numbers_next f.numbers i a.count a.numbers }

@@ -63,7 +63,8 @@ module _ (rows : List Production) (grammar : IsGrammar rows) (before : ℕ) wher
   text_at (u ∷ us) zero t e = let same : u ≡ t = cc in ap (text rows) same
   text_at (u ∷ us) (suc k) t e = text_at us k t e
 
-  items_have : (ts : List Tree) → Each HasText ts → Each (IsTyped rows before) ts → Each HasNoFresh ts → (is : List Item) → (is ≡ [] → ⊥) → ((j : ℕ) → j < length (slot_order is) → slice_index_or (slot_order is) j 0 < length ts)
+  items_have : (ts : List Tree) → Each HasText ts → Each (IsTyped rows before) ts → Each HasNoFresh ts → (is : List Item) → (is ≡ [] → ⊥)
+      → ((j : ℕ) → j < length (slot_order is) → slice_index_or (slot_order is) j 0 < length ts)
       → items_text (map (text rows) ts) is ≡ [] → ⊥
   items_have ts h typed named [] some within e = some refl
   items_have ts h typed named (slot.Const s ∷ is) some within e = some_leaf _ _ e

@@ -1,5 +1,6 @@
 -- A proof that is written is one line.
-use Rattle.std.specs.Prelude.{◌≡◌, ◌<◌, ◌+◌, ◌-◌, ◌/◌, ◌%◌, ◌++◌, ◌==◌, not, ℕ, zero, suc, Bool, true, false, List, [], ◌∷◌, length, map, drop, filter, find, fold, slice_index_or, if◌then◌else◌, unwrap_or, Contains, Option, Some, None, codes, refl}
+use Rattle.std.specs.Prelude.{◌≡◌, ◌<◌, ◌+◌, ◌-◌, ◌/◌, ◌%◌, ◌++◌, ◌==◌, not, ℕ, zero, suc, Bool, true, false, List, [], ◌∷◌, length, map, drop}
+use Rattle.std.specs.Prelude.{filter, find, fold, slice_index_or, if◌then◌else◌, unwrap_or, Contains, Option, Some, None, codes, refl}
 use Rattle.std.specs.List.{AllByRecursion, list_all, last_or}
 use Rattle.std.specs.Option.{option_map_or}
 use Rattle.std.proofs.Common.{sym, subst, arith, inl, inr, cond, eqb-true, lit<}
@@ -264,4 +265,5 @@ hyps_lines db s es e h active =
     let new = subst (AllByRecursion (λ (t : SheetStep). IsLine (new_hyp db t).name)) (sym e) (new_line db es h) in
     all_by-append (λ (x : Hyp). IsLine x.name) (db.active_at (place_of db s)).hyps _ active
     (all_map (λ (x : Hyp). IsLine x.name) (new_hyp db) (drop (length (given_hyps db s)) (filter (λ (t : SheetStep). t.hyp) (steps s)))
-    (all_drop (λ (t : SheetStep). IsLine (new_hyp db t).name) (length (given_hyps db s)) (filter (λ (t : SheetStep). t.hyp) (steps s)) (all_filter (λ (t : SheetStep). IsLine (new_hyp db t).name) (λ (t : SheetStep). t.hyp) (steps s) new)))
+    (all_drop (λ (t : SheetStep). IsLine (new_hyp db t).name) (length (given_hyps db s)) (filter (λ (t : SheetStep). t.hyp) (steps s))
+        (all_filter (λ (t : SheetStep). IsLine (new_hyp db t).name) (λ (t : SheetStep). t.hyp) (steps s) new)))

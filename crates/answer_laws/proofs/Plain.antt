@@ -63,7 +63,8 @@ module _ (db : Database) (place : ℕ) (s : BoundStep) (a : Assertion) where
   no_candidate : (v : Verdict) → settled v ≡ candidate a → ⊥
   no_candidate v e = cc
 
-  with_places : (l : Label) (b : Assertion) (c : Bool) → db.usable l ≡ Some b → position_of db l < place → has_places_for s b ≡ c → (if c then candidate b else settled verdict.TooManyHyps) ≡ candidate a → IsCandidate db place s a
+  with_places : (l : Label) (b : Assertion) (c : Bool) → db.usable l ≡ Some b → position_of db l < place → has_places_for s b ≡ c
+      → (if c then candidate b else settled verdict.TooManyHyps) ≡ candidate a → IsCandidate db place s a
   with_places l b true u p h e =
       let same = candidate_same b e in
       record { label = l; usable = u ∙ ap Some same; before = p; has_places = ap (has_places_for s) (sym same) ∙ h }

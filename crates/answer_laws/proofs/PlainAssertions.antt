@@ -104,7 +104,8 @@ module _ (db : Database) (f : Frame) where
   pub is_own : (g : List Sym) (x : Leaf) → Contains (own_expression db f g) x → IsOwnLeaf x
   is_own g x o = let k = kept_from (own_leaf db f) (drop 1 g) x o in own_leaf_is k.0 x k.2
 
-  code_found : (s : Sym) (vars : List TypedVariable) (o : Option TypedVariable) (c : Typecode) → find (λ (v : TypedVariable). v.sym.0 == s.0) vars ≡ o → option_map (λ (v : TypedVariable). v.code) o ≡ Some c
+  code_found : (s : Sym) (vars : List TypedVariable) (o : Option TypedVariable) (c : Typecode) → find (λ (v : TypedVariable). v.sym.0 == s.0) vars ≡ o
+      → option_map (λ (v : TypedVariable). v.code) o ≡ Some c
       → (v : TypedVariable) × Contains vars v × (v.sym ≡ s) × (v.code ≡ c)
   code_found s vars None c e h = absurd (cc)
   code_found s vars (Some v) c e h =

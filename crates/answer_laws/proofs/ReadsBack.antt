@@ -31,7 +31,8 @@ use Rattle.written_model.specs.WrittenSteps.{Use, WrittenStep, WrittenItem, comm
 use Rattle.written_model.specs.Filled.{fill_item, filled_items}
 use Rattle.written_model.specs.Named.{name_tree, name_use, name_items}
 use Rattle.fault_lines.specs.Refusals.{too_large, told_number}
-use Rattle.written_model.specs.Written.{Writing, Writes, HasNoLateFault, LateFault, after_filling, after_naming, written_step, written_pairs, written_sheet, written_theorem, written_proof, written_text, proof_text}
+use Rattle.written_model.specs.Written.{Writing, Writes, HasNoLateFault, LateFault, after_filling, after_naming, written_step, written_pairs}
+use Rattle.written_model.specs.Written.{written_sheet, written_theorem, written_proof, written_text, proof_text}
 use Rattle.answer_laws.specs.WrittenReads.{IsReadBack, WrittenReadsBack}
 use Rattle.answer_laws.proofs.Elements.{all_with}
 use Rattle.answer_laws.proofs.FilledAlike.{IsGoodUse, IsGoodItem}
@@ -43,7 +44,8 @@ use Rattle.answer_laws.proofs.SearchStays.{trees_searched}
 use Rattle.answer_laws.proofs.WellTrees.{IsWell}
 use Rattle.answer_laws.proofs.WellWritten.{IsToken, named_well, written_well, filled_well}
 use Rattle.answer_laws.proofs.Wordy.{Wordy, filled_wordy, all_count, names_of, hyps_of, read_names}
-use Rattle.answer_laws.proofs.WrittenWordy.{wordy_read, comments_read, AreWordy, named_steps, named_names, named_hyps, items_searched, names_searched, hyps_searched, written_steps, steps_spelled, comments_spelled, provable_token, steps_within}
+use Rattle.answer_laws.proofs.WrittenWordy.{wordy_read, comments_read, AreWordy, named_steps, named_names, named_hyps, items_searched, names_searched}
+use Rattle.answer_laws.proofs.WrittenWordy.{hyps_searched, written_steps, steps_spelled, comments_spelled, provable_token, steps_within}
 use Rattle.answer_laws.proofs.WrittenPairs.{IsKnownTree, IsKnownUse, IsFinePair, given_fine, pairs_fine, pairs_spelled, uses_searched}
 use Rattle.answer_laws.proofs.OneLine.{IsLine, plain_line, qed_lines, text_line, one_line, hyps_lines}
 

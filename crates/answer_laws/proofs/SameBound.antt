@@ -1,5 +1,6 @@
 -- Nothing rests on the line numbers of a worksheet's steps.
-use Rattle.std.specs.Prelude.{◌≡◌, ◌++◌, ◌+◌, ℕ, zero, suc, false, List, [], ◌∷◌, length, map, take, fold, flat_map, sum, nat_lt, if◌then◌else◌, slice_get, slice_index_or, Option, Some, None, refl}
+use Rattle.std.specs.Prelude.{◌≡◌, ◌++◌, ◌+◌, ℕ, zero, suc, false, List, [], ◌∷◌, length, map, take, fold, flat_map, sum, nat_lt, if◌then◌else◌}
+use Rattle.std.specs.Prelude.{slice_get, slice_index_or, Option, Some, None, refl}
 use Rattle.std.specs.List.{AllByRecursion}
 use Rattle.std.specs.Option.{option_map_or}
 use Rattle.std.proofs.Common.{sym, ap, subst, ◌∙◌}
@@ -21,7 +22,8 @@ use Rattle.solve_model.specs.declared.verdict.Verdict.TheVariants as verdict
 use Rattle.solve_model.specs.Firsts.{IsFirstIn, IsLeast}
 use Rattle.solve_model.specs.Trees.{Open, work, fresh}
 use Rattle.solve_model.specs.Bound.{Standing, settled, candidate, standing_usable, standing_of_frame, standing_of_label, standing_of_reference, standing, standing_size, step_size, work_size}
-use Rattle.solve_model.specs.Solutions.{Unknown, named, Valuation, IsUnknown, in_formula, is_blank, in_frame, Asked, IsValuation, PlacesFit, Solves, Solvable, formula_value, formula, no_step, orders_of}
+use Rattle.solve_model.specs.Solutions.{Unknown, named, Valuation, IsUnknown, in_formula, is_blank, in_frame, Asked, IsValuation, PlacesFit, Solves}
+use Rattle.solve_model.specs.Solutions.{Solvable, formula_value, formula, no_step, orders_of}
 use Rattle.solve_model.specs.Verdicts.{Judgement, stands, accepted_in, FitsIn, IsJudgement, AreJudged}
 use Rattle.solve_model.specs.MostGeneral.{IsLeastNamed, IsTheValuation}
 use Rattle.written_model.specs.Filled.{Filling, fill, wanted_by, with_step, fill_item, filled_items}
@@ -98,7 +100,9 @@ pub work_size_same : (db : Database) (b c : Bound) → SameBound b c → work_si
 work_size_same db b c h =
     ap sum (sym (size_same db b.place b.steps) ∙ ap (map (step_size db b.place)) h.steps ∙ size_same db b.place c.steps) ∙ ap (λ p. sum (map (step_size db p) c.steps)) h.place
 
-works_unlined : (db : Database) (ss : List BoundStep) → flat_map (λ (s : BoundStep). option_map_or (works_in db) s.tree []) (map unlined ss) ≡ flat_map (λ (s : BoundStep). option_map_or (works_in db) s.tree []) ss
+works_unlined : (db : Database) (ss : List BoundStep)
+    → flat_map (λ (s : BoundStep). option_map_or (works_in db) s.tree []) (map unlined ss)
+        ≡ flat_map (λ (s : BoundStep). option_map_or (works_in db) s.tree []) ss
 works_unlined db [] = refl
 works_unlined db (s ∷ ss) = ap (λ ws. option_map_or (works_in db) s.tree [] ++ ws) (works_unlined db ss)
 
@@ -129,7 +133,8 @@ module _ (b c : Bound) (h : SameBound b c) where
   all_solve v [] k = tt
   all_solve v (x ∷ xs) k = (solves_same v x k.0, all_solve v xs k.1)
 
-pub valuation_same : (db : Database) (b c : Bound) → SameBound b c → (solved : List Asked) (v : Valuation) → IsValuation db b.place (IsUnknown b solved) v → IsValuation db c.place (IsUnknown c solved) v
+pub valuation_same : (db : Database) (b c : Bound) → SameBound b c → (solved : List Asked) (v : Valuation)
+    → IsValuation db b.place (IsUnknown b solved) v → IsValuation db c.place (IsUnknown c solved) v
 valuation_same db b c h solved v k = record {
   code = λ u on. k.code u (unknown_same c b (turned b c h) solved u on);
   typed = λ u on. subst (λ p. IsTyped db.rows p (v u)) h.place (k.typed u (unknown_same c b (turned b c h) solved u on));
@@ -141,7 +146,8 @@ solvable_same db b c h asked s = record { value = s.value; is_valuation = valuat
 -- ---- judgements
 
 module _ (db : Database) (b c : Bound) (h : SameBound b c) where
-  none_fits : (before : List Asked) (i : ℕ) (a : Assertion) (os : List (List Given)) → AllByRecursion (λ ps. FitsIn db b before i a ps → ⊥) os → AllByRecursion (λ ps. FitsIn db c before i a ps → ⊥) os
+  none_fits : (before : List Asked) (i : ℕ) (a : Assertion) (os : List (List Given)) → AllByRecursion (λ ps. FitsIn db b before i a ps → ⊥) os
+      → AllByRecursion (λ ps. FitsIn db c before i a ps → ⊥) os
   none_fits before i a [] k = tt
   none_fits before i a (o ∷ os) k = ((λ s. k.0 (solvable_same db c b (turned b c h) _ s)), none_fits before i a os k.1)
 
@@ -207,7 +213,8 @@ module _ (db : Database) (b c : Bound) (h : SameBound b c) where
 module _ (db : Database) (b c : Bound) (h : SameBound b c) where
   pub naming_same : (ts : List Tree) (names : Naming) → IsNaming db b ts names → IsNaming db c ts names
   naming_same ts names k =
-      let same : new_works db b (map (name_tree names) ts) ≡ new_works db c (map (name_tree names) ts) = ap (λ ws. not_seen ws (flat_map (works_in db) (map (name_tree names) ts))) (read_works_same db b c h) in
+      let same : new_works db b (map (name_tree names) ts) ≡ new_works db c (map (name_tree names) ts) =
+          ap (λ ws. not_seen ws (flat_map (works_in db) (map (name_tree names) ts))) (read_works_same db b c h) in
       record {
         named = λ d n w. let x = k.named d n w in (x.0, x.1, subst (λ ws. is_in ws (work_variable d x.0) ≡ false) (read_works_same db b c h) x.2);
         others = k.others;
@@ -215,6 +222,7 @@ module _ (db : Database) (b c : Bound) (h : SameBound b c) where
         least = λ i w e.
             let mine = k.least i w (subst (λ ws. slice_get ws i ≡ Some w) (sym same) e) in
             let moved = subst (λ ws. IsLeast (λ n. IsUnused db b (take i ws) (work_variable w.code n)) w.number) same mine in
-            least_with (λ n. IsUnused db b (take i (new_works db c (map (name_tree names) ts))) (work_variable w.code n)) (λ n. IsUnused db c (take i (new_works db c (map (name_tree names) ts))) (work_variable w.code n))
+            least_with (λ n. IsUnused db b (take i (new_works db c (map (name_tree names) ts))) (work_variable w.code n))
+                (λ n. IsUnused db c (take i (new_works db c (map (name_tree names) ts))) (work_variable w.code n))
             (λ n u. unused_same db b c h _ _ u) (λ n u. unused_same db c b (turned b c h) _ _ u) w.number moved;
       }

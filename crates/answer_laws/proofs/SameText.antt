@@ -29,7 +29,9 @@ use Rattle.written_model.specs.Pairs.{pairs_of}
 use Rattle.written_model.specs.ProofTrees.{step_proofs, no_proof}
 use Rattle.written_model.specs.Report.{report_of, report_lines}
 use Rattle.fault_lines.specs.Refusals.{Refusal, told_number, formula_too_long, written_two_trees, too_much_written, proof_too_long, too_large}
-use Rattle.written_model.specs.Written.{Writing, written_item, written_pair, written_pairs, written_sheet, written_theorem, written_proof, written_text, written_report, qed_proof, proof_text, formula_tokens, IsTooLong, IsAmbiguous, bound_step, written_bound, label_count, LateFault}
+use Rattle.written_model.specs.Written.{Writing, written_item, written_pair, written_pairs, written_sheet, written_theorem, written_proof}
+use Rattle.written_model.specs.Written.{written_text, written_report, qed_proof, proof_text, formula_tokens, IsTooLong, IsAmbiguous, bound_step}
+use Rattle.written_model.specs.Written.{written_bound, label_count, LateFault}
 use Rattle.written_model.specs.WrittenAgain.{SameWriting}
 use Rattle.answer_laws.proofs.Moved.{steps-over}
 use Rattle.answer_laws.proofs.SearchedAlike.{bare_step, bare_items}
@@ -133,7 +135,8 @@ module _ (db : Database) (options : Options) (w v : Writing) (h : SameText db op
 module _ (db : Database) (options : Options) (w v : Writing) (h : SameParts w v) (ends : w.finished ≡ v.finished) where
   same_report : written_report db options w ≡ written_report db options v
   same_report =
-      sym (bare-report options.dv w.bound.pairs (steps_in w.items)) ∙ ap (map (report_of options.dv w.bound.pairs)) (same_steps db options w v h) ∙ bare-report options.dv w.bound.pairs (steps_in v.items)
+      sym (bare-report options.dv w.bound.pairs (steps_in w.items)) ∙ ap (map (report_of options.dv w.bound.pairs)) (same_steps db options w v h)
+          ∙ bare-report options.dv w.bound.pairs (steps_in v.items)
       ∙ ap (λ ps. map (report_of options.dv ps) (steps_in v.items)) h.pairs
 
   pub same_writing : SameWriting db options w v
@@ -191,7 +194,9 @@ module _ (db : Database) (options : Options) (w v : Writing) (h : SameText db op
       subst (λ t. HasTwoTrees db v.bound.place (formula_tokens db t)) (seen_tree x y e) (subst (λ p. HasTwoTrees db p (formula_tokens db x.tree)) place_same k)
 
 module _ (db : Database) (options : Options) (w v : Writing) (h : SameText db options w v) where
-  long_same : (x y : WrittenStep) → seen x ≡ seen y → formula_too_long x.name (told_number (length (formula_tokens db x.tree))) ≡ formula_too_long y.name (told_number (length (formula_tokens db y.tree)))
+  long_same : (x y : WrittenStep) → seen x ≡ seen y
+      → formula_too_long x.name (told_number (length (formula_tokens db x.tree)))
+          ≡ formula_too_long y.name (told_number (length (formula_tokens db y.tree)))
   long_same x y e =
       ap (λ n. formula_too_long n (told_number (length (formula_tokens db x.tree)))) (seen_name x y e)
       ∙ ap (λ t. formula_too_long y.name (told_number (length (formula_tokens db t)))) (seen_tree x y e)

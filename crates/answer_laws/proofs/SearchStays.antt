@@ -1,5 +1,6 @@
 -- Searched again, a written worksheet stays, with its pairs and its end.
-use Rattle.std.specs.Prelude.{◌≡◌, ◌⊎◌, ◌++◌, ◌&&◌, ◌||◌, ◌==◌, ◌↔◌, not, nat_lt, ℕ, zero, suc, Bool, true, false, List, [], ◌∷◌, length, map, flat_map, slice_get, is_none, Contains, Option, Some, None, refl}
+use Rattle.std.specs.Prelude.{◌≡◌, ◌⊎◌, ◌++◌, ◌&&◌, ◌||◌, ◌==◌, ◌↔◌, not, nat_lt, ℕ, zero, suc, Bool, true, false, List, [], ◌∷◌, length, map}
+use Rattle.std.specs.Prelude.{flat_map, slice_get, is_none, Contains, Option, Some, None, refl}
 use Rattle.std.specs.List.{AllZip, list_all}
 use Rattle.std.specs.Option.{option_map_or}
 use Rattle.std.proofs.Common.{sym, ap, subst, ◌∙◌, arith, inl, inr}
@@ -75,7 +76,9 @@ one_order (p ∷ ps) (q ∷ qs) h k f g =
 set_again : (ps ns : List Pair) → pair_set (pair_set (ps ++ ns) ++ ns) ≡ pair_set (ps ++ ns)
 set_again ps ns =
     one_order (pair_set (pair_set (ps ++ ns) ++ ns)) (pair_set (ps ++ ns)) (is_in_order (pair_set (ps ++ ns) ++ ns)) (is_in_order (ps ++ ns))
-    (λ x o. elim (Contains-append_cases (pair_set (ps ++ ns)) ns x ((holds_same (pair_set (ps ++ ns) ++ ns) x).0 o)) [ inl l ↦ l | inr l ↦ (holds_same (ps ++ ns) x).1 (Contains-append_right ps ns x l) ])
+    (λ x o. elim
+        (Contains-append_cases (pair_set (ps ++ ns)) ns x ((holds_same (pair_set (ps ++ ns) ++ ns) x).0 o)) [ inl l ↦ l | inr l ↦
+            (holds_same (ps ++ ns) x).1 (Contains-append_right ps ns x l) ])
     (λ x o. (holds_same (pair_set (ps ++ ns) ++ ns) x).1 (Contains-append_left (pair_set (ps ++ ns)) ns x o))
 
 -- ---- steps that are written again
@@ -142,7 +145,9 @@ module _ (db : Database) (place : ℕ) (mode : DvMode) (allowed more : List Pair
 
   -- what has a reference is not searched
   with_reference : (e : WrittenStep) → is_none e.reference ≡ false → is_to_be_searched fs e ≡ false
-  with_reference e h = ap (λ b. not e.hyp && b && is_ground e.tree && list_all (λ x. option_map_or is_ground (place_tree fs x) false) e.places) h ∙ by_front (not e.hyp) (is_ground e.tree) (list_all (λ x. option_map_or is_ground (place_tree fs x) false) e.places)
+  with_reference e h =
+      ap (λ b. not e.hyp && b && is_ground e.tree && list_all (λ x. option_map_or is_ground (place_tree fs x) false) e.places) h
+          ∙ by_front (not e.hyp) (is_ground e.tree) (list_all (λ x. option_map_or is_ground (place_tree fs x) false) e.places)
     where
       by_front : (a b c : Bool) → (a && false && b && c) ≡ false
       by_front true b c = refl

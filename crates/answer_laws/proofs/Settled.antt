@@ -1,5 +1,6 @@
 -- A written step names earlier steps alone, and one with a use lists a place for each `$e`.
-use Rattle.std.specs.Prelude.{◌≡◌, ◌<◌, ◌≤◌, ◌+◌, ◌-◌, ◌++◌, ◌||◌, ℕ, zero, suc, true, false, List, [], ◌∷◌, length, map, fold, zip, drop, filter_map, slice_get, slice_index_or, Contains, Option, Some, None, refl}
+use Rattle.std.specs.Prelude.{◌≡◌, ◌<◌, ◌≤◌, ◌+◌, ◌-◌, ◌++◌, ◌||◌, ℕ, zero, suc, true, false, List, [], ◌∷◌, length, map, fold, zip, drop, filter_map}
+use Rattle.std.specs.Prelude.{slice_get, slice_index_or, Contains, Option, Some, None, refl}
 use Rattle.std.specs.List.{AllByRecursion, list_any, position_or_len}
 use Rattle.std.proofs.Common.{sym, ap, subst, ◌∙◌, arith, inl, inr, length-append, length-drop}
 use Rattle.std.proofs.lemmas.Bool.{cases_Bool, or_left, or_right}
@@ -218,7 +219,9 @@ module _ (names : List Name) (bound : Bound) (g : Valuation) (judgements : List 
         use_is = (omega (arith, one, two, three, four, five, six), length-map x.assertion.vars _, k.1, refl);
       }
 
-  at_step : (f : Filling) (s : SheetStep) → Inside f → IsFine (length f.numbers) s (slice_index_or judgements (length f.numbers) (stands verdict.NoRef)) → Inside (fill_item names bound g judgements f (item.Step s))
+  at_step : (f : Filling) (s : SheetStep) → Inside f
+      → IsFine (length f.numbers) s (slice_index_or judgements (length f.numbers) (stands verdict.NoRef))
+      → Inside (fill_item names bound g judgements f (item.Step s))
   at_step f s h k =
       let i = length f.numbers in
       let o = slice_index_or judgements i (stands verdict.NoRef) in
@@ -273,8 +276,13 @@ module _ (names : List Name) (bound : Bound) (g : Valuation) (judgements : List 
         next : (n k : ℕ) → n + suc k ≡ n + 1 + k
         next n k = omega arith
 
-    pub filled_settled : (items : List SheetItem) → filter_map step_of_item items ≡ all → AreSettled 0 (steps_in (fold (fill_item names bound g judgements) (record { items = []; numbers = [] }) items).items)
-    filled_settled items e = (all_inside items (record { items = []; numbers = [] }) (λ k s x. subst (λ ss. slice_get ss (0 + k) ≡ Some s) e (subst (λ n. slice_get (filter_map step_of_item items) n ≡ Some s) (zero_plus k) x)) (record { settled = tt; numbers = tt })).settled
+    pub filled_settled : (items : List SheetItem) → filter_map step_of_item items ≡ all
+        → AreSettled 0 (steps_in (fold (fill_item names bound g judgements) (record { items = []; numbers = [] }) items).items)
+    filled_settled items e =
+        (all_inside items (record { items = []; numbers = [] })
+            (λ k s x. subst (λ ss. slice_get ss (0 + k) ≡ Some s) e
+                (subst (λ n. slice_get (filter_map step_of_item items) n ≡ Some s) (zero_plus k) x))
+            (record { settled = tt; numbers = tt })).settled
       where
         zero_plus : (n : ℕ) → n ≡ 0 + n
         zero_plus n = omega arith

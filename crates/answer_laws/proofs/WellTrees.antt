@@ -1,5 +1,6 @@
 -- The variables of the written trees are symbols of the database.
-use Rattle.std.specs.Prelude.{◌≡◌, ◌<◌, ◌==◌, ◌≤◌, nat_lt, ℕ, zero, suc, Bool, true, false, List, [], ◌∷◌, length, map, drop, filter_map, slice_get, slice_index_or, Contains, Option, Some, None, option_map, position, refl}
+use Rattle.std.specs.Prelude.{◌≡◌, ◌<◌, ◌==◌, ◌≤◌, nat_lt, ℕ, zero, suc, Bool, true, false, List, [], ◌∷◌, length, map, drop, filter_map, slice_get}
+use Rattle.std.specs.Prelude.{slice_index_or, Contains, Option, Some, None, option_map, position, refl}
 use Rattle.std.specs.List.{list_any, position_or_len}
 use Rattle.std.specs.Str.{bytes_eq}
 use Rattle.std.proofs.Common.{sym, ap, subst, ◌∙◌, arith, inl, inr, ltb-true, ltb-false, cond}
@@ -163,7 +164,8 @@ well_var db place s c k = record {
   well = record { typed = typed-Var db.rows place s c; known = λ x o. subst (IsKnown db) (only x s (rw variables-Var at o)) k };
 }
 
-pub replaced_well : (db : Database) (place : ℕ) (a : Sym → Typecode → Tree) (p : Open → Tree) (t : Tree) → IsTyped db.rows place t → OfLeaves (λ m. IsWellAs db place (mark_code m) (placed a p m)) t → IsWell db place (replace a p t)
+pub replaced_well : (db : Database) (place : ℕ) (a : Sym → Typecode → Tree) (p : Open → Tree) (t : Tree) → IsTyped db.rows place t
+    → OfLeaves (λ m. IsWellAs db place (mark_code m) (placed a p m)) t → IsWell db place (replace a p t)
 replaced_well db place a p t typed h = record {
   typed = (keeps_types db.rows place a p t (λ m o. record { code = (h m o).code; typed = (h m o).well.typed }) typed).typed;
   known = λ x o. let from = variable_of a p x t o in (h from.mark from.stands).well.known x from.has;
@@ -201,7 +203,8 @@ module _ (db : Database) (grammar : IsGrammar db.rows) (plain : ArePlain db) (te
       let is = accepted_at db w.bound w.judgements writes.judged at.0 x (at.1 ∙ ap Some (accepted_is k.0 x k.2)) in
       let its = plain is.is_candidate.label x.assertion is.is_candidate.usable in
       let closed = λ (t : Tree) (m : IsTreeIn x.assertion t) (y : Open) (h : Occurs y t). its.closed t y m (occurs_mark t y h) in
-      (closed x.assertion.tree (first x.assertion.tree x.assertion.tree x.assertion.hyps refl), all_contained IsClosedTree x.assertion.hyps (λ t m. closed t (later t x.assertion.tree x.assertion.hyps m)))
+      (closed x.assertion.tree (first x.assertion.tree x.assertion.tree x.assertion.hyps refl),
+          all_contained IsClosedTree x.assertion.hyps (λ t m. closed t (later t x.assertion.tree x.assertion.hyps m)))
 
   formula_known : (i : ℕ) (o : Option Tree) (x : Sym) → (slice_index_or w.bound.steps i no_step).tree ≡ o → Contains (formula_variables o) x → IsKnown db x
   formula_known i None x e o = absurd (nothing x o)

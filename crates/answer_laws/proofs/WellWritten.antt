@@ -1,5 +1,6 @@
 -- The written trees are well, and so each token of a written formula is one.
-use Rattle.std.specs.Prelude.{◌≡◌, ◌<◌, ◌++◌, ◌+◌, ◌/◌, ◌%◌, ◌==◌, not, ℕ, zero, suc, Bool, true, false, List, [], ◌∷◌, length, map, drop, slice_get, slice_index_or, decimal, Contains, Option, Some, None, codes, refl}
+use Rattle.std.specs.Prelude.{◌≡◌, ◌<◌, ◌++◌, ◌+◌, ◌/◌, ◌%◌, ◌==◌, not, ℕ, zero, suc, Bool, true, false, List, [], ◌∷◌, length, map, drop, slice_get}
+use Rattle.std.specs.Prelude.{slice_index_or, decimal, Contains, Option, Some, None, codes, refl}
 use Rattle.std.specs.List.{AllByRecursion, list_all}
 use Rattle.std.specs.Fmt.{digit_glyph, digits_onto, digits}
 use Rattle.std.specs.Str.{bytes_eq}
@@ -113,7 +114,8 @@ module _ (db : Database) (grammar : IsGrammar db.rows) (plain : ArePlain db) (sh
     instance_well t o =
         let at = its.at in
         let before = is.1.is_candidate.before in
-        replaced_well db w.bound.place (λ s c. w.value (copy x.step s c)) leaf_tree t (typed_later db.rows x.assertion.frame.at w.bound.place (omega (arith, at, before)) t (its.typed t o)) (instance_leaf t o)
+        replaced_well db w.bound.place (λ s c. w.value (copy x.step s c)) leaf_tree t
+            (typed_later db.rows x.assertion.frame.at w.bound.place (omega (arith, at, before)) t (its.typed t o)) (instance_leaf t o)
 
     pub wanted_well : AllByRecursion Well (wanted_by w.value (accepted x))
     wanted_well =
@@ -121,7 +123,9 @@ module _ (db : Database) (grammar : IsGrammar db.rows) (plain : ArePlain db) (sh
         (all_drop _ (length x.places) x.assertion.hyps (all_contained _ x.assertion.hyps (λ t o. instance_well t (later t x.assertion.tree x.assertion.hyps o))))
 
     pub values_well : AllByRecursion Well (use_of w.value x).values
-    values_well = all_map Well (λ (v : TypedVariable). w.value (copy x.step v.sym v.code)) x.assertion.vars (all_contained _ x.assertion.vars (λ v o. (value_well (copy x.step v.sym v.code) (on_variable v o)).well))
+    values_well =
+        all_map Well (λ (v : TypedVariable). w.value (copy x.step v.sym v.code)) x.assertion.vars
+            (all_contained _ x.assertion.vars (λ v o. (value_well (copy x.step v.sym v.code) (on_variable v o)).well))
 
   moved_by : (i : ℕ) (o : Judgement) → i < length w.bound.steps → slice_get w.judgements i ≡ Some o → IsMoved (λ t. t) (λ t. t) Well (λ t q. refl) w.bound w.value w.value i o
   moved_by i (stands v) l e = record { formula_is = refl; formula_good = formula_well i l; wanted = refl; wanted_good = tt; use_is = tt }
@@ -204,7 +208,8 @@ module _ (db : Database) (facts : IsDatabase db) (place : ℕ) where
   at_slot (xs ∷ xss) zero h = h.0
   at_slot (xs ∷ xss) (suc k) h = at_slot xss k h.1
 
-  constants_known : (vars : List TypedVariable) (is : List Item) → AllByRecursion (IsKnown db) (map (item_symbol vars) is) → (xss : List (List Leaf)) → AllByRecursion AreNamed xss → AreNamed (items_text xss is)
+  constants_known : (vars : List TypedVariable) (is : List Item) → AllByRecursion (IsKnown db) (map (item_symbol vars) is) → (xss : List (List Leaf))
+      → AllByRecursion AreNamed xss → AreNamed (items_text xss is)
   constants_known vars [] h xss k = tt
   constants_known vars (slot.Const s ∷ is) h xss k = (h.0, constants_known vars is h.1 xss k)
   constants_known vars (slot.Slot n ∷ is) h xss k = join (slice_index_or xss n []) (items_text xss is) (at_slot xss n k) (constants_known vars is h.1 xss k)

@@ -193,7 +193,8 @@ module _ (bound : Bound) (g : Valuation) (judgements : List Judgement) (all : Li
         let done_hyps : read_hyps (done ++ s ∷ []) ≡ read_hyps done ++ s.hyp ∷ [] = map-append (λ (r : SheetStep). r.hyp) done (s ∷ []) in
         record {
           steps = subst (AllByRecursion IsWordy) (sym steps_are)
-              (all_by-append IsWordy (es ++ made) (last_step ∷ []) (all_by-append IsWordy es made h.steps (new_wordy used ds ts new.are_new)) (step_wordy f.numbers _ s (formula bound g i) o read, tt));
+              (all_by-append IsWordy (es ++ made) (last_step ∷ []) (all_by-append IsWordy es made h.steps (new_wordy used ds ts new.are_new))
+                  (step_wordy f.numbers _ s (formula bound g i) o read, tt));
           comments = all_by-append HasGoodComment (f.items ++ map step made) (step last_step ∷ []) (all_by-append HasGoodComment f.items (map step made) h.comments (comments_made made)) (tt, tt);
           differ = ap has_twice names_are ∙ whole;
           origin = λ n k. elim (contained_in (names_of es ++ ds) (s.name ∷ []) n (ap (λ ns. contains ns n) (sym names_are) ∙ k)) [
@@ -245,7 +246,8 @@ module _ (bound : Bound) (g : Valuation) (judgements : List Judgement) (all : Li
   all_count (item.Comment lines ∷ is) f = let same = ap length (comment_steps f lines) in let rest = all_count is (one f (item.Comment lines)) in omega (arith, same, rest)
   all_count (item.Step s ∷ is) f = let count = steps_count f s in let rest = all_count is (one f (item.Step s)) in omega (arith, count, rest)
 
-  all_wordy : (is : List SheetItem) (f : Filling) (done : List SheetStep) → all ≡ done ++ filter_map step_of_item is → has_twice names ≡ false → AllByRecursion IsWordyRead (filter_map step_of_item is) → AllByRecursion HasReadComment is
+  all_wordy : (is : List SheetItem) (f : Filling) (done : List SheetStep) → all ≡ done ++ filter_map step_of_item is → has_twice names ≡ false
+      → AllByRecursion IsWordyRead (filter_map step_of_item is) → AllByRecursion HasReadComment is
       → length names + length (steps_in (fold one f is).items) ≤ 2 ^ 64 → Wordy f done → Wordy (fold one f is) all
   all_wordy [] f done e twice steps comments small h = subst (Wordy f) (sym (e ∙ nil done)) h
     where

@@ -1,5 +1,6 @@
 -- The pairs of a written worksheet can be spelled.
-use Rattle.std.specs.Prelude.{◌≡◌, ◌<◌, ◌==◌, ◌&&◌, ◌||◌, ◌++◌, not, nat_lt, ℕ, Bool, true, false, List, [], ◌∷◌, length, map, filter, filter_map, flat_map, find, zip, position, slice_index_or, Contains, Option, Some, None, option_map, codes, refl}
+use Rattle.std.specs.Prelude.{◌≡◌, ◌<◌, ◌==◌, ◌&&◌, ◌||◌, ◌++◌, not, nat_lt, ℕ, Bool, true, false, List, [], ◌∷◌, length, map, filter, filter_map}
+use Rattle.std.specs.Prelude.{flat_map, find, zip, position, slice_index_or, Contains, Option, Some, None, option_map, codes, refl}
 use Rattle.std.specs.List.{AllByRecursion, AllZip, list_all, list_any, position_or_len, cons_option}
 use Rattle.std.specs.Option.{option_map_or}
 use Rattle.std.specs.Str.{bytes_eq}
@@ -213,9 +214,12 @@ module _ (db : Database) where
   all_needed [] h = tt
   all_needed (e ∷ es) h = all_by-append (IsFinePair db) (needed_by e.by) (flat_map (λ (x : WrittenStep). needed_by x.by) es) (needed_fine e.by h.0) (all_needed es h.1)
 
-  pub pairs_fine : (mode : DvMode) (allowed : List Pair) (es : List WrittenStep) → AllByRecursion (IsFinePair db) allowed → AllByRecursion (λ (e : WrittenStep). IsKnownUse db e.by) es → AllByRecursion (IsFinePair db) (pairs_of mode allowed es)
+  pub pairs_fine : (mode : DvMode) (allowed : List Pair) (es : List WrittenStep) → AllByRecursion (IsFinePair db) allowed
+      → AllByRecursion (λ (e : WrittenStep). IsKnownUse db e.by) es → AllByRecursion (IsFinePair db) (pairs_of mode allowed es)
   pairs_fine dv.Given allowed es h k = h
-  pairs_fine dv.Add allowed es h k = set_fine db (allowed ++ flat_map (λ (e : WrittenStep). needed_by e.by) es) (all_by-append (IsFinePair db) allowed (flat_map (λ (e : WrittenStep). needed_by e.by) es) h (all_needed es k))
+  pairs_fine dv.Add allowed es h k =
+      set_fine db (allowed ++ flat_map (λ (e : WrittenStep). needed_by e.by) es)
+          (all_by-append (IsFinePair db) allowed (flat_map (λ (e : WrittenStep). needed_by e.by) es) h (all_needed es k))
 
 -- ---- fine pairs can be spelled
 
@@ -246,7 +250,8 @@ module _ (db : Database) (named : AllByRecursion IsSymbolName db.symbols) (facts
   pair_spelled p h =
       let differ = names_differ p.a p.b h.first_known h.second_known h.differ in
       and_from (list_all is_token (symbol_name db p.a ∷ symbol_name db p.b ∷ [])) (not (is_bad_distinct (symbol_name db p.a ∷ symbol_name db p.b ∷ [])))
-      (and_from (is_token (symbol_name db p.a)) (is_token (symbol_name db p.b) && true) (token_of p.a h.first_known) (and_from (is_token (symbol_name db p.b)) true (token_of p.b h.second_known) refl))
+      (and_from (is_token (symbol_name db p.a)) (is_token (symbol_name db p.b) && true) (token_of p.a h.first_known)
+          (and_from (is_token (symbol_name db p.b)) true (token_of p.b h.second_known) refl))
       (rw (differ, no_end p.a h.first_known, no_end p.b h.second_known) refl)
 
   pub pairs_spelled : (ps : List Pair) → AllByRecursion (IsFinePair db) ps → list_all is_pair_spellable (map (written_pair db) ps) ≡ true
@@ -305,7 +310,8 @@ module _ (db : Database) (plain : ArePlain db) (options : Options) (w : Writing)
         let mark = variable_mark s.0 v.sym s.2 in
         tree_known s.0 s.1 x (variable_into (λ r d. value_of u r) leaf_tree x (variable v.sym mark.0) s.0 mark.1 h)
 
-    mapped : (vs : List TypedVariable) → AllByRecursion (λ (v : TypedVariable). IsKnownTree db (value_of u v.sym)) vs → AllByRecursion (IsKnownTree db) (map (λ (v : TypedVariable). value_of u v.sym) vs)
+    mapped : (vs : List TypedVariable) → AllByRecursion (λ (v : TypedVariable). IsKnownTree db (value_of u v.sym)) vs
+        → AllByRecursion (IsKnownTree db) (map (λ (v : TypedVariable). value_of u v.sym) vs)
     mapped [] h = tt
     mapped (v ∷ vs) h = (h.0, mapped vs h.1)
 
@@ -321,7 +327,8 @@ module _ (db : Database) (plain : ArePlain db) (options : Options) (w : Writing)
     step_known e f own h (IsSearched.none k m) = h
     step_known e f own h (IsSearched.found {c = c} {u = u} k m fits) = use_known known e own c u fits
 
-    pub uses_searched : (is js : List WrittenItem) → AllZip (ItemIsSearched db options w) is js → AllByRecursion (IsKnownTree db) (trees (steps_in is)) → AllByRecursion (λ (e : WrittenStep). IsKnownUse db e.by) (steps_in is)
+    pub uses_searched : (is js : List WrittenItem) → AllZip (ItemIsSearched db options w) is js
+        → AllByRecursion (IsKnownTree db) (trees (steps_in is)) → AllByRecursion (λ (e : WrittenStep). IsKnownUse db e.by) (steps_in is)
         → AllByRecursion (λ (e : WrittenStep). IsKnownUse db e.by) (steps_in js)
     uses_searched [] [] h t k = tt
     uses_searched [] (j ∷ js) h t k = absurd h

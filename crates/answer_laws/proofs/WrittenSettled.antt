@@ -1,5 +1,6 @@
 -- The steps of a written worksheet are settled.
-use Rattle.std.specs.Prelude.{◌≡◌, ◌+◌, ◌&&◌, ℕ, zero, suc, Bool, true, false, List, [], ◌∷◌, length, map, nat_le, nat_lt, slice_get, slice_index_or, if◌then◌else◌, Contains, Option, Some, None, refl}
+use Rattle.std.specs.Prelude.{◌≡◌, ◌+◌, ◌&&◌, ℕ, zero, suc, Bool, true, false, List, [], ◌∷◌, length, map, nat_le, nat_lt, slice_get, slice_index_or}
+use Rattle.std.specs.Prelude.{if◌then◌else◌, Contains, Option, Some, None, refl}
 use Rattle.std.specs.List.{AllZip, list_all}
 use Rattle.std.proofs.Common.{sym, ap, subst, ◌∙◌, arith, inl, inr, ltb-true}
 use Rattle.std.proofs.lemmas.Bool.{and_parts}

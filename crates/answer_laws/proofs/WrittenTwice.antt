@@ -25,7 +25,8 @@ use Rattle.written_model.specs.WrittenSteps.{WrittenStep, WrittenItem, comment, 
 use Rattle.written_model.specs.Named.{WorkVariable, is_in, works_in, read_works, not_seen, new_works, Naming, name_leaf, name_fresh, name_tree, IsWrittenLeaf, IsNaming}
 use Rattle.written_model.specs.ProofTrees.{step_proof, step_proofs, no_proof}
 use Rattle.fault_lines.specs.Refusals.{too_much_written, told_number}
-use Rattle.written_model.specs.Written.{Answers, Writing, Writes, ItemIsSearched, written_item, written_pair, written_pairs, written_sheet, written_theorem, written_bound, bound_step, LateFault, HasNoLateFault, after_filling, after_naming}
+use Rattle.written_model.specs.Written.{Answers, Writing, Writes, ItemIsSearched, written_item, written_pair, written_pairs, written_sheet}
+use Rattle.written_model.specs.Written.{written_theorem, written_bound, bound_step, LateFault, HasNoLateFault, after_filling, after_naming}
 use Rattle.written_model.specs.Again.{step_again, again}
 use Rattle.written_model.specs.WrittenAgain.{NothingIsMade, EndStays, SearchStays, IsFixpoint}
 use Rattle.answer_laws.specs.WrittenReads.{IsReadBack, WrittenReadsBack, WrittenByParts, WrittenIsFixed}
@@ -66,7 +67,8 @@ all_seen : (S ws : List WorkVariable) → ((w : WorkVariable) → Contains ws w 
 all_seen S [] h = refl
 all_seen S (w ∷ ws) h = seen_one S w ws (h w (first w w ws refl)) ∙ all_seen S ws (λ v o. h v (later v w ws o))
 
-read_again : (db : Database) (options : Options) (w : Writing) (es : List WrittenStep) → flat_map (λ (s : BoundStep). option_map_or (works_in db) s.tree []) (map (bound_step db options w) es) ≡ flat_map (works_in db) (trees es)
+read_again : (db : Database) (options : Options) (w : Writing) (es : List WrittenStep)
+    → flat_map (λ (s : BoundStep). option_map_or (works_in db) s.tree []) (map (bound_step db options w) es) ≡ flat_map (works_in db) (trees es)
 read_again db options w [] = refl
 read_again db options w (e ∷ es) = ap (λ ws. works_in db e.tree ++ ws) (read_again db options w es)
 
@@ -77,7 +79,8 @@ nothing_new db options w =
     let works : flat_map (works_in db) (map (name_tree no_names) ts) ≡ read = ap (flat_map (works_in db)) (all_stay ts) ∙ sym (read_again db options w (steps_in w.items)) in
     ap (not_seen read) works ∙ all_seen read read (λ v o. contained_is_in read v o)
 
-named_again : (db : Database) (options : Options) (w : Writing) → ((c : Typecode) (n : ℕ) → IsWrittenLeaf (trees (steps_in w.items)) c n → ⊥) → IsNaming db (written_bound db options w) (trees (steps_in w.items)) no_names
+named_again : (db : Database) (options : Options) (w : Writing) → ((c : Typecode) (n : ℕ) → IsWrittenLeaf (trees (steps_in w.items)) c n → ⊥)
+    → IsNaming db (written_bound db options w) (trees (steps_in w.items)) no_names
 named_again db options w free = record {
   named = λ c n o. absurd (free c n o);
   others = λ c n o. refl;

@@ -1,5 +1,6 @@
 -- The steps of a written worksheet can be spelled.
-use Rattle.std.specs.Prelude.{◌≡◌, ◌≤◌, ◌++◌, ◌&&◌, ◌||◌, ◌==◌, not, nat_lt, ℕ, zero, suc, Bool, true, false, List, [], ◌∷◌, length, map, flat_map, filter_map, slice_get, Option, Some, None, codes, refl}
+use Rattle.std.specs.Prelude.{◌≡◌, ◌≤◌, ◌++◌, ◌&&◌, ◌||◌, ◌==◌, not, nat_lt, ℕ, zero, suc, Bool, true, false, List, [], ◌∷◌, length, map, flat_map}
+use Rattle.std.specs.Prelude.{filter_map, slice_get, Option, Some, None, codes, refl}
 use Rattle.std.specs.List.{AllByRecursion, AllZip, list_all, last_or}
 use Rattle.std.specs.Str.{bytes_eq}
 use Rattle.std.proofs.Common.{sym, ap, subst, ◌∙◌, arith, length-append, lt-ltb}
@@ -136,7 +137,8 @@ module _ (db : Database) (named : AllByRecursion IsSymbolName db.symbols) (facts
       and_from _ _ (and_from _ _ (and_from _ _ (and_from (is_label e.name) (e.hyp || not (marked_name e.name).0) b.name b.mark) (below_all n e.places a.places)) b.reference)
       (tokens_written db named facts place e.tree provable c)
 
-  pub steps_spelled : (n : ℕ) (es : List WrittenStep) → AreSettled n es → AllByRecursion IsWordy es → AllByRecursion (IsWell db place) (trees es) → are_steps_spellable n (map (written_step db) es) ≡ true
+  pub steps_spelled : (n : ℕ) (es : List WrittenStep) → AreSettled n es → AllByRecursion IsWordy es → AllByRecursion (IsWell db place) (trees es)
+      → are_steps_spellable n (map (written_step db) es) ≡ true
   steps_spelled n [] a b c = refl
   steps_spelled n (e ∷ es) a b c =
       and_from (is_step_spellable n (written_step db e)) (are_steps_spellable (suc n) (map (written_step db) es)) (step_spelled n e a.0 b.0 c.0) (steps_spelled (suc n) es a.1 b.1 c.1)
@@ -148,7 +150,8 @@ comments_spelled db (step e ∷ is) h = comments_spelled db is h.1
 
 -- ---- the provable typecode is a token
 
-last_of : {X : Type 0} (o : Option X) (f : SheetStep → X) (s : SheetStep) (ss : List SheetStep) → (t : SheetStep) × (i : ℕ) × (slice_get (s ∷ ss) i ≡ Some t) × (last_or o (map f (s ∷ ss)) ≡ Some (f t))
+last_of : {X : Type 0} (o : Option X) (f : SheetStep → X) (s : SheetStep) (ss : List SheetStep)
+    → (t : SheetStep) × (i : ℕ) × (slice_get (s ∷ ss) i ≡ Some t) × (last_or o (map f (s ∷ ss)) ≡ Some (f t))
 last_of o f s [] = (s, 0, refl, refl)
 last_of o f s (r ∷ rs) = let k = last_of (Some (f s)) f r rs in (k.0, suc k.1, k.2, k.3)
 
@@ -158,7 +161,9 @@ some_names a b e = cc
 module _ (db : Database) (s : Sheet) (spellable : IsSpellable s) (sound : (line code : ℕ) → BindFaultAt db s line code → ⊥) where
   at_number : (n : ℕ) (ss : List SheetStep) (i : ℕ) (t : SheetStep) → are_steps_spellable n ss ≡ true → slice_get ss i ≡ Some t → list_all is_token t.formula ≡ true
   at_number n [] i t h e = absurd (cc)
-  at_number n (r ∷ rs) zero t h e = let same : r ≡ t = cc in subst (λ (x : SheetStep). list_all is_token x.formula ≡ true) same (and_parts _ _ (and_parts (is_step_spellable n r) (are_steps_spellable (suc n) rs) h).0).1
+  at_number n (r ∷ rs) zero t h e = let same : r ≡ t = cc in
+      subst (λ (x : SheetStep). list_all is_token x.formula ≡ true) same
+          (and_parts _ _ (and_parts (is_step_spellable n r) (are_steps_spellable (suc n) rs) h).0).1
   at_number n (r ∷ rs) (suc i) t h e = at_number (suc n) rs i t (and_parts (is_step_spellable n r) (are_steps_spellable (suc n) rs) h).1 e
 
   false_by : (b : Bool) → (b ≡ true → ⊥) → b ≡ false

@@ -1,5 +1,6 @@
 -- The words of the command line.
-use Rattle.std.specs.Prelude.{ℕ, suc, Bool, not, ◌&&◌, ◌||◌, ◌==◌, List, [], ◌∷◌, length, drop, find, map, take_while, nat_eq, if◌then◌else◌, Option, Some, None, option_map, option_and_then, decimal, codes}
+use Rattle.std.specs.Prelude.{ℕ, suc, Bool, not, ◌&&◌, ◌||◌, ◌==◌, List, [], ◌∷◌, length, drop, find, map, take_while, nat_eq, if◌then◌else◌, Option}
+use Rattle.std.specs.Prelude.{Some, None, option_map, option_and_then, decimal, codes}
 use Rattle.std.specs.List.{list_all, prefix_len, range_with_len, starts_with}
 use Rattle.std.specs.Option.{option_map_or}
 use Rattle.std.specs.Str.{bytes_eq}

@@ -38,7 +38,8 @@ module _ (rows : List Production) (works : List WorkNode) (vars : List VariableN
   unfolding added
   added-Fresh c n nodes = ap (λ (f : Adder). f nodes) (fold-Fresh Adder (layer_adder rows works vars) c n)
 
-  pub added-Node : (l : Label) (c : Typecode) (ts : List Tree) (nodes : List Term) → added rows works vars (tree.Node l c ts) nodes ≡ with_production l c (constants_in rows l) (run (map (added rows works vars) ts) nodes)
+  pub added-Node : (l : Label) (c : Typecode) (ts : List Tree) (nodes : List Term)
+      → added rows works vars (tree.Node l c ts) nodes ≡ with_production l c (constants_in rows l) (run (map (added rows works vars) ts) nodes)
   unfolding added
   added-Node l c ts nodes = ap (λ (f : Adder). f nodes) (fold-Node Adder (layer_adder rows works vars) l c ts)
 
@@ -62,14 +63,20 @@ module _ (rows : List Production) (before : ℕ) (base : List Term) (works : Lis
   of_made nodes c f m = record { more = m.more; extends = m.extends; grown = m.grown; within = m.within; code = m.code; means = m.means }
 
   -- a node that is found
-  pub found_node : (nodes : List Term) (c : Typecode) (f : List Tree → Tree) (o : Option ℕ) (e : Term) (i : ℕ) → o ≡ Some i → Grows nodes → i < length nodes → term_code (term_at nodes i) ≡ c → ((trees : List Tree) → Fit nodes trees → tree_at trees i ≡ f trees) → IsMade nodes (there_or o e nodes) c f
+  pub found_node : (nodes : List Term) (c : Typecode) (f : List Tree → Tree) (o : Option ℕ) (e : Term) (i : ℕ) → o ≡ Some i → Grows nodes
+      → i < length nodes → term_code (term_at nodes i) ≡ c → ((trees : List Tree) → Fit nodes trees → tree_at trees i ≡ f trees)
+      → IsMade nodes (there_or o e nodes) c f
   unfolding standing_node
-  found_node nodes c f o e i is g h code means = subst (λ (p : Option ℕ). IsMade nodes (there_or p e nodes) c f) (sym is) (of_made nodes c f (standing_node rows before base nodes c f g i h code means))
+  found_node nodes c f o e i is g h code means =
+      subst (λ (p : Option ℕ). IsMade nodes (there_or p e nodes) c f) (sym is)
+          (of_made nodes c f (standing_node rows before base nodes c f g i h code means))
 
   -- a variable of the database
   pub own_variable : (nodes : List Term) (s : Sym) (c : Typecode) → vars ≡ [] → Grows nodes → IsMade nodes (there_or (variable_at vars s c) (Var s c) nodes) c (λ us. tree.Var s c)
   unfolding new_variable
-  own_variable nodes s c none g = subst (λ (vs : List VariableNode). IsMade nodes (there_or (variable_at vs s c) (Var s c) nodes) c (λ us. tree.Var s c)) (sym none) (of_made nodes c (λ us. tree.Var s c) (new_variable rows before base nodes s c g))
+  own_variable nodes s c none g =
+      subst (λ (vs : List VariableNode). IsMade nodes (there_or (variable_at vs s c) (Var s c) nodes) c (λ us. tree.Var s c)) (sym none)
+          (of_made nodes c (λ us. tree.Var s c) (new_variable rows before base nodes s c g))
 
   module _ (a : List Tree → Sym → Typecode → Tree) (p : List Tree → Open → Tree) (Ok : Tree → Type 0)
       (ok_fresh : (c : Typecode) (n : ℕ) → Ok (tree.Fresh c n) → ⊥) (ok_node : (l : Label) (c : Typecode) (ts : List Tree) → Ok (tree.Node l c ts) → Each Ok ts)
@@ -93,9 +100,12 @@ module _ (rows : List Production) (before : ℕ) (base : List Term) (works : Lis
     append_none [] = refl
     append_none (n ∷ ns) = ap (λ (rest : List Term). n ∷ rest) (append_none ns)
 
-    one_then : (t : Tree) (ts : List Tree) (nodes : List Term) (one : Rooted) (rest : Listed) → IsMade nodes one (code_of t) (λ us. value us t) → AreMade one.nodes rest ts → AreMade nodes (first_then one rest) (t ∷ ts)
+    one_then : (t : Tree) (ts : List Tree) (nodes : List Term) (one : Rooted) (rest : Listed) → IsMade nodes one (code_of t) (λ us. value us t)
+        → AreMade one.nodes rest ts → AreMade nodes (first_then one rest) (t ∷ ts)
     one_then t ts nodes one rest m all =
-        let code : term_code (term_at rest.nodes one.root) ≡ code_of t = ap (λ (ns : List Term). term_code (term_at ns one.root)) all.extends ∙ ap term_code (term_front one.nodes all.more one.root m.within) ∙ m.code in
+        let code : term_code (term_at rest.nodes one.root) ≡ code_of t =
+            ap (λ (ns : List Term). term_code (term_at ns one.root)) all.extends ∙ ap term_code (term_front one.nodes all.more one.root m.within)
+                ∙ m.code in
         let codes = all.codes in
         record {
           more = m.more ++ all.more;
@@ -120,14 +130,18 @@ module _ (rows : List Production) (before : ℕ) (base : List Term) (works : Lis
         subst (λ (x : Rooted). IsMade nodes x d g) e
         (record { more = m.more; extends = m.extends; grown = m.grown; within = m.within; code = m.code ∙ code; means = λ us h. m.means us h ∙ same us })
 
-    typed_term : (l m : Label) (c d : Typecode) (k j : ℕ) (xs ys : List Id) (nodes : List Term) → Node l c k xs ≡ Node m d j ys → IsTypedTerm rows before nodes l c xs → IsTypedTerm rows before nodes m d ys
+    typed_term : (l m : Label) (c d : Typecode) (k j : ℕ) (xs ys : List Id) (nodes : List Term) → Node l c k xs ≡ Node m d j ys
+        → IsTypedTerm rows before nodes l c xs → IsTypedTerm rows before nodes m d ys
     typed_term l m c d k j xs ys nodes e h =
         let one : l ≡ m = cc in
         let two : c ≡ d = cc in
         let three : xs ≡ ys = cc in
-        subst (λ (x : Label). IsTypedTerm rows before nodes x d ys) one (subst (λ (x : Typecode). IsTypedTerm rows before nodes l x ys) two (subst (λ (x : List Id). IsTypedTerm rows before nodes l c x) three h))
+        subst (λ (x : Label). IsTypedTerm rows before nodes x d ys) one
+            (subst (λ (x : Typecode). IsTypedTerm rows before nodes l x ys) two
+                (subst (λ (x : List Id). IsTypedTerm rows before nodes l c x) three h))
 
-    production_made : (l : Label) (c : Typecode) (k : ℕ) (ts : List Tree) (nodes : List Term) (r : Listed) → IsTyped rows before (tree.Node l c ts) → AreMade nodes r ts → IsMade nodes (with_production l c k r) c (λ us. tree.Node l c (map (value us) ts))
+    production_made : (l : Label) (c : Typecode) (k : ℕ) (ts : List Tree) (nodes : List Term) (r : Listed) → IsTyped rows before (tree.Node l c ts)
+        → AreMade nodes r ts → IsMade nodes (with_production l c k r) c (λ us. tree.Node l c (map (value us) ts))
     unfolding new_node
     production_made l c k ts nodes r ty all =
         let here = typed_here rows before l c ts ty in
@@ -135,12 +149,16 @@ module _ (rows : List Production) (before : ℕ) (base : List Term) (works : Lis
         let m = new_node rows before base r.nodes (Node l c k r.roots) (λ us. tree.Node l c (map (value us) ts)) all.grown
         (record { children = all.within; not_free = λ d is. cc; typed = λ m' d j kids is. typed_term l m' c d k j r.roots kids r.nodes is typed })
         (λ us f h. h ∙ ap (λ xs. tree.Node l c xs) (all.means us f)) in
-        record { more = all.more ++ m.more; extends = m.extends ∙ ap (λ (ns : List Term). ns ++ m.more) all.extends ∙ append_assoc nodes all.more m.more; grown = m.grown; within = m.within; code = m.code; means = m.means }
+        record { more = all.more ++ m.more;
+            extends = m.extends ∙ ap (λ (ns : List Term). ns ++ m.more) all.extends ∙ append_assoc nodes all.more m.more; grown = m.grown;
+            within = m.within; code = m.code; means = m.means }
 
     pub added_made : (t : Tree) → Adds t
     added_made = tree_ind Adds
-        (λ s c ok ty nodes g. made_is nodes _ _ c (code_of (tree.Var s c)) _ _ (sym (added-Var rows works vars s c nodes)) (sym (code-Var s c)) (λ us. sym (replace-Var (a us) (p us) s c)) (at_var s c ok nodes g))
-        (λ c n ok ty nodes g. made_is nodes _ _ c (code_of (tree.Work c n)) _ _ (sym (added-Work rows works vars c n nodes)) (sym (code-Work c n)) (λ us. sym (replace-Work (a us) (p us) c n)) (at_work c n ok nodes g))
+        (λ s c ok ty nodes g. made_is nodes _ _ c (code_of (tree.Var s c)) _ _ (sym (added-Var rows works vars s c nodes)) (sym (code-Var s c))
+            (λ us. sym (replace-Var (a us) (p us) s c)) (at_var s c ok nodes g))
+        (λ c n ok ty nodes g. made_is nodes _ _ c (code_of (tree.Work c n)) _ _ (sym (added-Work rows works vars c n nodes)) (sym (code-Work c n))
+            (λ us. sym (replace-Work (a us) (p us) c n)) (at_work c n ok nodes g))
         (λ c n ok ty nodes g. absurd (ok_fresh c n ok))
         (λ l c ts h ok ty nodes g.
         made_is nodes _ _ c (code_of (tree.Node l c ts)) _ _ (sym (added-Node rows works vars l c ts nodes)) (sym (code-Node l c ts)) (λ us. sym (replace-Node (a us) (p us) l c ts))

@@ -17,7 +17,8 @@ use Rattle.sheet_text.specs.declared.sheet.Given.TheVariants as given
 use Rattle.solve_model.specs.declared.bound.BoundStep.{BoundStep}
 use Rattle.solve_model.specs.declared.bound.Bound.{Bound}
 use Rattle.solve_model.specs.Trees.{Open, work, fresh, replace, leaf_tree, Occurs}
-use Rattle.solve_model.specs.Solutions.{Unknown, named, blank, copy, Valuation, IsUnknown, in_formula, is_blank, in_frame, Asked, Solves, PlacesFit, formula_value, formula, instance, open_value, no_step}
+use Rattle.solve_model.specs.Solutions.{Unknown, named, blank, copy, Valuation, IsUnknown, in_formula, is_blank, in_frame, Asked, Solves, PlacesFit}
+use Rattle.solve_model.specs.Solutions.{formula_value, formula, instance, open_value, no_step}
 use Rattle.solve_model.proofs.TreeLaws.{replace-Var, replace-Node}
 use Rattle.solve_laws.proofs.ReplaceLaws.{replace-agree}
 use Rattle.written_model.specs.Existence.{IsPlaceIn}
@@ -74,7 +75,8 @@ module _ (bound : Bound) (asked : List Asked) (v w : Valuation) (same : (u : Unk
         over_agree x.assertion.vars (λ s c. v (copy x.step s c)) (λ s c. w (copy x.step s c)) leaf_tree leaf_tree
         (λ s c is. same (copy x.step s c) (in_frame x (record { sym = s; code = c }) is_asked is)) t o
 
-    places_same : (gs : List Given) (es : List Tree) → AllByRecursion (IsPlaceIn (length bound.steps)) gs → AllByRecursion (IsOver x.assertion.vars) es → PlacesFit bound v x.step gs es → PlacesFit bound w x.step gs es
+    places_same : (gs : List Given) (es : List Tree) → AllByRecursion (IsPlaceIn (length bound.steps)) gs
+        → AllByRecursion (IsOver x.assertion.vars) es → PlacesFit bound v x.step gs es → PlacesFit bound w x.step gs es
     places_same [] es h o f = tt
     places_same (g ∷ gs) [] h o f = f
     places_same (given.Gap ∷ gs) (e ∷ es) h o f = places_same gs es h.1 o.1 f
@@ -86,6 +88,7 @@ module _ (bound : Bound) (asked : List Asked) (v w : Valuation) (same : (u : Unk
       places = places_same x.places x.assertion.hyps sound.places sound.hyps s.places;
     }
 
-  pub solve_same : (xs : List Asked) → ((x : Asked) → Contains xs x → Contains asked x) → AllByRecursion (IsSoundAsked bound) xs → AllByRecursion (Solves bound v) xs → AllByRecursion (Solves bound w) xs
+  pub solve_same : (xs : List Asked) → ((x : Asked) → Contains xs x → Contains asked x) → AllByRecursion (IsSoundAsked bound) xs
+      → AllByRecursion (Solves bound v) xs → AllByRecursion (Solves bound w) xs
   solve_same [] inside sound s = tt
   solve_same (x ∷ xs) inside sound s = (solves_same x (inside x (first x xs)) sound.0 s.0, solve_same xs (λ y h. inside y (later y x xs h)) sound.1 s.1)

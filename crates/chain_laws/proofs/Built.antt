@@ -18,7 +18,8 @@ use Rattle.solve_model.specs.declared.bound.Bound.{Bound}
 use Rattle.sheet_text.specs.declared.sheet.Given.{Given}
 use Rattle.sheet_text.specs.declared.sheet.Given.TheVariants as given
 use Rattle.solve_model.specs.Trees.{Open, work, fresh, leaf_tree, open_leaves, flatten, Occurs}
-use Rattle.solve_model.specs.Solutions.{Unknown, named, blank, copy, Valuation, IsUnknown, in_formula, is_blank, in_frame, Asked, Solves, PlacesFit, Solvable, unknown_code, formula_value, instance, open_value, no_step}
+use Rattle.solve_model.specs.Solutions.{Unknown, named, blank, copy, Valuation, IsUnknown, in_formula, is_blank, in_frame, Asked, Solves, PlacesFit}
+use Rattle.solve_model.specs.Solutions.{Solvable, unknown_code, formula_value, instance, open_value, no_step}
 use Rattle.solve_model.specs.MostGeneral.{IsTheValuation}
 use Rattle.solve_model.proofs.TreeLaws.{open_leaves-Fresh, open_leaves-Work, open_leaves-Node}
 use Rattle.solve_laws.proofs.NoFresh.{no_fresh_leaf}
@@ -29,7 +30,9 @@ use Rattle.term_model.proofs.CycleLaws.{start_solution}
 use Rattle.term_model.proofs.ClosureLaws.{agrees_refl}
 use Rattle.chain_laws.specs.declared.leaves.WorkNode.{WorkNode}
 use Rattle.written_model.specs.Existence.{IsPlaceIn}
-use Rattle.chain_laws.specs.Layout.{Layout, HasNode, IsLaidOut, work_node, valuation_of, IsOver, IsSoundAsked, IsChained, Fit, IsFormulaNode, IsInstanceNode, AreFormulaNodes, AreCandidateNodes, place_pairs, candidate_pairs, NodePair, AreJoined, HasRoom, IsReadyFormula, IsReadyBound, IsReadyAsked}
+use Rattle.chain_laws.specs.Layout.{Layout, HasNode, IsLaidOut, work_node, valuation_of, IsOver, IsSoundAsked, IsChained, Fit, IsFormulaNode}
+use Rattle.chain_laws.specs.Layout.{IsInstanceNode, AreFormulaNodes, AreCandidateNodes, place_pairs, candidate_pairs, NodePair, AreJoined, HasRoom}
+use Rattle.chain_laws.specs.Layout.{IsReadyFormula, IsReadyBound, IsReadyAsked}
 use Rattle.chain_laws.proofs.LeastLeaves.{first, later, nothing}
 use Rattle.chain_laws.proofs.Listed.{unknowns, all_unknowns, only_unknowns, once_each, OnceEach, place_in, place_is, place_back, parted}
 use Rattle.chain_laws.proofs.Grown.{Grown, Made, add_tree, standing_node, new_variable, term_front, fit_back, within_front}
@@ -175,7 +178,9 @@ module _ (db : Database) (bound : Bound) (asked : List Asked) (once : OnceEach (
 
   pub each_ok : (ts : List Tree) → ((x : Open) → Contains (flatten (map open_leaves ts)) x → OpenOk x) → Each FormulaOk ts
   each_ok [] h = tt
-  each_ok (t ∷ ts) h = (λ x o. h x (Contains-append_left (open_leaves t) (flatten (map open_leaves ts)) x o), each_ok ts (λ x o. h x (Contains-append_right (open_leaves t) (flatten (map open_leaves ts)) x o)))
+  each_ok (t ∷ ts) h =
+      (λ x o. h x (Contains-append_left (open_leaves t) (flatten (map open_leaves ts)) x o),
+          each_ok ts (λ x o. h x (Contains-append_right (open_leaves t) (flatten (map open_leaves ts)) x o)))
 
   formula_node : (t : Tree) → FormulaOk t → IsTyped db.rows bound.place t → (nodes : List Term) → Grows nodes → MadeOf nodes (code_of t) (λ us. formula_value (valuation_of lay us) 0 (Some t))
   formula_node t ok ty nodes g =
@@ -213,18 +218,27 @@ module _ (db : Database) (bound : Bound) (asked : List Asked) (once : OnceEach (
     extends : next ≡ nodes ++ more
     grown : Grows next
     roots : List ℕ
-    each : (i : ℕ) (s : BoundStep) → slice_get ss i ≡ Some s → (get_or roots i 0 < length next) × ((us : List Tree) → Fit next us → tree_at us (get_or roots i 0) ≡ formula_value (valuation_of lay us) (k + i) s.tree)
+    each : (i : ℕ) (s : BoundStep) → slice_get ss i ≡ Some s
+        → (get_or roots i 0 < length next)
+            × ((us : List Tree) → Fit next us → tree_at us (get_or roots i 0) ≡ formula_value (valuation_of lay us) (k + i) s.tree)
 
   append_none : (ns : List Term) → ns ++ [] ≡ ns
   append_none [] = refl
   append_none (n ∷ ns) = ap (λ (rest : List Term). n ∷ rest) (append_none ns)
 
-  formulas_of : (k : ℕ) (ss : List BoundStep) → ((i : ℕ) (s : BoundStep) → slice_get ss i ≡ Some s → slice_get bound.steps (k + i) ≡ Some s) → AllByRecursion (λ (s : BoundStep). IsReadyFormula db bound.place s.tree) ss → (nodes : List Term) → Grows nodes → Formulas nodes k ss
-  formulas_of k [] at ready nodes g = record { next = nodes; more = []; extends = sym (append_none nodes); grown = g; roots = []; each = λ i s e. let impossible : ◌≡◌ {A = Option BoundStep} None (Some s) = e in absurd (cc) }
+  formulas_of : (k : ℕ) (ss : List BoundStep) → ((i : ℕ) (s : BoundStep) → slice_get ss i ≡ Some s → slice_get bound.steps (k + i) ≡ Some s)
+      → AllByRecursion (λ (s : BoundStep). IsReadyFormula db bound.place s.tree) ss → (nodes : List Term) → Grows nodes → Formulas nodes k ss
+  formulas_of k [] at ready nodes g =
+      record { next = nodes; more = []; extends = sym (append_none nodes); grown = g; roots = [];
+          each = λ i s e. let impossible : ◌≡◌ {A = Option BoundStep} None (Some s) = e in
+          absurd (cc) }
   formulas_of k (t ∷ ss) at ready nodes g =
       let zero_is : k + 0 ≡ k = omega arith in
       let one = formula_of k t t.tree (subst (λ (j : ℕ). slice_get bound.steps j ≡ Some t) zero_is (at 0 t refl)) refl ready.0 nodes g in
-      let rest = formulas_of (k + 1) ss (λ i s e. let next_is : k + suc i ≡ k + 1 + i = omega arith in subst (λ (j : ℕ). slice_get bound.steps j ≡ Some s) next_is (at (suc i) s e)) ready.1 one.next one.grown in
+      let rest =
+          formulas_of (k + 1) ss
+              (λ i s e. let next_is : k + suc i ≡ k + 1 + i = omega arith in
+                  subst (λ (j : ℕ). slice_get bound.steps j ≡ Some s) next_is (at (suc i) s e)) ready.1 one.next one.grown in
       record {
         next = rest.next;
         more = one.more ++ rest.more;
@@ -234,14 +248,21 @@ module _ (db : Database) (bound : Bound) (asked : List Asked) (once : OnceEach (
         each = both one.next rest.next rest.more one.root rest.roots rest.extends one.within one.means rest.each;
       }
     where
-      both : (mid next more : List Term) (root : ℕ) (roots : List ℕ) → next ≡ mid ++ more → root < length mid → ((us : List Tree) → Fit mid us → tree_at us root ≡ formula_value (valuation_of lay us) k t.tree)
-          → ((i : ℕ) (s : BoundStep) → slice_get ss i ≡ Some s → (get_or roots i 0 < length next) × ((us : List Tree) → Fit next us → tree_at us (get_or roots i 0) ≡ formula_value (valuation_of lay us) (k + 1 + i) s.tree))
-          → (i : ℕ) (s : BoundStep) → slice_get (t ∷ ss) i ≡ Some s → (get_or (root ∷ roots) i 0 < length next) × ((us : List Tree) → Fit next us → tree_at us (get_or (root ∷ roots) i 0) ≡ formula_value (valuation_of lay us) (k + i) s.tree)
+      both : (mid next more : List Term) (root : ℕ) (roots : List ℕ) → next ≡ mid ++ more → root < length mid
+          → ((us : List Tree) → Fit mid us → tree_at us root ≡ formula_value (valuation_of lay us) k t.tree)
+          → ((i : ℕ) (s : BoundStep) → slice_get ss i ≡ Some s
+              → (get_or roots i 0 < length next)
+                  × ((us : List Tree) → Fit next us → tree_at us (get_or roots i 0) ≡ formula_value (valuation_of lay us) (k + 1 + i) s.tree))
+          → (i : ℕ) (s : BoundStep) → slice_get (t ∷ ss) i ≡ Some s
+              → (get_or (root ∷ roots) i 0 < length next)
+                  × ((us : List Tree) → Fit next us → tree_at us (get_or (root ∷ roots) i 0) ≡ formula_value (valuation_of lay us) (k + i) s.tree)
       both mid next more root roots e within means each zero s is =
           let same : t ≡ s = cc in
           let number : k ≡ k + 0 = omega arith in (
             within_front db.rows bound.place base mid more next root e within,
-            λ us f. means us (fit_back db.rows bound.place base mid more next us e f) ∙ ap (λ (j : ℕ). formula_value (valuation_of lay us) j t.tree) number ∙ ap (λ (x : BoundStep). formula_value (valuation_of lay us) (k + 0) x.tree) same,
+            λ us f. means us (fit_back db.rows bound.place base mid more next us e f)
+                ∙ ap (λ (j : ℕ). formula_value (valuation_of lay us) j t.tree) number
+                ∙ ap (λ (x : BoundStep). formula_value (valuation_of lay us) (k + 0) x.tree) same,
           )
       both mid next more root roots e within means each (suc i) s is =
           let told = each i s is in
@@ -251,12 +272,17 @@ module _ (db : Database) (bound : Bound) (asked : List Asked) (once : OnceEach (
   -- ---- candidates
 
   formula_grows : (nodes more next : List Term) (i j : ℕ) → next ≡ nodes ++ more → IsFormulaNode bound nodes lay i j → IsFormulaNode bound next lay i j
-  formula_grows nodes more next i j e h = record { within = within_front db.rows bound.place base nodes more next j e h.within; is_formula = λ us f. h.is_formula us (fit_back db.rows bound.place base nodes more next us e f) }
+  formula_grows nodes more next i j e h =
+      record { within = within_front db.rows bound.place base nodes more next j e h.within;
+          is_formula = λ us f. h.is_formula us (fit_back db.rows bound.place base nodes more next us e f) }
 
   instance_grows : (nodes more next : List Term) (i : ℕ) (t : Tree) (j : ℕ) → next ≡ nodes ++ more → IsInstanceNode nodes lay i t j → IsInstanceNode next lay i t j
-  instance_grows nodes more next i t j e h = record { within = within_front db.rows bound.place base nodes more next j e h.within; is_instance = λ us f. h.is_instance us (fit_back db.rows bound.place base nodes more next us e f) }
+  instance_grows nodes more next i t j e h =
+      record { within = within_front db.rows bound.place base nodes more next j e h.within;
+          is_instance = λ us f. h.is_instance us (fit_back db.rows bound.place base nodes more next us e f) }
 
-  instance_node : (x : Asked) → Contains asked x → (t : Tree) → IsOver x.assertion.vars t → IsTyped db.rows bound.place t → (nodes : List Term) → Grows nodes → MadeOf nodes (code_of t) (λ us. instance (valuation_of lay us) x.step t)
+  instance_node : (x : Asked) → Contains asked x → (t : Tree) → IsOver x.assertion.vars t → IsTyped db.rows bound.place t → (nodes : List Term)
+      → Grows nodes → MadeOf nodes (code_of t) (λ us. instance (valuation_of lay us) x.step t)
   instance_node x is_asked t over ty nodes g =
       add_tree db.rows bound.place base (λ us s c. valuation_of lay us (copy x.step s c)) (λ us. leaf_tree) (IsOver x.assertion.vars)
       (over_Fresh x.assertion.vars) (λ l c ts h. node_held _ l c ts h)
@@ -272,7 +298,8 @@ module _ (db : Database) (bound : Bound) (asked : List Asked) (once : OnceEach (
     roots : List ℕ
     each : AllZip (IsInstanceNode next lay i) ts roots
 
-  instances_of : (x : Asked) → Contains asked x → (ts : List Tree) → AllByRecursion (IsOver x.assertion.vars) ts → AllByRecursion (IsTyped db.rows bound.place) ts → (nodes : List Term) → Grows nodes → Instances nodes x.step ts
+  instances_of : (x : Asked) → Contains asked x → (ts : List Tree) → AllByRecursion (IsOver x.assertion.vars) ts
+      → AllByRecursion (IsTyped db.rows bound.place) ts → (nodes : List Term) → Grows nodes → Instances nodes x.step ts
   instances_of x is_asked [] over ty nodes g = record { next = nodes; more = []; extends = sym (append_none nodes); grown = g; roots = []; each = tt }
   instances_of x is_asked (t ∷ ts) over ty nodes g =
       let one = instance_node x is_asked t over.0 ty.0 nodes g in
@@ -311,16 +338,21 @@ module _ (db : Database) (bound : Bound) (asked : List Asked) (once : OnceEach (
 
   pairs_grow : (nodes more next : List Term) (ps : List NodePair) → next ≡ nodes ++ more → AllByRecursion (IsPairIn nodes) ps → AllByRecursion (IsPairIn next) ps
   pairs_grow nodes more next [] e h = tt
-  pairs_grow nodes more next (p ∷ ps) e h = ((within_front db.rows bound.place base nodes more next p.0 e h.0.0, within_front db.rows bound.place base nodes more next p.1 e h.0.1), pairs_grow nodes more next ps e h.1)
+  pairs_grow nodes more next (p ∷ ps) e h =
+      ((within_front db.rows bound.place base nodes more next p.0 e h.0.0, within_front db.rows bound.place base nodes more next p.1 e h.0.1),
+          pairs_grow nodes more next ps e h.1)
 
-  places_inside : (nodes : List Term) (formulas : ℕ → ℕ) (i : ℕ) → AreFormulaNodes bound nodes lay formulas → (gs : List Given) (es : List Tree) (hs : List ℕ) → AllByRecursion (IsPlaceIn (length bound.steps)) gs → AllZip (IsInstanceNode nodes lay i) es hs → AllByRecursion (IsPairIn nodes) (place_pairs formulas gs hs)
+  places_inside : (nodes : List Term) (formulas : ℕ → ℕ) (i : ℕ) → AreFormulaNodes bound nodes lay formulas
+      → (gs : List Given) (es : List Tree) (hs : List ℕ) → AllByRecursion (IsPlaceIn (length bound.steps)) gs
+      → AllZip (IsInstanceNode nodes lay i) es hs → AllByRecursion (IsPairIn nodes) (place_pairs formulas gs hs)
   places_inside nodes formulas i are [] es hs h z = tt
   places_inside nodes formulas i are (g ∷ gs) es [] h z = tt
   places_inside nodes formulas i are (g ∷ gs) [] (x ∷ hs) h z = absurd z
   places_inside nodes formulas i are (given.Gap ∷ gs) (e ∷ es) (x ∷ hs) h z = places_inside nodes formulas i are gs es hs h.1 z.1
   places_inside nodes formulas i are (given.Step k ∷ gs) (e ∷ es) (x ∷ hs) h z = ((z.0.within, (are k h.0).within), places_inside nodes formulas i are gs es hs h.1 z.1)
 
-  paired : (formulas : ℕ → ℕ) (xs : List Asked) → ((x : Asked) → Contains xs x → Contains asked x) → AllByRecursion (IsReadyAsked db bound) xs → (nodes : List Term) → Grows nodes → AreFormulaNodes bound nodes lay formulas → Paired nodes formulas xs
+  paired : (formulas : ℕ → ℕ) (xs : List Asked) → ((x : Asked) → Contains xs x → Contains asked x) → AllByRecursion (IsReadyAsked db bound) xs
+      → (nodes : List Term) → Grows nodes → AreFormulaNodes bound nodes lay formulas → Paired nodes formulas xs
   paired formulas [] among ready nodes g are = record { next = nodes; more = []; extends = sym (append_none nodes); grown = g; pairs = []; inside = tt; told = λ us f s. tt; solve = λ us f r j. tt }
   paired formulas (x ∷ xs) among ready nodes g are =
       let is_asked = among x (first x xs) in
@@ -329,10 +361,14 @@ module _ (db : Database) (bound : Bound) (asked : List Asked) (once : OnceEach (
       let here : IsInstanceNode root.next lay x.step x.assertion.tree root.root = record { within = root.within; is_instance = root.means } in
       let whole : hyps.next ≡ nodes ++ (root.more ++ hyps.more) = hyps.extends ∙ ap (λ (ns : List Term). ns ++ hyps.more) root.extends ∙ append_assoc nodes root.more hyps.more in
       let are' : AreFormulaNodes bound hyps.next lay formulas = λ i h. formula_grows nodes (root.more ++ hyps.more) hyps.next i (formulas i) whole (are i h) in
-      let candidate : AreCandidateNodes hyps.next lay x.step x.assertion root.root hyps.roots = record { conclusion = instance_grows root.next hyps.more hyps.next x.step x.assertion.tree root.root hyps.extends here; hyps = hyps.each } in
+      let candidate : AreCandidateNodes hyps.next lay x.step x.assertion root.root hyps.roots =
+          record { conclusion = instance_grows root.next hyps.more hyps.next x.step x.assertion.tree root.root hyps.extends here;
+              hyps = hyps.each } in
       let rest = paired formulas xs (λ y h. among y (later y x xs h)) ready.1 hyps.next hyps.grown are' in
       let mine = candidate_pairs formulas x.step x.places root.root hyps.roots in
-      let mine_inside : AllByRecursion (IsPairIn hyps.next) mine = ((candidate.conclusion.within, (are' x.step ready.0.sound.step).within), places_inside hyps.next formulas x.step are' x.places x.assertion.hyps hyps.roots ready.0.sound.places hyps.each) in
+      let mine_inside : AllByRecursion (IsPairIn hyps.next) mine =
+          ((candidate.conclusion.within, (are' x.step ready.0.sound.step).within),
+              places_inside hyps.next formulas x.step are' x.places x.assertion.hyps hyps.roots ready.0.sound.places hyps.each) in
       record {
         next = rest.next;
         more = (root.more ++ hyps.more) ++ rest.more;
@@ -345,7 +381,10 @@ module _ (db : Database) (bound : Bound) (asked : List Asked) (once : OnceEach (
             (rest.told us f s.1);
         solve = λ us f r j.
             let parts = all_split (λ (p : NodePair). tree_at us p.0 ≡ tree_at us p.1) mine rest.pairs j in
-            (joined_solves bound hyps.next lay formulas are' us (fit_back db.rows bound.place base hyps.next rest.more rest.next us rest.extends f) x root.root hyps.roots ready.0.sound r.0 candidate parts.0, rest.solve us f r.1 parts.1);
+            (joined_solves bound hyps.next lay formulas are' us
+                (fit_back db.rows bound.place base hyps.next rest.more rest.next us rest.extends
+                    f) x root.root hyps.roots ready.0.sound r.0 candidate parts.0,
+                rest.solve us f r.1 parts.1);
       }
 
 -- ---- the law
@@ -364,7 +403,8 @@ all_sound : (db : Database) (bound : Bound) (xs : List Asked) → AllByRecursion
 all_sound db bound [] h = tt
 all_sound db bound (x ∷ xs) h = (h.0.sound, all_sound db bound xs h.1)
 
-module _ (db : Database) (bound : Bound) (accepted : List Asked) (ready : IsReadyBound db bound) (asked_ready : AllByRecursion (IsReadyAsked db bound) accepted) (fits : Solvable db bound accepted) where
+module _ (db : Database) (bound : Bound) (accepted : List Asked) (ready : IsReadyBound db bound)
+    (asked_ready : AllByRecursion (IsReadyAsked db bound) accepted) (fits : Solvable db bound accepted) where
   once : OnceEach (unknowns bound accepted)
   once = once_each (unknowns bound accepted)
 

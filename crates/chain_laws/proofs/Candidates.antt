@@ -15,7 +15,8 @@ use Rattle.term_model.specs.Terms.{Term}
 use Rattle.term_model.specs.Links.{Link}
 use Rattle.term_model.specs.Store.{tree_at, Solution, IsStore, IsSolved}
 use Rattle.written_model.specs.Existence.{IsPlaceIn}
-use Rattle.chain_laws.specs.Layout.{Layout, IsLaidOut, valuation_of, IsSoundAsked, IsChained, Fit, IsInstanceNode, AreFormulaNodes, AreCandidateNodes, place_pairs, candidate_pairs, HasRoom, NodePair, AreJoined, Joins, CannotJoin}
+use Rattle.chain_laws.specs.Layout.{Layout, IsLaidOut, valuation_of, IsSoundAsked, IsChained, Fit, IsInstanceNode, AreFormulaNodes, AreCandidateNodes}
+use Rattle.chain_laws.specs.Layout.{place_pairs, candidate_pairs, HasRoom, NodePair, AreJoined, Joins, CannotJoin}
 use Rattle.chain_laws.proofs.LeastLeaves.{first}
 use Rattle.chain_laws.proofs.Agreement.{solve_same}
 use Rattle.chain_laws.proofs.Chained.{solution_of}
@@ -33,7 +34,8 @@ module _ (bound : Bound) (nodes : List Term) (lay : Layout) (formulas : ℕ → 
   formula_is k h = (are k h).is_formula trees fit
 
   module _ (i : ℕ) where
-    places_told : (gs : List Given) (es : List Tree) (hs : List ℕ) → AllByRecursion (IsPlaceIn (length bound.steps)) gs → AllZip (IsInstanceNode nodes lay i) es hs → PlacesFit bound v i gs es → AreJoined trees (place_pairs formulas gs hs)
+    places_told : (gs : List Given) (es : List Tree) (hs : List ℕ) → AllByRecursion (IsPlaceIn (length bound.steps)) gs
+        → AllZip (IsInstanceNode nodes lay i) es hs → PlacesFit bound v i gs es → AreJoined trees (place_pairs formulas gs hs)
     places_told [] es hs h z f = tt
     places_told (g ∷ gs) [] [] h z f = tt
     places_told (g ∷ gs) [] (x ∷ hs) h z f = absurd z
@@ -41,18 +43,23 @@ module _ (bound : Bound) (nodes : List Term) (lay : Layout) (formulas : ℕ → 
     places_told (given.Gap ∷ gs) (e ∷ es) (x ∷ hs) h z f = places_told gs es hs h.1 z.1 f
     places_told (given.Step k ∷ gs) (e ∷ es) (x ∷ hs) h z f = (z.0.is_instance trees fit ∙ f.0 ∙ sym (formula_is k h.0), places_told gs es hs h.1 z.1 f.1)
 
-    places_join : (gs : List Given) (es : List Tree) (hs : List ℕ) → HasRoom gs es → AllByRecursion (IsPlaceIn (length bound.steps)) gs → AllZip (IsInstanceNode nodes lay i) es hs → AreJoined trees (place_pairs formulas gs hs) → PlacesFit bound v i gs es
+    places_join : (gs : List Given) (es : List Tree) (hs : List ℕ) → HasRoom gs es → AllByRecursion (IsPlaceIn (length bound.steps)) gs
+        → AllZip (IsInstanceNode nodes lay i) es hs → AreJoined trees (place_pairs formulas gs hs) → PlacesFit bound v i gs es
     places_join [] es hs r h z j = tt
     places_join (g ∷ gs) [] hs r h z j = r
     places_join (g ∷ gs) (e ∷ es) [] r h z j = absurd z
     places_join (given.Gap ∷ gs) (e ∷ es) (x ∷ hs) r h z j = places_join gs es hs r h.1 z.1 j
     places_join (given.Step k ∷ gs) (e ∷ es) (x ∷ hs) r h z j = (sym (z.0.is_instance trees fit) ∙ j.0 ∙ formula_is k h.0, places_join gs es hs r h.1 z.1 j.1)
 
-  pub solves_told : (x : Asked) (conclusion : ℕ) (hyps : List ℕ) → IsSoundAsked bound x → AreCandidateNodes nodes lay x.step x.assertion conclusion hyps → Solves bound v x → AreJoined trees (candidate_pairs formulas x.step x.places conclusion hyps)
+  pub solves_told : (x : Asked) (conclusion : ℕ) (hyps : List ℕ) → IsSoundAsked bound x
+      → AreCandidateNodes nodes lay x.step x.assertion conclusion hyps → Solves bound v x
+      → AreJoined trees (candidate_pairs formulas x.step x.places conclusion hyps)
   solves_told x conclusion hyps sound are' s =
       (are'.conclusion.is_instance trees fit ∙ s.conclusion ∙ sym (formula_is x.step sound.step), places_told x.step x.places x.assertion.hyps hyps sound.places are'.hyps s.places)
 
-  pub joined_solves : (x : Asked) (conclusion : ℕ) (hyps : List ℕ) → IsSoundAsked bound x → HasRoom x.places x.assertion.hyps → AreCandidateNodes nodes lay x.step x.assertion conclusion hyps → AreJoined trees (candidate_pairs formulas x.step x.places conclusion hyps) → Solves bound v x
+  pub joined_solves : (x : Asked) (conclusion : ℕ) (hyps : List ℕ) → IsSoundAsked bound x → HasRoom x.places x.assertion.hyps
+      → AreCandidateNodes nodes lay x.step x.assertion conclusion hyps → AreJoined trees (candidate_pairs formulas x.step x.places conclusion hyps)
+      → Solves bound v x
   joined_solves x conclusion hyps sound room are' j = record {
     conclusion = sym (are'.conclusion.is_instance trees fit) ∙ j.0 ∙ formula_is x.step sound.step;
     places = places_join x.step x.places x.assertion.hyps hyps room sound.places are'.hyps j.1;
@@ -124,7 +131,8 @@ joins_more nodes old mid new ps qs h g = record {
 }
 
 -- where one pair cannot be joined, the list cannot
-pub cannot_more : (nodes : List Term) (old mid : List Link) (ps : List NodePair) (p : NodePair) (rest : List NodePair) → Joins nodes old mid ps → CannotJoin nodes mid (p ∷ []) → CannotJoin nodes old (ps ++ p ∷ rest)
+pub cannot_more : (nodes : List Term) (old mid : List Link) (ps : List NodePair) (p : NodePair) (rest : List NodePair) → Joins nodes old mid ps
+    → CannotJoin nodes mid (p ∷ []) → CannotJoin nodes old (ps ++ p ∷ rest)
 cannot_more nodes old mid ps p rest h cannot trees s j =
     let last = all_back (IsPairJoined trees) ps (p ∷ rest) j in
     cannot trees (h.back trees s (all_front (IsPairJoined trees) ps (p ∷ rest) j)) (last.0, tt)
@@ -141,7 +149,8 @@ module _ (db : Database) (bound : Bound) (before : List Asked) (i : ℕ) (a : As
 
   module _ (chained : IsChained db bound with_it before nodes old lay) (sound : IsSoundAsked bound this) where
     -- where the pairs are joined, it is accepted
-    pub accepts : (new : List Link) → HasRoom places a.hyps → IsStore nodes new → IsSolved nodes new → Joins nodes old new (candidate_pairs formulas i places root roots) → IsChained db bound with_it with_it nodes new lay
+    pub accepts : (new : List Link) → HasRoom places a.hyps → IsStore nodes new → IsSolved nodes new
+        → Joins nodes old new (candidate_pairs formulas i places root roots) → IsChained db bound with_it with_it nodes new lay
     accepts new room store solved joins = record {
       store = store;
       solved = solved;

@@ -143,7 +143,8 @@ module _ (db : Database) (bound : Bound) (asked accepted : List Asked) (nodes : 
   the_value_typed = record {
     code = λ u on. ap code_of (value_is u on) ∙ code_at u on;
     typed = λ u on. subst (IsTyped db.rows bound.place) (sym (value_is u on))
-        (at_typed nodes links leaf at chained.store is_made codes ranks.0 ranks.1 db.rows bound.place chained.laid_out.typed (λ e c. leaf_typed db.rows bound.place e c (least_at links e lay.works)) (lay.node_of u) (node u on).within);
+        (at_typed nodes links leaf at chained.store is_made codes ranks.0 ranks.1 db.rows bound.place chained.laid_out.typed
+            (λ e c. leaf_typed db.rows bound.place e c (least_at links e lay.works)) (lay.node_of u) (node u on).within);
   }
     where
       code_at : (u : Unknown) → On u → code_of (at (lay.node_of u)) ≡ unknown_code db u
@@ -174,7 +175,8 @@ module _ (db : Database) (bound : Bound) (asked accepted : List Asked) (nodes : 
     own_code : (e : ℕ) (c : Typecode) → e < length nodes → term_at nodes e ≡ Free c → code_of (v (lay.unknown_at e)) ≡ c
     own_code e c below is =
         let own = chained.laid_out.free e c below is in
-        let free : term_at nodes e ≡ Free (unknown_code db (lay.unknown_at e)) = subst (λ (k : ℕ). term_at nodes k ≡ Free (unknown_code db (lay.unknown_at e))) own.node (node (lay.unknown_at e) own.is_unknown).free in
+        let free : term_at nodes e ≡ Free (unknown_code db (lay.unknown_at e)) =
+            subst (λ (k : ℕ). term_at nodes k ≡ Free (unknown_code db (lay.unknown_at e))) own.node (node (lay.unknown_at e) own.is_unknown).free in
         valued.code (lay.unknown_at e) own.is_unknown ∙ ap term_code (sym free ∙ is)
 
     own_codes : HasCodes nodes [] own_leaf
@@ -221,7 +223,9 @@ module _ (db : Database) (bound : Bound) (asked accepted : List Asked) (nodes : 
       is_instance = record {
         by = by;
         same = λ u on. sym (own_value u on)
-            ∙ sym (refined nodes links leaf at chained.store is_made codes ranks.0 ranks.1 own_trees kept_solution by (λ e c below u' is. leaf_refined e c (least_at links e lay.works) (answer e)) (lay.node_of u) (node u on).within)
+            ∙ sym
+                (refined nodes links leaf at chained.store is_made codes ranks.0 ranks.1 own_trees kept_solution by
+                    (λ e c below u' is. leaf_refined e c (least_at links e lay.works) (answer e)) (lay.node_of u) (node u on).within)
             ∙ ap (refine by) (sym (value_is u on));
       }
 
@@ -251,7 +255,8 @@ module _ (db : Database) (bound : Bound) (asked accepted : List Asked) (nodes : 
       let names : named w.code w.number ≡ named v.code v.number = cc in
       sym (chained.laid_out.works w h).node ∙ ap lay.node_of names ∙ (chained.laid_out.works v g).node
 
-  end_by_work : (e : ℕ) (w : WorkNode) (i : ℕ) (c : Typecode) (o : Option WorkNode) → IsLeastAt links e lay.works w → IsAnswerAt links (end_of links i) lay.works o → named_leaf (end_of links i) c o ≡ leaf_tree (work w.code w.number) → end_of links i ≡ e
+  end_by_work : (e : ℕ) (w : WorkNode) (i : ℕ) (c : Typecode) (o : Option WorkNode) → IsLeastAt links e lay.works w
+      → IsAnswerAt links (end_of links i) lay.works o → named_leaf (end_of links i) c o ≡ leaf_tree (work w.code w.number) → end_of links i ≡ e
   end_by_work e w i c None h a is = let impossible : fresh c (end_of links i) ≡ work w.code w.number = same_leaf (fresh c (end_of links i)) (work w.code w.number) is in absurd (cc)
   end_by_work e w i c (Some v) h a is =
       let same = same_leaf (work v.code v.number) (work w.code w.number) is in
@@ -273,7 +278,8 @@ module _ (db : Database) (bound : Bound) (asked accepted : List Asked) (nodes : 
       let i = lay.node_of (named c n) in
       none (work_node lay c n) (chained.laid_out.all_works c n on) (end_by_fresh e c ends.code i (least_at links (end_of links i) lay.works) ends.is_leaf)
 
-  least_named : (e : ℕ) (c : Typecode) (o : Option WorkNode) → e < length nodes → target_of links e ≡ None → term_at nodes e ≡ Free c → least_at links e lay.works ≡ o → IsAnswerAt links e lay.works o → IsLeastNamed On the_value (named_open e c o)
+  least_named : (e : ℕ) (c : Typecode) (o : Option WorkNode) → e < length nodes → target_of links e ≡ None → term_at nodes e ≡ Free c
+      → least_at links e lay.works ≡ o → IsAnswerAt links e lay.works o → IsLeastNamed On the_value (named_open e c o)
   least_named e c None below u is l h = none_by_fresh e c h
   least_named e c (Some w) below u is l h =
       let own = chained.laid_out.works w h.is_one in

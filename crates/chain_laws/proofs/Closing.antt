@@ -120,7 +120,8 @@ data IsBindable : Term → Term → Type 0 where
   two_productions : {l m : Label} {c d : Typecode} {k h : ℕ} {xs ys : List Id} → IsBindable (Node l c k xs) (Node m d h ys)
 
 module _ (nodes : List Term) where
-  meeting : (e f : Term) (trees : List Tree) (t : Tree) → IsBindable e f → AllByRecursion (λ (id : Id). id.0 < length nodes) (children_of e) → AllByRecursion (λ (id : Id). id.0 < length nodes) (children_of f) → Fits trees t e → Fits trees t f → Meeting nodes e f
+  meeting : (e f : Term) (trees : List Tree) (t : Tree) → IsBindable e f → AllByRecursion (λ (id : Id). id.0 < length nodes) (children_of e)
+      → AllByRecursion (λ (id : Id). id.0 < length nodes) (children_of f) → Fits trees t e → Fits trees t f → Meeting nodes e f
   meeting (Free c) f trees t free_first h g p q = record { kids = []; inside = tt; joined = λ us u a b. tt; agrees = λ links a. tt }
   meeting (Var s c) (Free d) trees t b h g p q = elim b [ ]
   meeting (Var s c) (Node m d j ys) trees t b h g p q = elim b [ ]
@@ -141,7 +142,9 @@ module _ (nodes : List Term) where
 
 -- the bindings that are made, once more links stand behind, agree where these pairs have one end
 Closes : List Term → List Link → List NodePair → Type 0
-Closes nodes links pairs = (more : List Link) → AllEnd (links ++ more) pairs → (k : ℕ) → k < length links → Agrees (links ++ more) (term_at nodes (link_at links k).from) (term_at nodes (link_at links k).to)
+Closes nodes links pairs =
+    (more : List Link) → AllEnd (links ++ more) pairs → (k : ℕ) → k < length links
+        → Agrees (links ++ more) (term_at nodes (link_at links k).from) (term_at nodes (link_at links k).to)
 
 -- closed bindings behind these
 record Closed (nodes : List Term) (trees : List Tree) (links : List Link) (pairs : List NodePair) : Type 0 where
@@ -156,7 +159,9 @@ record Closed (nodes : List Term) (trees : List Tree) (links : List Link) (pairs
 
 module _ (nodes : List Term) (trees : List Tree) where
   abbrev Joins : ℕ → Type 0
-  Joins room = (links : List Link) (pairs : List NodePair) → unbound_below links (length nodes) ≤ room → IsStore nodes links → Solution nodes links trees → AreJoined trees pairs → AreInside (length nodes) pairs → Closes nodes links pairs → Closed nodes trees links pairs
+  Joins room =
+      (links : List Link) (pairs : List NodePair) → unbound_below links (length nodes) ≤ room → IsStore nodes links → Solution nodes links trees
+          → AreJoined trees pairs → AreInside (length nodes) pairs → Closes nodes links pairs → Closed nodes trees links pairs
 
   -- one more binding, of one end to another
   module _ (links : List Link) (x y f t : ℕ) (store : IsStore nodes links) (sol : Solution nodes links trees)
@@ -181,7 +186,11 @@ module _ (nodes : List Term) (trees : List Tree) where
     next_store = record {
       children = store.children;
       in_order = in_order_push (length nodes) links link store.in_order from_free to_free from_inside to_inside apart;
-      codes = next_codes links store.codes (sym (fits_code trees (tree_at trees f) (term_at nodes f) (sol.nodes_fit f from_inside)) ∙ fits_code trees (tree_at trees f) (term_at nodes t) (subst (λ (u : Tree). Fits trees u (term_at nodes t)) (sym (same_at trees sol one)) (sol.nodes_fit t to_inside)));
+      codes =
+          next_codes links store.codes
+              (sym (fits_code trees (tree_at trees f) (term_at nodes f) (sol.nodes_fit f from_inside))
+                  ∙ fits_code trees (tree_at trees f) (term_at nodes t)
+                      (subst (λ (u : Tree). Fits trees u (term_at nodes t)) (sym (same_at trees sol one)) (sol.nodes_fit t to_inside)));
     }
 
     next_solution : (us : List Tree) → Solution nodes links us → tree_at us x ≡ tree_at us y → Solution nodes next us
@@ -212,7 +221,8 @@ module _ (nodes : List Term) (trees : List Tree) where
     next_fewer : (room : ℕ) → unbound_below links (length nodes) ≤ suc room → unbound_below next (length nodes) ≤ room
     next_fewer room h = omega (arith, h, unbound_push links link from_free (length nodes) from_inside)
 
-    bound_on : (room : ℕ) (pairs : List NodePair) → Joins room → unbound_below links (length nodes) ≤ suc room → AreJoined trees pairs → AreInside (length nodes) pairs → Closes nodes links ((x, y) ∷ pairs) → Closed nodes trees links ((x, y) ∷ pairs)
+    bound_on : (room : ℕ) (pairs : List NodePair) → Joins room → unbound_below links (length nodes) ≤ suc room → AreJoined trees pairs
+        → AreInside (length nodes) pairs → Closes nodes links ((x, y) ∷ pairs) → Closed nodes trees links ((x, y) ∷ pairs)
     bound_on room pairs join few joined inside closes =
         let rest = join next (meet.kids ++ pairs) (next_fewer room few) next_store (next_solution trees sol one)
         (all_joined (λ (p : NodePair). tree_at trees p.0 ≡ tree_at trees p.1) meet.kids pairs (kids_of trees sol one) joined)
@@ -225,12 +235,15 @@ module _ (nodes : List Term) (trees : List Tree) where
           store = rest.store;
           solves = rest.solves;
           forced = λ us s j. rest.forced us (next_solution us s j.0) (all_joined (λ (p : NodePair). tree_at us p.0 ≡ tree_at us p.1) meet.kids pairs (kids_of us s j.0) j.1);
-          ended = (subst (λ (ls : List Link). end_of ls x ≡ end_of ls y) (sym rest.extends) (ends_meet rest.more), (all_split (λ (p : NodePair). end_of rest.final p.0 ≡ end_of rest.final p.1) meet.kids pairs rest.ended).1);
+          ended =
+              (subst (λ (ls : List Link). end_of ls x ≡ end_of ls y) (sym rest.extends) (ends_meet rest.more),
+                  (all_split (λ (p : NodePair). end_of rest.final p.0 ≡ end_of rest.final p.1) meet.kids pairs rest.ended).1);
           closes = rest.closes;
         }
 
   -- the nodes of a pair have one end already
-  same_on : (links : List Link) (x y : ℕ) (pairs : List NodePair) → end_of links x ≡ end_of links y → (Closes nodes links pairs → Closed nodes trees links pairs) → Closes nodes links ((x, y) ∷ pairs) → Closed nodes trees links ((x, y) ∷ pairs)
+  same_on : (links : List Link) (x y : ℕ) (pairs : List NodePair) → end_of links x ≡ end_of links y
+      → (Closes nodes links pairs → Closed nodes trees links pairs) → Closes nodes links ((x, y) ∷ pairs) → Closed nodes trees links ((x, y) ∷ pairs)
   unfolding Closes
   same_on links x y pairs e join closes =
       let meet : (more : List Link) → end_of (links ++ more) x ≡ end_of (links ++ more) y = λ more. end_of_append links more x ∙ ap (end_of more) e ∙ sym (end_of_append links more y) in
@@ -264,7 +277,9 @@ module _ (nodes : List Term) (trees : List Tree) where
   inside_of : (links : List Link) (i : ℕ) → IsStore nodes links → i < length nodes → AllByRecursion (λ (id : Id). id.0 < length nodes) (children_of (term_at nodes i))
   inside_of links i store h = wider i (length nodes) (children_of (term_at nodes i)) (omega (arith, h)) (store.children i h)
 
-  differ_on : (links : List Link) (x y : ℕ) (pairs : List NodePair) (room : ℕ) → Joins nodes trees room → unbound_below links (length nodes) ≤ suc room → IsStore nodes links → Solution nodes links trees → AreJoined trees ((x, y) ∷ pairs) → AreInside (length nodes) ((x, y) ∷ pairs) → Closes nodes links ((x, y) ∷ pairs)
+  differ_on : (links : List Link) (x y : ℕ) (pairs : List NodePair) (room : ℕ) → Joins nodes trees room
+      → unbound_below links (length nodes) ≤ suc room → IsStore nodes links → Solution nodes links trees → AreJoined trees ((x, y) ∷ pairs)
+      → AreInside (length nodes) ((x, y) ∷ pairs) → Closes nodes links ((x, y) ∷ pairs)
       → end_of links x ≢ end_of links y → Closed nodes trees links ((x, y) ∷ pairs)
   differ_on links x y pairs room join few store sol joined inside closes ne =
       let n = length nodes in
@@ -280,11 +295,17 @@ module _ (nodes : List Term) (trees : List Tree) where
       let back : b ≢ a = λ (e : b ≡ a). ne (sym e) in
       elim (bindable trees (tree_at trees a) (term_at nodes a) (term_at nodes b) fits_a fits_b) [
         | straight h ↦
-            bound_on nodes trees links x y a b store sol (hop_at (record { from = a; to = b }) a refl ∙ sym (hop_past (record { from = a; to = b }) b back)) a_free b_free a_inside b_inside ne (λ us e. e) joined.0
-            (meeting nodes (term_at nodes a) (term_at nodes b) trees (tree_at trees a) h (inside_of links a store a_inside) (inside_of links b store b_inside) fits_a fits_b) room pairs join few joined.1 inside.1 closes
+            bound_on nodes trees links x y a b store sol
+                (hop_at (record { from = a; to = b }) a refl ∙ sym (hop_past (record { from = a; to = b }) b back)) a_free b_free a_inside b_inside ne
+                (λ us e. e) joined.0
+            (meeting nodes (term_at nodes a) (term_at nodes b) trees (tree_at trees a) h (inside_of links a store a_inside)
+                (inside_of links b store b_inside) fits_a fits_b) room pairs join few joined.1 inside.1 closes
         | turned h ↦
-            bound_on nodes trees links x y b a store sol (hop_past (record { from = b; to = a }) a ne ∙ sym (hop_at (record { from = b; to = a }) b refl)) b_free a_free b_inside a_inside back (λ us e. sym e) joined.0
-            (meeting nodes (term_at nodes b) (term_at nodes a) trees (tree_at trees a) h (inside_of links b store b_inside) (inside_of links a store a_inside) fits_b fits_a) room pairs join few joined.1 inside.1 closes
+            bound_on nodes trees links x y b a store sol
+                (hop_past (record { from = b; to = a }) a ne ∙ sym (hop_at (record { from = b; to = a }) b refl)) b_free a_free b_inside a_inside back
+                (λ us e. sym e) joined.0
+            (meeting nodes (term_at nodes b) (term_at nodes a) trees (tree_at trees a) h (inside_of links b store b_inside)
+                (inside_of links a store a_inside) fits_b fits_a) room pairs join few joined.1 inside.1 closes
       ]
 
   none_left : (links : List Link) (x : ℕ) → IsStore nodes links → x < length nodes → unbound_below links (length nodes) ≤ 0 → ⊥
@@ -294,9 +315,15 @@ module _ (nodes : List Term) (trees : List Tree) where
       omega (arith, few, unbound_positive links (record { from = e; to = e }) (end_unbound n links x store.in_order) n (end_below n links x store.in_order h))
 
   -- by the number of nodes that are not bound, and then the pairs
-  join_by : (room : ℕ) → ((links : List Link) (x y : ℕ) (pairs : List NodePair) → unbound_below links (length nodes) ≤ room → IsStore nodes links → Solution nodes links trees → AreJoined trees ((x, y) ∷ pairs) → AreInside (length nodes) ((x, y) ∷ pairs) → Closes nodes links ((x, y) ∷ pairs) → end_of links x ≢ end_of links y → Closed nodes trees links ((x, y) ∷ pairs))
-      → (links : List Link) (pairs : List NodePair) → unbound_below links (length nodes) ≤ room → IsStore nodes links → Solution nodes links trees → AreJoined trees pairs → AreInside (length nodes) pairs → Closes nodes links pairs → Closed nodes trees links pairs
-  join_by room differ links [] few store sol joined inside closes = record { final = links; more = []; extends = sym (append_none links); store = store; solves = sol; forced = λ us s j. s; ended = tt; closes = closes }
+  join_by : (room : ℕ)
+      → ((links : List Link) (x y : ℕ) (pairs : List NodePair) → unbound_below links (length nodes) ≤ room → IsStore nodes links
+          → Solution nodes links trees → AreJoined trees ((x, y) ∷ pairs) → AreInside (length nodes) ((x, y) ∷ pairs)
+          → Closes nodes links ((x, y) ∷ pairs) → end_of links x ≢ end_of links y → Closed nodes trees links ((x, y) ∷ pairs))
+      → (links : List Link) (pairs : List NodePair) → unbound_below links (length nodes) ≤ room → IsStore nodes links → Solution nodes links trees
+          → AreJoined trees pairs → AreInside (length nodes) pairs → Closes nodes links pairs → Closed nodes trees links pairs
+  join_by room differ links [] few store sol joined inside closes =
+      record { final = links; more = []; extends = sym (append_none links); store = store; solves = sol; forced = λ us s j. s; ended = tt;
+          closes = closes }
     where
       append_none : (ls : List Link) → ls ++ [] ≡ ls
       append_none [] = refl
@@ -311,7 +338,9 @@ module _ (nodes : List Term) (trees : List Tree) where
   join (suc room) = join_by (suc room) (λ links x y pairs few store sol joined inside closes ne. differ_on links x y pairs room (join room) few store sol joined inside closes ne)
 
 -- bindings that agree one by one are closed
-closed_links : (nodes : List Term) (links : List Link) (k : ℕ) → k ≤ length links → ((j : ℕ) → j < length links → Agrees links (term_at nodes (link_at links j).from) (term_at nodes (link_at links j).to)) → IsClosedUpTo k nodes links
+closed_links : (nodes : List Term) (links : List Link) (k : ℕ) → k ≤ length links
+    → ((j : ℕ) → j < length links → Agrees links (term_at nodes (link_at links j).from) (term_at nodes (link_at links j).to))
+    → IsClosedUpTo k nodes links
 closed_links nodes links zero h each = record { agrees = λ i below. agrees_refl links (term_at nodes i) }
 closed_links nodes links (suc k) h each =
     let up : k + 1 ≡ suc k = omega arith in
@@ -325,7 +354,8 @@ pub record IsJoined (nodes : List Term) (pairs : List NodePair) : Type 0 where
   pub there : (us : List Tree) → Solution nodes links us → AreJoined us pairs
   pub back : (us : List Tree) → Solution nodes [] us → AreJoined us pairs → Solution nodes links us
 
-pub all_are_joined : (nodes : List Term) (pairs : List NodePair) (trees : List Tree) → IsStore nodes [] → Solution nodes [] trees → AreJoined trees pairs → AreInside (length nodes) pairs → IsJoined nodes pairs
+pub all_are_joined : (nodes : List Term) (pairs : List NodePair) (trees : List Tree) → IsStore nodes [] → Solution nodes [] trees
+    → AreJoined trees pairs → AreInside (length nodes) pairs → IsJoined nodes pairs
 unfolding Closes
 all_are_joined nodes pairs trees store sol joined inside =
     let done = join nodes trees (unbound_below [] (length nodes)) [] pairs (omega arith) store sol joined inside (λ more ends k h. absurd (omega (arith, h))) in
@@ -333,7 +363,11 @@ all_are_joined nodes pairs trees store sol joined inside =
     record {
       links = done.final;
       store = done.store;
-      closed = closed_all (length done.final) nodes done.final (omega arith) (closed_links nodes done.final (length done.final) (omega arith) (λ j h. subst (λ (ls : List Link). Agrees ls (term_at nodes (link_at done.final j).from) (term_at nodes (link_at done.final j).to)) (none done.final) (whole j h)));
+      closed =
+          closed_all (length done.final) nodes done.final (omega arith)
+              (closed_links nodes done.final (length done.final) (omega arith)
+                  (λ j h. subst (λ (ls : List Link). Agrees ls (term_at nodes (link_at done.final j).from) (term_at nodes (link_at done.final j).to))
+                      (none done.final) (whole j h)));
       there = λ us s. told us done.final pairs s.links_fit done.ended;
       back = done.forced;
     }

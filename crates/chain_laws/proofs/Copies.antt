@@ -1,5 +1,6 @@
 -- A store that grows by free nodes for a candidate's copies of variables.
-use Rattle.std.specs.Prelude.{◌≡◌, ℕ, ◌<◌, ◌≤◌, ◌+◌, ◌-◌, ◌==◌, ◌&&◌, ◌⊎◌, Bool, true, false, List, [], ◌∷◌, ◌++◌, length, map, find, Option, Some, None, option_map, nat_lt, Contains, refl}
+use Rattle.std.specs.Prelude.{◌≡◌, ℕ, ◌<◌, ◌≤◌, ◌+◌, ◌-◌, ◌==◌, ◌&&◌, ◌⊎◌, Bool, true, false, List, [], ◌∷◌, ◌++◌, length, map, find, Option, Some}
+use Rattle.std.specs.Prelude.{None, option_map, nat_lt, Contains, refl}
 use Rattle.std.specs.List.{AllByRecursion}
 use Rattle.std.proofs.Common.{zero, suc, get_or, sym, ap, subst, ◌∙◌, arith, inl, inr, cond}
 use Rattle.std.proofs.lemmas.Bool.{cases_lt}
@@ -60,14 +61,17 @@ pub record Found (n : ℕ) (vars : List TypedVariable) (s : Sym) (c : Typecode) 
   pub at : (d : TypedVariable) → get_or vars place d ≡ variable_with s c
   pub node : variable_at (numbered n vars) s c ≡ Some (n + place)
 
-found_by : (n : ℕ) (v : TypedVariable) (vs : List TypedVariable) (s : Sym) (c : Typecode) (b : Bool) → is_variable s c (record { sym = v.sym; code = v.code; node = n }) ≡ b → (v ≡ variable_with s c) ⊎ Contains vs (variable_with s c) → (Contains vs (variable_with s c) → Found (n + 1) vs s c)
+found_by : (n : ℕ) (v : TypedVariable) (vs : List TypedVariable) (s : Sym) (c : Typecode) (b : Bool)
+    → is_variable s c (record { sym = v.sym; code = v.code; node = n }) ≡ b → (v ≡ variable_with s c) ⊎ Contains vs (variable_with s c)
+    → (Contains vs (variable_with s c) → Found (n + 1) vs s c)
     → (place : ℕ) × (place < length (v ∷ vs)) × ((d : TypedVariable) → get_or (v ∷ vs) place d ≡ variable_with s c)
     × (option_map (λ (w : VariableNode). w.node) (cond b (Some (record { sym = v.sym; code = v.code; node = n })) (find (is_variable s c) (numbered (n + 1) vs))) ≡ Some (n + place))
 found_by n v vs s c true e h rest =
     let here : n ≡ n + 0 = omega arith in
     (0, omega arith, λ d. same_variable s c (record { sym = v.sym; code = v.code; node = n }) e, ap (λ (k : ℕ). Some k) here)
 found_by n v vs s c false e (inl same) rest =
-    let yes : is_variable s c (record { sym = v.sym; code = v.code; node = n }) ≡ true = ap (λ (w : TypedVariable). is_variable s c (record { sym = w.sym; code = w.code; node = n })) same ∙ self_variable s c n in
+    let yes : is_variable s c (record { sym = v.sym; code = v.code; node = n }) ≡ true =
+        ap (λ (w : TypedVariable). is_variable s c (record { sym = w.sym; code = w.code; node = n })) same ∙ self_variable s c n in
     absurd (cc)
 found_by n v vs s c false e (inr h) rest =
     let told = rest h in

@@ -48,7 +48,8 @@ pub record IsLeafOf (nodes : List Term) (links : List Link) (leaf : ℕ → Type
 abbrev pub AreTyped : List Production → ℕ → List Term → Type 0
 AreTyped rows before nodes = (i : ℕ) (l : Label) (c : Typecode) (k : ℕ) (kids : List Id) → i < length nodes → term_at nodes i ≡ Node l c k kids → IsTypedTerm rows before nodes l c kids
 
-module _ (nodes : List Term) (links : List Link) (leaf : ℕ → Typecode → Tree) (at : ℕ → Tree) (store : IsStore nodes links) (is : AreMade nodes links leaf at) (codes : HasCodes nodes links leaf) where
+module _ (nodes : List Term) (links : List Link) (leaf : ℕ → Typecode → Tree) (at : ℕ → Tree) (store : IsStore nodes links)
+    (is : AreMade nodes links leaf at) (codes : HasCodes nodes links leaf) where
   abbrev end : ℕ → ℕ
   end i = end_of links i
 
@@ -76,7 +77,8 @@ module _ (nodes : List Term) (links : List Link) (leaf : ℕ → Typecode → Tr
   -- ---- they are a solution
 
   module _ (closed : IsClosed nodes links) where
-    same_kids : (xs ys : List Id) → AllByRecursion (λ (id : Id). id.0 < length nodes) xs → AllByRecursion (λ (id : Id). id.0 < length nodes) ys → ends_of links xs ≡ ends_of links ys → map (λ (id : Id). at id.0) xs ≡ map (λ (id : Id). at id.0) ys
+    same_kids : (xs ys : List Id) → AllByRecursion (λ (id : Id). id.0 < length nodes) xs → AllByRecursion (λ (id : Id). id.0 < length nodes) ys
+        → ends_of links xs ≡ ends_of links ys → map (λ (id : Id). at id.0) xs ≡ map (λ (id : Id). at id.0) ys
     same_kids [] [] h g e = refl
     same_kids [] (y ∷ ys) h g e = absurd (cc)
     same_kids (x ∷ xs) [] h g e = absurd (cc)
@@ -100,7 +102,9 @@ module _ (nodes : List Term) (links : List Link) (leaf : ℕ → Typecode → Tr
     IsAsked t (Free c) = code_of t ≡ c
     IsAsked t (Node l c k kids) = t ≡ tree.Node l c (map (λ (id : Id). at id.0) kids)
 
-    node_asked : (e : ℕ) (l : Label) (c : Typecode) (k : ℕ) (xs : List Id) (y : Term) → AllByRecursion (λ (id : Id). id.0 < length nodes) xs → AllByRecursion (λ (id : Id). id.0 < length nodes) (children_of y) → IsSameNode links l c xs y → made leaf e at y ≡ tree.Node l c (map (λ (id : Id). at id.0) xs)
+    node_asked : (e : ℕ) (l : Label) (c : Typecode) (k : ℕ) (xs : List Id) (y : Term) → AllByRecursion (λ (id : Id). id.0 < length nodes) xs
+        → AllByRecursion (λ (id : Id). id.0 < length nodes) (children_of y) → IsSameNode links l c xs y
+        → made leaf e at y ≡ tree.Node l c (map (λ (id : Id). at id.0) xs)
     node_asked e l c k xs (Var s d) h g a = absurd a
     node_asked e l c k xs (Free d) h g a = absurd a
     node_asked e l c k xs (Node m d k' ys) h g a =
@@ -113,7 +117,10 @@ module _ (nodes : List Term) (links : List Link) (leaf : ℕ → Typecode → Tr
     asked i (Var s c) h e a = is.each i h ∙ ap (made leaf (end i) at) a
     asked i (Free c) h e a = at_code i h ∙ ap term_code e
     asked i (Node l c k xs) h e a =
-        is.each i h ∙ node_asked (end i) l c k xs (term_at nodes (end i)) (subst (λ (z : Term). AllByRecursion (λ (id : Id). id.0 < length nodes) (children_of z)) e (kids_inside i h)) (kids_inside (end i) (inside i h)) a
+        is.each i h
+            ∙ node_asked (end i) l c k xs (term_at nodes (end i))
+                (subst (λ (z : Term). AllByRecursion (λ (id : Id). id.0 < length nodes) (children_of z)) e (kids_inside i h))
+                (kids_inside (end i) (inside i h)) a
 
     unfoldable pub general_trees : List Tree
     general_trees = map at (range_with_len 0 (length nodes))
@@ -143,7 +150,9 @@ module _ (nodes : List Term) (links : List Link) (leaf : ℕ → Typecode → Tr
     pub general_solves : Solution nodes links general_trees
     general_solves = record {
       count = general_length;
-      nodes_fit = λ i h. subst (λ (t : Tree). Fits general_trees t (term_at nodes i)) (sym (tree_is i h)) (fits (at i) (term_at nodes i) (kids_inside i h) (asked i (term_at nodes i) h refl (closed i h)));
+      nodes_fit =
+          λ i h. subst (λ (t : Tree). Fits general_trees t (term_at nodes i)) (sym (tree_is i h))
+              (fits (at i) (term_at nodes i) (kids_inside i h) (asked i (term_at nodes i) h refl (closed i h)));
       links_fit = respects_targets (length nodes) general_trees links store.in_order (λ i j e.
           let below = source_below (length nodes) links i j (are_below (length nodes) links store.in_order) e in
           let target = target_below (length nodes) links i j store.in_order e in
@@ -161,8 +170,10 @@ module _ (nodes : List Term) (links : List Link) (leaf : ℕ → Typecode → Tr
     module _ (P : Tree → Type 0)
         (at_var : (s : Sym) (c : Typecode) → P (tree.Var s c))
         (at_leaf : (e : ℕ) (c : Typecode) → e < length nodes → target_of links e ≡ None → term_at nodes e ≡ Free c → P (leaf e c))
-        (at_node : (e : ℕ) (l : Label) (c : Typecode) (k : ℕ) (kids : List Id) → e < length nodes → term_at nodes e ≡ Node l c k kids → Each P (map (λ (id : Id). at id.0) kids) → P (tree.Node l c (map (λ (id : Id). at id.0) kids))) where
-      made_has : (e : ℕ) (x : Term) → e < length nodes → target_of links e ≡ None → term_at nodes e ≡ x → ((k : ℕ) (child : Id) → slice_get (children_of x) k ≡ Some child → P (at child.0)) → P (made leaf e at x)
+        (at_node : (e : ℕ) (l : Label) (c : Typecode) (k : ℕ) (kids : List Id) → e < length nodes → term_at nodes e ≡ Node l c k kids
+            → Each P (map (λ (id : Id). at id.0) kids) → P (tree.Node l c (map (λ (id : Id). at id.0) kids))) where
+      made_has : (e : ℕ) (x : Term) → e < length nodes → target_of links e ≡ None → term_at nodes e ≡ x
+          → ((k : ℕ) (child : Id) → slice_get (children_of x) k ≡ Some child → P (at child.0)) → P (made leaf e at x)
       made_has e (Var s c) h u is' below = at_var s c
       made_has e (Free c) h u is' below = at_leaf e c h u is'
       made_has e (Node l c k kids) h u is' below = at_node e l c k kids h is' (each_of P kids below)
@@ -212,14 +223,17 @@ module _ (nodes : List Term) (links : List Link) (leaf : ℕ → Typecode → Tr
     -- each solution is an instance of them
     module _ (trees : List Tree) (sol : Solution nodes links trees) (r : Refinement)
         (leaf_refined : (e : ℕ) (c : Typecode) → e < length nodes → target_of links e ≡ None → term_at nodes e ≡ Free c → refine r (leaf e c) ≡ tree_at trees e) where
-      refined_list : (kids : List Id) → ((k : ℕ) (child : Id) → slice_get kids k ≡ Some child → refine r (at child.0) ≡ tree_at trees child.0) → map (refine r) (map (λ (id : Id). at id.0) kids) ≡ trees_at trees kids
+      refined_list : (kids : List Id) → ((k : ℕ) (child : Id) → slice_get kids k ≡ Some child → refine r (at child.0) ≡ tree_at trees child.0)
+          → map (refine r) (map (λ (id : Id). at id.0) kids) ≡ trees_at trees kids
       refined_list [] h = refl
       refined_list (x ∷ xs) h =
           let here = h 0 x refl in
           let rest = refined_list xs (λ k child e. h (suc k) child e) in
           cc
 
-      made_refined : (e : ℕ) (x : Term) → e < length nodes → target_of links e ≡ None → term_at nodes e ≡ x → Fits trees (tree_at trees e) x → ((k : ℕ) (child : Id) → slice_get (children_of x) k ≡ Some child → refine r (at child.0) ≡ tree_at trees child.0) → refine r (made leaf e at x) ≡ tree_at trees e
+      made_refined : (e : ℕ) (x : Term) → e < length nodes → target_of links e ≡ None → term_at nodes e ≡ x → Fits trees (tree_at trees e) x
+          → ((k : ℕ) (child : Id) → slice_get (children_of x) k ≡ Some child → refine r (at child.0) ≡ tree_at trees child.0)
+          → refine r (made leaf e at x) ≡ tree_at trees e
       made_refined e (Var s c) h u is' f below = replace-Var _ r s c ∙ sym f
       made_refined e (Free c) h u is' f below = leaf_refined e c h u is'
       made_refined e (Node l c k kids) h u is' f below = replace-Node _ r l c (map (λ (id : Id). at id.0) kids) ∙ ap (λ ts. tree.Node l c ts) (refined_list kids below) ∙ sym f

@@ -31,7 +31,8 @@ pub fit_front : (nodes more : List Term) (trees : List Tree) → Fit (nodes ++ m
 fit_front nodes more trees f i h =
     subst (Fits trees (tree_at trees i)) (term_front nodes more i h) (f i (omega (arith, h, length-append nodes more)))
 
-pub codes_front : (nodes more : List Term) (kids : List Id) → AllByRecursion (λ (id : Id). id.0 < length nodes) kids → map (λ (id : Id). term_code (term_at (nodes ++ more) id.0)) kids ≡ map (λ (id : Id). term_code (term_at nodes id.0)) kids
+pub codes_front : (nodes more : List Term) (kids : List Id) → AllByRecursion (λ (id : Id). id.0 < length nodes) kids
+    → map (λ (id : Id). term_code (term_at (nodes ++ more) id.0)) kids ≡ map (λ (id : Id). term_code (term_at nodes id.0)) kids
 codes_front nodes more [] h = refl
 codes_front nodes more (x ∷ xs) h =
     let here = term_front nodes more x.0 h.0 in
@@ -57,7 +58,8 @@ module _ (rows : List Production) (before : ℕ) (base : List Term) where
     pub not_free : (c : Typecode) → e ≡ Free c → ⊥
     pub typed : (l : Label) (c : Typecode) (k : ℕ) (kids : List Id) → e ≡ Node l c k kids → IsTypedTerm rows before nodes l c kids
 
-  typed_front : (nodes more : List Term) (l : Label) (c : Typecode) (kids : List Id) → AllByRecursion (λ (id : Id). id.0 < length nodes) kids → IsTypedTerm rows before nodes l c kids → IsTypedTerm rows before (nodes ++ more) l c kids
+  typed_front : (nodes more : List Term) (l : Label) (c : Typecode) (kids : List Id) → AllByRecursion (λ (id : Id). id.0 < length nodes) kids
+      → IsTypedTerm rows before nodes l c kids → IsTypedTerm rows before (nodes ++ more) l c kids
   typed_front nodes more l c kids below h = record {
     row = h.row;
     is_row = h.is_row;
@@ -71,7 +73,8 @@ module _ (rows : List Production) (before : ℕ) (base : List Term) where
     added = g.added ++ e ∷ [];
     extends = ap (λ (ns : List Term). ns ++ e ∷ []) g.extends ∙ append_assoc base g.added (e ∷ []);
     children = λ i h. elim (cases_eq i (length nodes)) [
-      | inl at ↦ let term : term_at (nodes ++ e ∷ []) i ≡ e = get_or_push nodes e _ i (sym at) in subst (λ (x : Term). HasChildrenBelow i x) (sym term) (subst (λ (n : ℕ). HasChildrenBelow n e) (sym at) a.children)
+      | inl at ↦ let term : term_at (nodes ++ e ∷ []) i ≡ e = get_or_push nodes e _ i (sym at) in
+          subst (λ (x : Term). HasChildrenBelow i x) (sym term) (subst (λ (n : ℕ). HasChildrenBelow n e) (sym at) a.children)
       | inr past ↦ let old : i < length nodes = omega (arith, h, past, length_push nodes e) in subst (λ (x : Term). HasChildrenBelow i x) (sym (term_front nodes (e ∷ []) i old)) (g.children i old)
     ];
     not_free = λ i c from h is. elim (cases_eq i (length nodes)) [
@@ -85,7 +88,10 @@ module _ (rows : List Production) (before : ℕ) (base : List Term) where
       | inr past ↦
           let old : i < length nodes = omega (arith, h, past, length_push nodes e) in
           let same : term_at nodes i ≡ Node l c k kids = sym (term_front nodes (e ∷ []) i old) ∙ is in
-          typed_front nodes (e ∷ []) l c kids (wider i (length nodes) kids (omega (arith, old)) (subst (λ (x : Term). AllByRecursion (λ (id : Id). id.0 < i) (children_of x)) same (g.children i old))) (g.typed i l c k kids old same)
+          typed_front nodes (e ∷ []) l c kids
+              (wider i (length nodes) kids (omega (arith, old))
+                  (subst (λ (x : Term). AllByRecursion (λ (id : Id). id.0 < i) (children_of x)) same (g.children i old)))
+              (g.typed i l c k kids old same)
     ];
   }
 
@@ -105,11 +111,14 @@ module _ (rows : List Production) (before : ℕ) (base : List Term) where
   append_none (n ∷ ns) = ap (λ (rest : List Term). n ∷ rest) (append_none ns)
 
   -- a node that is there
-  unfoldable pub standing_node : (nodes : List Term) (c : Typecode) (tree_of : List Tree → Tree) → Grown nodes → (i : ℕ) → i < length nodes → term_code (term_at nodes i) ≡ c → ((trees : List Tree) → Fit nodes trees → tree_at trees i ≡ tree_of trees) → Made nodes c tree_of
+  unfoldable pub standing_node : (nodes : List Term) (c : Typecode) (tree_of : List Tree → Tree) → Grown nodes → (i : ℕ) → i < length nodes
+      → term_code (term_at nodes i) ≡ c → ((trees : List Tree) → Fit nodes trees → tree_at trees i ≡ tree_of trees) → Made nodes c tree_of
   standing_node nodes c tree_of g i h code means = record { next = nodes; more = []; extends = sym (append_none nodes); grown = g; root = i; within = h; code = code; means = means }
 
   -- a new node
-  unfoldable pub new_node : (nodes : List Term) (e : Term) (tree_of : List Tree → Tree) → Grown nodes → Addable nodes e → ((trees : List Tree) → Fit nodes trees → Fits trees (tree_at trees (length nodes)) e → tree_at trees (length nodes) ≡ tree_of trees) → Made nodes (term_code e) tree_of
+  unfoldable pub new_node : (nodes : List Term) (e : Term) (tree_of : List Tree → Tree) → Grown nodes → Addable nodes e
+      → ((trees : List Tree) → Fit nodes trees → Fits trees (tree_at trees (length nodes)) e → tree_at trees (length nodes) ≡ tree_of trees)
+      → Made nodes (term_code e) tree_of
   new_node nodes e tree_of g a means =
       let n = length nodes in
       let long : n < length (nodes ++ e ∷ []) = omega (arith, length_push nodes e) in
@@ -163,7 +172,9 @@ module _ (rows : List Production) (before : ℕ) (base : List Term) where
         let one = h.0 ok.0 ty.0 nodes g in
         let rest = add_all ts h.1 ok.1 ty.1 one.next one.grown in
         let id : Id = record { 0 = one.root } in
-        let code : term_code (term_at rest.next one.root) ≡ code_of t = ap (λ (ns : List Term). term_code (term_at ns one.root)) rest.extends ∙ ap term_code (term_front one.next rest.more one.root one.within) ∙ one.code in
+        let code : term_code (term_at rest.next one.root) ≡ code_of t =
+            ap (λ (ns : List Term). term_code (term_at ns one.root)) rest.extends ∙ ap term_code (term_front one.next rest.more one.root one.within)
+                ∙ one.code in
         let codes = rest.codes in
         record {
           next = rest.next;
@@ -180,9 +191,12 @@ module _ (rows : List Production) (before : ℕ) (base : List Term) where
         }
 
     made_code : (nodes : List Term) (c d : Typecode) (f g : List Tree → Tree) → c ≡ d → ((us : List Tree) → f us ≡ g us) → Made nodes c f → Made nodes d g
-    made_code nodes c d f g e same m = record { next = m.next; more = m.more; extends = m.extends; grown = m.grown; root = m.root; within = m.within; code = m.code ∙ e; means = λ us h. m.means us h ∙ same us }
+    made_code nodes c d f g e same m =
+        record { next = m.next; more = m.more; extends = m.extends; grown = m.grown; root = m.root; within = m.within; code = m.code ∙ e;
+            means = λ us h. m.means us h ∙ same us }
 
-    add_production : (l : Label) (c : Typecode) (ts : List Tree) → IsTyped rows before (tree.Node l c ts) → (nodes : List Term) → MadeAll nodes ts → Made nodes c (λ us. tree.Node l c (map (value us) ts))
+    add_production : (l : Label) (c : Typecode) (ts : List Tree) → IsTyped rows before (tree.Node l c ts) → (nodes : List Term) → MadeAll nodes ts
+        → Made nodes c (λ us. tree.Node l c (map (value us) ts))
     add_production l c ts ty nodes all =
         let here = typed_here rows before l c ts ty in
         let e : Term = Node l c 0 all.roots in
@@ -191,11 +205,19 @@ module _ (rows : List Production) (before : ℕ) (base : List Term) where
         let same_c : c ≡ d = cc in
         let same_k : all.roots ≡ kids = cc in
         moved m d kids same_l same_c same_k (record { row = here.0; is_row = here.1; before_place = here.2; gives = here.3; slots = all.codes ∙ here.4 }) in
-        let m = new_node all.next e (λ us. tree.Node l c (map (value us) ts)) all.grown (record { children = all.within; not_free = λ d is. cc; typed = row_of' }) (λ us f h. h ∙ ap (λ xs. tree.Node l c xs) (all.means us f)) in
-        record { next = m.next; more = all.more ++ m.more; extends = m.extends ∙ ap (λ (ns : List Term). ns ++ m.more) all.extends ∙ append_assoc nodes all.more m.more; grown = m.grown; root = m.root; within = m.within; code = m.code; means = m.means }
+        let m =
+            new_node all.next e (λ us. tree.Node l c (map (value us) ts)) all.grown
+                (record { children = all.within; not_free = λ d is. cc; typed = row_of' })
+                (λ us f h. h ∙ ap (λ xs. tree.Node l c xs) (all.means us f)) in
+        record { next = m.next; more = all.more ++ m.more;
+            extends = m.extends ∙ ap (λ (ns : List Term). ns ++ m.more) all.extends ∙ append_assoc nodes all.more m.more; grown = m.grown;
+            root = m.root; within = m.within; code = m.code; means = m.means }
       where
-        moved : {roots : List Id} {l : Label} {c : Typecode} {next : List Term} (m : Label) (d : Typecode) (kids : List Id) → l ≡ m → c ≡ d → roots ≡ kids → IsTypedTerm rows before next l c roots → IsTypedTerm rows before next m d kids
-        moved {roots} {l} {c} {next} m d kids e f g h = subst (λ (x : Label). IsTypedTerm rows before next x d kids) e (subst (λ (x : Typecode). IsTypedTerm rows before next l x kids) f (subst (λ (x : List Id). IsTypedTerm rows before next l c x) g h))
+        moved : {roots : List Id} {l : Label} {c : Typecode} {next : List Term} (m : Label) (d : Typecode) (kids : List Id) → l ≡ m → c ≡ d
+            → roots ≡ kids → IsTypedTerm rows before next l c roots → IsTypedTerm rows before next m d kids
+        moved {roots} {l} {c} {next} m d kids e f g h =
+            subst (λ (x : Label). IsTypedTerm rows before next x d kids) e
+                (subst (λ (x : Typecode). IsTypedTerm rows before next l x kids) f (subst (λ (x : List Id). IsTypedTerm rows before next l c x) g h))
 
     -- the nodes of a tree
     pub add_tree : (t : Tree) → Adds t

@@ -75,7 +75,10 @@ module _ (nodes more : List Term) (links : List Link) (store : IsStore nodes lin
       }
 
   -- what solves is the same in the longer store, where the unknowns keep their nodes
-  module _ (bound : Bound) (accepted : List Asked) (lay lay' : Layout) (within : (u : Unknown) → IsUnknown bound accepted u → lay.node_of u < length nodes) (same : (u : Unknown) → IsUnknown bound accepted u → lay'.node_of u ≡ lay.node_of u) (sound : AllByRecursion (IsSoundAsked bound) accepted) where
+  module _ (bound : Bound) (accepted : List Asked) (lay lay' : Layout)
+      (within : (u : Unknown) → IsUnknown bound accepted u → lay.node_of u < length nodes)
+      (same : (u : Unknown) → IsUnknown bound accepted u → lay'.node_of u ≡ lay.node_of u)
+      (sound : AllByRecursion (IsSoundAsked bound) accepted) where
     value_same : (trees : List Tree) (u : Unknown) → IsUnknown bound accepted u → valuation_of lay (take (length nodes) trees) u ≡ valuation_of lay' trees u
     value_same trees u on = tree_front (length nodes) (lay.node_of u) trees (within u on) ∙ ap (tree_at trees) (sym (same u on))
 
@@ -94,7 +97,8 @@ module _ (nodes more : List Term) (links : List Link) (store : IsStore nodes lin
 -- ---- terms that are added to a layout
 
 module _ (db : Database) (place : ℕ) (On : Unknown → Type 0) (nodes more : List Term) (lay : Layout) where
-  typed_grows : (l : Label) (c : Typecode) (kids : List Id) → AllByRecursion (λ (id : Id). id.0 < length nodes) kids → IsTypedTerm db.rows place nodes l c kids → IsTypedTerm db.rows place (nodes ++ more) l c kids
+  typed_grows : (l : Label) (c : Typecode) (kids : List Id) → AllByRecursion (λ (id : Id). id.0 < length nodes) kids
+      → IsTypedTerm db.rows place nodes l c kids → IsTypedTerm db.rows place (nodes ++ more) l c kids
   typed_grows l c kids below h = record { row = h.row; is_row = h.is_row; before_place = h.before_place; gives = h.gives; slots = codes_front nodes more kids below ∙ h.slots }
 
   node_grows : (u : Unknown) → HasNode db nodes lay u → HasNode db (nodes ++ more) lay u

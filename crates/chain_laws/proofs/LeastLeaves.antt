@@ -73,7 +73,8 @@ module _ (links : List Link) (e : ℕ) where
   past w ws None off h = none_more w ws off h
   past w ws (Some v) off h = least_past w ws v off h
 
-  by_test : (w : WorkNode) (ws : List WorkNode) (b : Bool) → (end_of links w.node == e) ≡ b → IsAnswerAt links e ws (least_at links e ws) → IsAnswerAt links e (w ∷ ws) (cond b (Some (lesser w (least_at links e ws))) (least_at links e ws))
+  by_test : (w : WorkNode) (ws : List WorkNode) (b : Bool) → (end_of links w.node == e) ≡ b → IsAnswerAt links e ws (least_at links e ws)
+      → IsAnswerAt links e (w ∷ ws) (cond b (Some (lesser w (least_at links e ws))) (least_at links e ws))
   by_test w ws true is h = let here : end_of links w.node ≡ e = grind (arith, nat_tests) in least_more w ws (least_at links e ws) here h
   by_test w ws false is h = past w ws (least_at links e ws) (λ here. grind (arith, nat_tests)) h
 

@@ -119,7 +119,8 @@ module _ (d : Unknown) where
   place_is [] u h = absurd (nothing u h)
   place_is (w ∷ ws) u h = by_test (decided w u) (parted u w ws h) (λ g. place_is ws u g)
     where
-      by_test : (t : Decided w u) → (w ≡ u) ⊎ Contains ws u → (Contains ws u → (place_in ws u < length ws) × (get_or ws (place_in ws u) d ≡ u)) → (place_by t (place_in ws u) < length (w ∷ ws)) × (get_or (w ∷ ws) (place_by t (place_in ws u)) d ≡ u)
+      by_test : (t : Decided w u) → (w ≡ u) ⊎ Contains ws u → (Contains ws u → (place_in ws u < length ws) × (get_or ws (place_in ws u) d ≡ u))
+          → (place_by t (place_in ws u) < length (w ∷ ws)) × (get_or (w ∷ ws) (place_by t (place_in ws u)) d ≡ u)
       by_test (inl e) o below = (omega arith, e)
       by_test (inr n) (inl e) below = absurd (n e)
       by_test (inr n) (inr rest) below = let told = below rest in (omega (arith, told.0), told.1)
@@ -179,7 +180,8 @@ only_works (work d m ∷ xs) u h = elim (parted u (named d m) (works_in xs) h) [
   | inl e ↦ record { code = d; number = m; occurs = first (work d m) xs; is = e }
   | inr rest ↦ let told = only_works xs u rest in record { code = told.code; number = told.number; occurs = later (work told.code told.number) (work d m) xs told.occurs; is = told.is }
 ]
-only_works (fresh d m ∷ xs) u h = let told = only_works xs u h in record { code = told.code; number = told.number; occurs = later (work told.code told.number) (fresh d m) xs told.occurs; is = told.is }
+only_works (fresh d m ∷ xs) u h = let told = only_works xs u h in
+    record { code = told.code; number = told.number; occurs = later (work told.code told.number) (fresh d m) xs told.occurs; is = told.is }
 
 abbrev pub of_formula : ℕ → Option Tree → List Unknown
 of_formula i None = blank i ∷ []
@@ -194,7 +196,8 @@ all_of_steps k i [] s u e h = let impossible : ◌≡◌ {A = Option BoundStep} 
 all_of_steps k zero (t ∷ ss) s u e h =
     let same : t ≡ s = cc in
     let number : k + 0 ≡ k = omega arith in
-    Contains-append_left (of_formula k t.tree) (of_steps (k + 1) ss) u (subst (λ (x : BoundStep). Contains (of_formula k x.tree) u) (sym same) (subst (λ (j : ℕ). Contains (of_formula j s.tree) u) number h))
+    Contains-append_left (of_formula k t.tree) (of_steps (k + 1) ss) u
+        (subst (λ (x : BoundStep). Contains (of_formula k x.tree) u) (sym same) (subst (λ (j : ℕ). Contains (of_formula j s.tree) u) number h))
 all_of_steps k (suc i) (t ∷ ss) s u e h =
     let number : k + suc i ≡ k + 1 + i = omega arith in
     Contains-append_right (of_formula k t.tree) (of_steps (k + 1) ss) u (all_of_steps (k + 1) i ss s u e (subst (λ (j : ℕ). Contains (of_formula j s.tree) u) number h))
@@ -289,10 +292,16 @@ module _ (bound : Bound) (asked : List Asked) where
   unfolding unknowns
   all_unknowns u (in_formula i s t at is o) =
       let number : i ≡ 0 + i = omega arith in
-      Contains-append_left (of_steps 0 bound.steps) (of_candidates asked) u (all_of_steps 0 i bound.steps s u at (subst (λ (j : ℕ). Contains (of_formula j s.tree) u) number (subst (λ (o' : Option Tree). Contains (of_formula i o') u) (sym is) (all_works (open_leaves t) _ _ o))))
+      Contains-append_left (of_steps 0 bound.steps) (of_candidates asked) u
+          (all_of_steps 0 i bound.steps s u at
+              (subst (λ (j : ℕ). Contains (of_formula j s.tree) u) number
+                  (subst (λ (o' : Option Tree). Contains (of_formula i o') u) (sym is) (all_works (open_leaves t) _ _ o))))
   all_unknowns u (is_blank s {i} at is) =
       let number : i ≡ 0 + i = omega arith in
-      Contains-append_left (of_steps 0 bound.steps) (of_candidates asked) u (all_of_steps 0 i bound.steps s u at (subst (λ (j : ℕ). Contains (of_formula j s.tree) u) number (subst (λ (o' : Option Tree). Contains (of_formula i o') u) (sym is) (first (blank i) []))))
+      Contains-append_left (of_steps 0 bound.steps) (of_candidates asked) u
+          (all_of_steps 0 i bound.steps s u at
+              (subst (λ (j : ℕ). Contains (of_formula j s.tree) u) number
+                  (subst (λ (o' : Option Tree). Contains (of_formula i o') u) (sym is) (first (blank i) []))))
   all_unknowns u (in_frame x v c h) = Contains-append_right (of_steps 0 bound.steps) (of_candidates asked) u (all_of_candidates asked x v c h)
 
 -- of a worksheet without candidates: those of its steps

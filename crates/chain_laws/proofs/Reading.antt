@@ -21,7 +21,8 @@ same_below f g (id ∷ kids) h =
     let rest = same_below f g kids (λ k child e. h (suc k) child e) in
     cc
 
-pub made_same : (leaf : ℕ → Typecode → Tree) (e : ℕ) (f g : ℕ → Tree) (x : Term) → ((k : ℕ) (child : Id) → slice_get (children_of x) k ≡ Some child → f child.0 ≡ g child.0) → made leaf e f x ≡ made leaf e g x
+pub made_same : (leaf : ℕ → Typecode → Tree) (e : ℕ) (f g : ℕ → Tree) (x : Term)
+    → ((k : ℕ) (child : Id) → slice_get (children_of x) k ≡ Some child → f child.0 ≡ g child.0) → made leaf e f x ≡ made leaf e g x
 made_same leaf e f g (Var s c) h = refl
 made_same leaf e f g (Free c) h = refl
 made_same leaf e f g (Node l c k kids) h = ap (λ ts. tree.Node l c ts) (same_below f g kids h)
@@ -77,5 +78,6 @@ module _ (nodes : List Term) (links : List Link) (store : IsStore nodes links) w
 pub record AreMade (nodes : List Term) (links : List Link) (leaf : ℕ → Typecode → Tree) (at : ℕ → Tree) : Type 0 where
   pub each : (i : ℕ) → i < length nodes → at i ≡ made leaf (end_of links i) at (term_at nodes (end_of links i))
 
-pub trees_made : (nodes : List Term) (links : List Link) (leaf : ℕ → Typecode → Tree) → IsStore nodes links → (ranks : List ℕ) → AreRanked nodes links ranks → AreMade nodes links leaf (read nodes links leaf (length nodes))
+pub trees_made : (nodes : List Term) (links : List Link) (leaf : ℕ → Typecode → Tree) → IsStore nodes links → (ranks : List ℕ)
+    → AreRanked nodes links ranks → AreMade nodes links leaf (read nodes links leaf (length nodes))
 trees_made nodes links leaf store ranks ranked = record { each = λ i h. read_step nodes links store ranks ranked leaf (length nodes) i h (ranked.few i h) }

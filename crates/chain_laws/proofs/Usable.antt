@@ -78,11 +78,13 @@ module _ (rows : List Production) (before : ℕ) (grammar : IsGrammar rows) (var
   abbrev Shows : Tree → Type 0
   Shows t = IsTyped rows before t → HasNoFresh t → AllOver (text rows t) → IsOver vars t
 
-  each_over : (ts : List Tree) → Each Shows ts → Each (IsTyped rows before) ts → Each HasNoFresh ts → ((k : ℕ) → k < length ts → AllOver (slice_index_or (map (text rows) ts) k [])) → Each (IsOver vars) ts
+  each_over : (ts : List Tree) → Each Shows ts → Each (IsTyped rows before) ts → Each HasNoFresh ts
+      → ((k : ℕ) → k < length ts → AllOver (slice_index_or (map (text rows) ts) k [])) → Each (IsOver vars) ts
   each_over [] h ty named over = tt
   each_over (t ∷ ts) h ty named over = (h.0 ty.0 named.0 (over 0 (omega arith)), each_over ts h.1 ty.1 named.1 (λ k l. over (suc k) (omega (arith, l))))
 
-  child_text : (l : Label) (c : Typecode) (ts : List Tree) (r : Production) → row_of rows l ≡ Some r → map code_of ts ≡ r.slots → AllOver (text rows (tree.Node l c ts)) → (k : ℕ) → k < length ts → AllOver (slice_index_or (map (text rows) ts) k [])
+  child_text : (l : Label) (c : Typecode) (ts : List Tree) (r : Production) → row_of rows l ≡ Some r → map code_of ts ≡ r.slots
+      → AllOver (text rows (tree.Node l c ts)) → (k : ℕ) → k < length ts → AllOver (slice_index_or (map (text rows) ts) k [])
   child_text l c ts r is slots over k below x o =
       let stands = row_stands rows l r is in
       let row = is_row rows grammar.rows_hold stands.place r stands.stands in
@@ -115,7 +117,8 @@ same_sym s r e = let n : s.0 ≡ r.0 = grind (arith, nat_tests) in ap sym_with n
 abbrev variable_with : Sym → Typecode → TypedVariable
 variable_with s c = record { sym = s; code = c }
 
-found_variable : (vars : List TypedVariable) (s : Sym) (c : Typecode) (v : TypedVariable) → find (λ (w : TypedVariable). w.sym.0 == s.0) vars ≡ Some v → v.code ≡ c → Contains vars (record { sym = s; code = c })
+found_variable : (vars : List TypedVariable) (s : Sym) (c : Typecode) (v : TypedVariable) → find (λ (w : TypedVariable). w.sym.0 == s.0) vars ≡ Some v
+    → v.code ≡ c → Contains vars (record { sym = s; code = c })
 found_variable vars s c v e code =
     let told = find_passes (λ (w : TypedVariable). w.sym.0 == s.0) vars v e in
     let name = same_sym v.sym s told.passes in
@@ -123,7 +126,8 @@ found_variable vars s c v e code =
     let here : Contains vars v = (told.place, slice_get_within vars told.place v told.stands, get_or_from_slice_get vars told.place v v told.stands) in
     subst (Contains vars) it here
 
-by_float : (vars : List TypedVariable) (s : Sym) (x : Leaf) (o : Option TypedVariable) → find (λ (w : TypedVariable). w.sym.0 == s.0) vars ≡ o → option_map (λ (c : Typecode). leaf.Var s c) (option_map (λ (v : TypedVariable). v.code) o) ≡ Some x → LeafIsOver vars x
+by_float : (vars : List TypedVariable) (s : Sym) (x : Leaf) (o : Option TypedVariable) → find (λ (w : TypedVariable). w.sym.0 == s.0) vars ≡ o
+    → option_map (λ (c : Typecode). leaf.Var s c) (option_map (λ (v : TypedVariable). v.code) o) ≡ Some x → LeafIsOver vars x
 by_float vars s x None e is = let impossible : ◌≡◌ {A = Option Leaf} None (Some x) = is in absurd (cc)
 by_float vars s x (Some v) e is = let same : leaf.Var s v.code ≡ x = cc in subst (LeafIsOver vars) same (found_variable vars s v.code v e refl)
 
@@ -153,7 +157,8 @@ module _ (db : Database) (f : Frame) where
       text_shows db.rows f.at grammar own_vars t p.typed p.named (λ x o.
       own_all (drop 1 formula) x (subst (λ (xs : List Leaf). Contains xs x) (p.written ∙ sym own.expression) o))
 
-  reads_over : (hs : List Hyp) (ts : List Tree) → IsGrammar db.rows → AllByRecursion (λ (h : Hyp). IsOwn db f h.formula) hs → AllZip (λ (h : Hyp) (t : Tree). IsRead db f.at h.formula t) hs ts → AllByRecursion (IsOver own_vars) ts
+  reads_over : (hs : List Hyp) (ts : List Tree) → IsGrammar db.rows → AllByRecursion (λ (h : Hyp). IsOwn db f h.formula) hs
+      → AllZip (λ (h : Hyp) (t : Tree). IsRead db f.at h.formula t) hs ts → AllByRecursion (IsOver own_vars) ts
   reads_over [] [] grammar own z = tt
   reads_over [] (t ∷ ts) grammar own z = absurd z
   reads_over (h ∷ hs) [] grammar own z = absurd z
@@ -179,7 +184,8 @@ module _ (rows : List Production) (one other : ℕ) (more : one ≤ other) where
       let below = here.2 in
       typed-Node rows other l c ts (here.0, here.1, omega (arith, below, more), here.3, here.4) (each_wider ts h (typed_held rows one l c ts ty)))
 
-reads_typed : (db : Database) (at place : ℕ) → at ≤ place → (hs : List Hyp) (ts : List Tree) → AllZip (λ (h : Hyp) (t : Tree). IsRead db at h.formula t) hs ts → AllByRecursion (IsTyped db.rows place) ts
+reads_typed : (db : Database) (at place : ℕ) → at ≤ place → (hs : List Hyp) (ts : List Tree)
+    → AllZip (λ (h : Hyp) (t : Tree). IsRead db at h.formula t) hs ts → AllByRecursion (IsTyped db.rows place) ts
 reads_typed db at place more [] [] z = tt
 reads_typed db at place more [] (t ∷ ts) z = absurd z
 reads_typed db at place more (h ∷ hs) [] z = absurd z
@@ -187,7 +193,8 @@ reads_typed db at place more (h ∷ hs) (t ∷ ts) z = (typed_wider db.rows at p
 
 -- ---- candidates, and bound formulas
 
-module _ (db : Database) (bound : Bound) (x : Asked) (candidate : IsCandidate db bound x) (facts : IsDatabase db) (text : List ℕ) (own : HasOwnExpressions text db x.assertion.label x.assertion.frame) where
+module _ (db : Database) (bound : Bound) (x : Asked) (candidate : IsCandidate db bound x) (facts : IsDatabase db) (text : List ℕ)
+    (own : HasOwnExpressions text db x.assertion.label x.assertion.frame) where
   usable : IsUsable db x.assertion.label x.assertion
   usable = facts.usable x.assertion.label x.assertion candidate.usable
 
@@ -201,8 +208,12 @@ module _ (db : Database) (bound : Bound) (x : Asked) (candidate : IsCandidate db
     sound = record {
       step = candidate.step;
       places = candidate.places;
-      tree = subst (λ (vs : List TypedVariable). IsOver vs x.assertion.tree) (sym usable.vars) (read_over db x.assertion.frame x.assertion.frame.formula x.assertion.tree facts.grammar own.formula usable.conclusion);
-      hyps = subst (λ (vs : List TypedVariable). AllByRecursion (IsOver vs) x.assertion.hyps) (sym usable.vars) (reads_over db x.assertion.frame (essentials x.assertion.frame.hyps) x.assertion.hyps facts.grammar own.hyps usable.hyps);
+      tree =
+          subst (λ (vs : List TypedVariable). IsOver vs x.assertion.tree) (sym usable.vars)
+              (read_over db x.assertion.frame x.assertion.frame.formula x.assertion.tree facts.grammar own.formula usable.conclusion);
+      hyps =
+          subst (λ (vs : List TypedVariable). AllByRecursion (IsOver vs) x.assertion.hyps) (sym usable.vars)
+              (reads_over db x.assertion.frame (essentials x.assertion.frame.hyps) x.assertion.hyps facts.grammar own.hyps usable.hyps);
     };
     tree = typed_wider db.rows x.assertion.frame.at bound.place before x.assertion.tree usable.conclusion.tree.parses.typed;
     hyps = reads_typed db x.assertion.frame.at bound.place before (essentials x.assertion.frame.hyps) x.assertion.hyps usable.hyps;

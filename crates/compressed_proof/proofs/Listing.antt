@@ -51,7 +51,9 @@ after_on w ws e =
 pub lists_more : (front : List (List ℕ)) (w : Word) (ws rest all : List Word) → rest ≡ w ∷ ws → closes w ≡ false → Lists front rest all → Lists (front ++ w.bytes ∷ []) ws all
 lists_more front w ws rest all r e h = record {
   closed = h.closed ∙ ap (list_any closes) r ∙ ap (λ (t : Bool). t || list_any closes ws) e;
-  before = h.before ∙ ap (λ (l : List Word). front ++ texts (before_first closes l)) r ∙ ap (λ (l : List Word). front ++ texts l) (before_on w ws e) ∙ sym (append_assoc front (w.bytes ∷ []) (texts (before_first closes ws)));
+  before =
+      h.before ∙ ap (λ (l : List Word). front ++ texts (before_first closes l)) r ∙ ap (λ (l : List Word). front ++ texts l) (before_on w ws e)
+          ∙ sym (append_assoc front (w.bytes ∷ []) (texts (before_first closes ws)));
   after = h.after ∙ ap (after_first closes) r ∙ after_on w ws e;
 }
 

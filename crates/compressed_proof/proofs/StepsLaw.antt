@@ -1,5 +1,6 @@
 -- What was read without a fault is spelled by the letters, and each step names what is there.
-use Rattle.std.proofs.Common.{◌≡◌, ◌≤◌, ◌<◌, ℕ, suc, ◌+◌, ◌-◌, ◌*◌, ◌^◌, true, false, eqb, ltb, List, [], ◌∷◌, ◌++◌, length, None, Result, Ok, Err, refl, sym, ap, ◌∙◌, arith, subst, inl, inr, append_assoc}
+use Rattle.std.proofs.Common.{◌≡◌, ◌≤◌, ◌<◌, ℕ, suc, ◌+◌, ◌-◌, ◌*◌, ◌^◌, true, false, eqb, ltb, List, [], ◌∷◌, ◌++◌, length, None, Result, Ok, Err}
+use Rattle.std.proofs.Common.{refl, sym, ap, ◌∙◌, arith, subst, inl, inr, append_assoc}
 use Rattle.std.proofs.lemmas.List.{append-nil}
 use Rattle.std.proofs.lemmas.Bool.{cases_Bool, eqb-true, ltb-true, ltb-false}
 use Rattle.proof_model.specs.ProofCode.{is_last, is_leading, EndsNumber, SpellsNumber, SpellsWhat, SpellsStep, SpellsSteps, IsInRange, AreInRange, letter_fault}
@@ -91,7 +92,9 @@ abbrev Spelled : ℕ → ℕ → ℕ → ℕ → List ℕ → Type 0
 Spelled m n marks i bs = (q : Prior) (k : ℕ) (front : List ℕ) (ss : List Step) → PriorText m n q front → k ≤ suc marks → read_letters m n k q i bs ≡ Ok ss → SpellsSteps m n (front ++ bs) ss
 
 -- a letter that makes q of p, whose letters are those of the number and this one
-pass : (m n marks i : ℕ) (p q : Prior) (front : List ℕ) (b : ℕ) (bs : List ℕ) (steps : List Step) → PriorText m n p front → PriorText m n q (digits_in p front ++ b ∷ []) → Spelled m n marks i bs → with_front (pending p) (read_letters m n marks q i bs) ≡ Ok steps → SpellsSteps m n (front ++ b ∷ bs) steps
+pass : (m n marks i : ℕ) (p q : Prior) (front : List ℕ) (b : ℕ) (bs : List ℕ) (steps : List Step) → PriorText m n p front
+    → PriorText m n q (digits_in p front ++ b ∷ []) → Spelled m n marks i bs → with_front (pending p) (read_letters m n marks q i bs) ≡ Ok steps
+    → SpellsSteps m n (front ++ b ∷ bs) steps
 pass m n marks i p q front b bs steps h hq later e =
     let r = front_ok (pending p) (read_letters m n marks q i bs) steps e in
     let behind = later q marks (digits_in p front ++ b ∷ []) r.0 hq (omega arith) r.1 in
@@ -110,7 +113,8 @@ spelled_end m n marks i (prior.Step w) front steps h e =
     let is : plain w ∷ [] ≡ steps = cc in
     subst (λ (ss : List Step). SpellsSteps m n (front ++ []) ss) is (front, [], refl, record { front = front; what = h; whole = sym (append-nil front) }, refl)
 
-spelled_mark : (m n marks i : ℕ) (p : Prior) (front : List ℕ) (b : ℕ) (bs : List ℕ) (steps : List Step) → PriorText m n p front → eqb b 90 ≡ true → Spelled m n marks (suc i) bs → read_letters m n marks p i (b ∷ bs) ≡ Ok steps → SpellsSteps m n (front ++ b ∷ bs) steps
+spelled_mark : (m n marks i : ℕ) (p : Prior) (front : List ℕ) (b : ℕ) (bs : List ℕ) (steps : List Step) → PriorText m n p front → eqb b 90 ≡ true
+    → Spelled m n marks (suc i) bs → read_letters m n marks p i (b ∷ bs) ≡ Ok steps → SpellsSteps m n (front ++ b ∷ bs) steps
 spelled_mark m n marks i prior.Start front b bs steps h eb later e =
     let f = mark_is b eb in absurd (no_fault (faults.MarkAtStart i) steps (rw (f.0, f.1, f.2, eb) at e))
 spelled_mark m n marks i prior.Mark front b bs steps h eb later e =
@@ -125,7 +129,8 @@ spelled_mark m n marks i (prior.Step w) front b bs steps h eb later e =
     let one : SpellsStep m n (front ++ b ∷ []) (marked w) = record { front = front; what = h; whole = ap (λ (x : ℕ). front ++ x ∷ []) is } in
     subst (λ (ss : List Step). SpellsSteps m n (front ++ b ∷ bs) ss) r.2 (front ++ b ∷ [], bs, sym (regroup front bs b), one, behind)
 
-pub spelled_law : (m n marks i : ℕ) (p : Prior) (front letters : List ℕ) (steps : List Step) → PriorText m n p front → m + n + marks + length letters < 2 ^ 64 - 1 → read_letters m n marks p i letters ≡ Ok steps → SpellsSteps m n (front ++ letters) steps
+pub spelled_law : (m n marks i : ℕ) (p : Prior) (front letters : List ℕ) (steps : List Step) → PriorText m n p front
+    → m + n + marks + length letters < 2 ^ 64 - 1 → read_letters m n marks p i letters ≡ Ok steps → SpellsSteps m n (front ++ letters) steps
 spelled_law m n marks i p front [] steps h room e = spelled_end m n marks i p front steps h e
 spelled_law m n marks i p front (b ∷ bs) steps h room e =
     let later : Spelled m n marks (suc i) bs = λ q k f ss hq le eq. spelled_law m n k (suc i) q f bs ss hq (omega arith) eq in
@@ -139,14 +144,21 @@ spelled_law m n marks i p front (b ∷ bs) steps h room e =
             | inl e2 ↦
                 let next = with_front (pending p) (read_letters m n marks (prior.Step (what_of m n (with_last p b))) (suc i) bs) in
                 elim (cases_Bool (ltb (m + n + marks) (with_last p b))) [
-                  | inl t ↦ absurd (no_fault (faults.NumberTooLarge i (with_last p b)) steps (sym (cond_then (ltb (m + n + marks) (with_last p b)) (Err (faults.NumberTooLarge i (with_last p b))) next t) ∙ rw (e1, e2) at e))
+                  | inl t ↦ absurd
+                      (no_fault (faults.NumberTooLarge i (with_last p b)) steps
+                          (sym (cond_then (ltb (m + n + marks) (with_last p b)) (Err (faults.NumberTooLarge i (with_last p b))) next t)
+                              ∙ rw (e1, e2) at e))
                   | inr t ↦
                       let small : with_last p b ≤ m + n + marks = ltb-false (m + n + marks) (with_last p b) t in
                       let value : with_last p b ≡ capped (capped (20 * capped d.0) + (b - 64)) = rw d.2 refl in
                       let last = bounds 65 84 b e2 in
                       let exact : 20 * d.0 + (b - 64) ≡ with_last p b = omega arith in
-                      let named : SpellsWhat m n (digits_in p front ++ b ∷ []) (what_of m n (with_last p b)) = SpellsWhat-what_of m n (20 * d.0 + (b - 64)) (with_last p b) (digits_in p front ++ b ∷ []) exact (omega arith) (EndsNumber-Leads 0 (digits_in p front) d.0 b d.1 e2) in
-                      pass m n marks (suc i) p (prior.Step (what_of m n (with_last p b))) front b bs steps h named later (sym (cond_else (ltb (m + n + marks) (with_last p b)) (Err (faults.NumberTooLarge i (with_last p b))) next t) ∙ rw (e1, e2) at e)
+                      let named : SpellsWhat m n (digits_in p front ++ b ∷ []) (what_of m n (with_last p b)) =
+                          SpellsWhat-what_of m n (20 * d.0 + (b - 64)) (with_last p b) (digits_in p front ++ b ∷ []) exact (omega arith)
+                              (EndsNumber-Leads 0 (digits_in p front) d.0 b d.1 e2) in
+                      pass m n marks (suc i) p (prior.Step (what_of m n (with_last p b))) front b bs steps h named later
+                          (sym (cond_else (ltb (m + n + marks) (with_last p b)) (Err (faults.NumberTooLarge i (with_last p b))) next t)
+                              ∙ rw (e1, e2) at e)
                 ]
             | inr e2 ↦
                 elim (cases_Bool (eqb b 63)) [
@@ -197,7 +209,8 @@ IsInRange-what_of m n marks number positive le =
 abbrev There : ℕ → ℕ → ℕ → ℕ → List ℕ → Type 0
 There m n marks i bs = (q : Prior) (k : ℕ) (ss : List Step) → PriorThere m n k q → read_letters m n k q i bs ≡ Ok ss → AreInRange m n k ss
 
-pass_there : (m n marks i : ℕ) (p q : Prior) (bs : List ℕ) (steps : List Step) → PriorThere m n marks p → PriorThere m n marks q → There m n marks i bs → with_front (pending p) (read_letters m n marks q i bs) ≡ Ok steps → AreInRange m n marks steps
+pass_there : (m n marks i : ℕ) (p q : Prior) (bs : List ℕ) (steps : List Step) → PriorThere m n marks p → PriorThere m n marks q
+    → There m n marks i bs → with_front (pending p) (read_letters m n marks q i bs) ≡ Ok steps → AreInRange m n marks steps
 pass_there m n marks i p q bs steps h hq later e =
     let r = front_ok (pending p) (read_letters m n marks q i bs) steps e in
     subst (λ (ss : List Step). AreInRange m n marks ss) r.2 (flush_there m n marks p r.0 h (later q marks r.0 hq r.1))
@@ -208,7 +221,8 @@ there_end m n marks i prior.Mark steps h e = let is : [] ≡ steps = cc in subst
 there_end m n marks i (prior.Digits v) steps h e = absurd (no_fault (faults.UnendedNumber i) steps e)
 there_end m n marks i (prior.Step w) steps h e = let is : plain w ∷ [] ≡ steps = cc in subst (λ (ss : List Step). AreInRange m n marks ss) is (h, tt)
 
-there_mark : (m n marks i : ℕ) (p : Prior) (b : ℕ) (bs : List ℕ) (steps : List Step) → PriorThere m n marks p → eqb b 90 ≡ true → There m n marks (suc i) bs → read_letters m n marks p i (b ∷ bs) ≡ Ok steps → AreInRange m n marks steps
+there_mark : (m n marks i : ℕ) (p : Prior) (b : ℕ) (bs : List ℕ) (steps : List Step) → PriorThere m n marks p → eqb b 90 ≡ true
+    → There m n marks (suc i) bs → read_letters m n marks p i (b ∷ bs) ≡ Ok steps → AreInRange m n marks steps
 there_mark m n marks i prior.Start b bs steps h eb later e = let f = mark_is b eb in absurd (no_fault (faults.MarkAtStart i) steps (rw (f.0, f.1, f.2, eb) at e))
 there_mark m n marks i prior.Mark b bs steps h eb later e = let f = mark_is b eb in absurd (no_fault (faults.MarkTwice i) steps (rw (f.0, f.1, f.2, eb) at e))
 there_mark m n marks i (prior.Digits v) b bs steps h eb later e = let f = mark_is b eb in absurd (no_fault (faults.UnendedNumber i) steps (rw (f.0, f.1, f.2, eb) at e))
@@ -228,11 +242,17 @@ there_law m n marks i p (b ∷ bs) steps h e =
             | inl e2 ↦
                 let next = with_front (pending p) (read_letters m n marks (prior.Step (what_of m n (with_last p b))) (suc i) bs) in
                 elim (cases_Bool (ltb (m + n + marks) (with_last p b))) [
-                  | inl t ↦ absurd (no_fault (faults.NumberTooLarge i (with_last p b)) steps (sym (cond_then (ltb (m + n + marks) (with_last p b)) (Err (faults.NumberTooLarge i (with_last p b))) next t) ∙ rw (e1, e2) at e))
+                  | inl t ↦ absurd
+                      (no_fault (faults.NumberTooLarge i (with_last p b)) steps
+                          (sym (cond_then (ltb (m + n + marks) (with_last p b)) (Err (faults.NumberTooLarge i (with_last p b))) next t)
+                              ∙ rw (e1, e2) at e))
                   | inr t ↦
                       let small : with_last p b ≤ m + n + marks = ltb-false (m + n + marks) (with_last p b) t in
                       let last = bounds 65 84 b e2 in
-                      pass_there m n marks (suc i) p (prior.Step (what_of m n (with_last p b))) bs steps h (IsInRange-what_of m n marks (with_last p b) (omega arith) small) later (sym (cond_else (ltb (m + n + marks) (with_last p b)) (Err (faults.NumberTooLarge i (with_last p b))) next t) ∙ rw (e1, e2) at e)
+                      pass_there m n marks (suc i) p (prior.Step (what_of m n (with_last p b))) bs steps h
+                          (IsInRange-what_of m n marks (with_last p b) (omega arith) small) later
+                          (sym (cond_else (ltb (m + n + marks) (with_last p b)) (Err (faults.NumberTooLarge i (with_last p b))) next t)
+                              ∙ rw (e1, e2) at e)
                 ]
             | inr e2 ↦
                 elim (cases_Bool (eqb b 63)) [
@@ -257,5 +277,9 @@ ok_none : {X : Type 0} (r : Result X CodeFault) (x : X) → r ≡ Ok x → fault
 ok_none (Ok y) x e = refl
 ok_none (Err f) x e = absurd cc
 
-pub letters_read : (m n : ℕ) (letters : List ℕ) (steps : List Step) → m + n + length letters < 2 ^ 64 - 1 → read_letters m n 0 prior.Start 0 letters ≡ Ok steps → (letter_fault (m + n) letters ≡ None) × SpellsSteps m n letters steps × AreInRange m n 0 steps
-letters_read m n letters steps room e = (sym (fault_law m n 0 prior.Start [] letters refl refl (omega arith)) ∙ ok_none (read_letters m n 0 prior.Start 0 letters) steps e, spelled_law m n 0 0 prior.Start [] letters steps refl (omega arith) e, there_law m n 0 0 prior.Start letters steps tt e)
+pub letters_read : (m n : ℕ) (letters : List ℕ) (steps : List Step) → m + n + length letters < 2 ^ 64 - 1
+    → read_letters m n 0 prior.Start 0 letters ≡ Ok steps
+    → (letter_fault (m + n) letters ≡ None) × SpellsSteps m n letters steps × AreInRange m n 0 steps
+letters_read m n letters steps room e =
+    (sym (fault_law m n 0 prior.Start [] letters refl refl (omega arith)) ∙ ok_none (read_letters m n 0 prior.Start 0 letters) steps e,
+        spelled_law m n 0 0 prior.Start [] letters steps refl (omega arith) e, there_law m n 0 0 prior.Start letters steps tt e)

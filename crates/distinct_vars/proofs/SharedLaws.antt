@@ -1,5 +1,6 @@
 -- The least number of a list from a number on, and the least that two lists share.
-use Rattle.std.specs.Prelude.{◌≡◌, ℕ, ◌<◌, ◌≤◌, ◌==◌, ◌⊎◌, Bool, true, false, ◌&&◌, ◌||◌, List, [], ◌∷◌, ◌++◌, map, filter, fold, nat_lt, nat_le, Option, Some, None, option_map, refl}
+use Rattle.std.specs.Prelude.{◌≡◌, ℕ, ◌<◌, ◌≤◌, ◌==◌, ◌⊎◌, Bool, true, false, ◌&&◌, ◌||◌, List, [], ◌∷◌, ◌++◌, map, filter, fold, nat_lt, nat_le}
+use Rattle.std.specs.Prelude.{Option, Some, None, option_map, refl}
 use Rattle.std.proofs.Common.{sym, ap, subst, ◌∙◌, inl, inr, arith}
 use Rattle.std.proofs.lemmas.Bool.{cases_Bool}
 use Rattle.std.proofs.lemmas.Bool.Decides.{nat_tests}
@@ -138,7 +139,10 @@ row_has x [] n = sym (and_none (x.0 == n))
 row_has x (y ∷ ys) n =
     let rest = row_has x ys n in
     elim (cases_Bool (x.0 == y.0)) [
-      | inl e ↦ let same : (x.0 == n) ≡ ((x.0 == n) && (y.0 == n)) = grind (arith, nat_tests, e) in rw e (ap (λ b. (x.0 == n) || b) rest ∙ ap (λ b. b || ((x.0 == n) && has_number ys n)) same ∙ sym (and_or (x.0 == n) (y.0 == n) (has_number ys n)))
+      | inl e ↦ let same : (x.0 == n) ≡ ((x.0 == n) && (y.0 == n)) = grind (arith, nat_tests, e) in
+          rw e
+              (ap (λ b. (x.0 == n) || b) rest ∙ ap (λ b. b || ((x.0 == n) && has_number ys n)) same
+                  ∙ sym (and_or (x.0 == n) (y.0 == n) (has_number ys n)))
       | inr e ↦ rw e (rest ∙ ap (λ b. b || ((x.0 == n) && has_number ys n)) (sym (number_cases x.0 y.0 n e)) ∙ sym (and_or (x.0 == n) (y.0 == n) (has_number ys n)))
     ]
 

@@ -1,5 +1,6 @@
 -- What pairs, variables and trees as lists say of a use.
-use Rattle.std.proofs.Common.{◌≡◌, ℕ, ◌+◌, ◌<◌, ◌≤◌, ◌==◌, false, List, [], ◌∷◌, map, filter, filter_map, fold, find, zip, drop, length, get_or, slice_get, Option, Some, None, option_map, refl, sym, ap, ◌∙◌, inl, inr, zero, suc, add-one, arith}
+use Rattle.std.proofs.Common.{◌≡◌, ℕ, ◌+◌, ◌<◌, ◌≤◌, ◌==◌, false, List, [], ◌∷◌, map, filter, filter_map, fold, find, zip, drop, length, get_or}
+use Rattle.std.proofs.Common.{slice_get, Option, Some, None, option_map, refl, sym, ap, ◌∙◌, inl, inr, zero, suc, add-one, arith}
 use Rattle.std.specs.List.{cons_option}
 use Rattle.std.specs.Option.{option_map_or}
 use Rattle.std.proofs.lemmas.Bool.{cases_Bool}
@@ -90,7 +91,9 @@ pub shared_none : (vars : List Sym) (trees : List Tree) (p : Pair) → None ≡ 
 unfolding shared_of
 shared_none vars trees p e =
     let none : variables_at vars trees p.b ≡ [] = ap (λ o. option_map_or variables o []) (sym e) in
-    sym (ap (λ ys. shared_of (variables_at vars trees p.a) ys) none ∙ ap (λ (qs : List (Sym × Sym)). fold lesser None (map (λ (q : Sym × Sym). q.0) (filter is_shared qs))) (crossed_none (variables_at vars trees p.a)))
+    sym (ap (λ ys. shared_of (variables_at vars trees p.a) ys) none
+        ∙ ap (λ (qs : List (Sym × Sym)). fold lesser None (map (λ (q : Sym × Sym). q.0) (filter is_shared qs)))
+            (crossed_none (variables_at vars trees p.a)))
 
 pub shared_told : (vars : List Sym) (trees : List Tree) (p : Pair) (one other : Tree) (o : Option ℕ) → Some one ≡ value_at vars trees p.a → Some other ≡ value_at vars trees p.b
     → IsLeastShared (variables one) (variables other) o → option_map (λ n. symbol n) o ≡ shared_at vars trees p
@@ -117,7 +120,9 @@ module _ (u : Use) (pairs : List Pair) (vars : List Sym) (trees : List Tree) (is
   variable_by p cs vs None rest = rest
   variable_by p cs vs (Some v) rest = refl
 
-  variable_of : (ps : List Pair) → option_map (λ (c : Sym × Sym × Sym). c.2) (slice_get (filter_map (λ p. option_map (λ v. told p v) (shared_variable u p)) ps) 0) ≡ slice_get (filter_map (shared_variable u) ps) 0
+  variable_of : (ps : List Pair)
+      → option_map (λ (c : Sym × Sym × Sym). c.2) (slice_get (filter_map (λ p. option_map (λ v. told p v) (shared_variable u p)) ps) 0)
+          ≡ slice_get (filter_map (shared_variable u) ps) 0
   variable_of [] = refl
   variable_of (p ∷ ps) = variable_by p (filter_map (λ p. option_map (λ v. told p v) (shared_variable u p)) ps) (filter_map (shared_variable u) ps) (shared_variable u p) (variable_of ps)
 

@@ -47,11 +47,14 @@ module _ (Q : Tree → Type 0) where
     of_step numbers more s t (stands v) h = h
     of_step numbers more s t (accepted x) h = h
 
-    of_with : (used : List Name) (s : SheetStep) (t : Tree) (o : Judgement) (f : Filling) (filled : Filled) → Q t → AllByRecursion Q filled.made → AllByRecursion OfItem f.items → AllByRecursion OfItem (with_step used s t g o f filled).items
+    of_with : (used : List Name) (s : SheetStep) (t : Tree) (o : Judgement) (f : Filling) (filled : Filled) → Q t → AllByRecursion Q filled.made
+        → AllByRecursion OfItem f.items → AllByRecursion OfItem (with_step used s t g o f filled).items
     of_with used s t o f filled own made before =
         let new = map step (map made_step (zip (derived_names (length filled.made) used) filled.made)) in
         let last = step (filled_step f.numbers filled.places s t g o) in
-        all_join OfItem (f.items ++ new) (last ∷ []) (all_join OfItem f.items new before (of_made (derived_names (length filled.made) used) filled.made made)) (of_step f.numbers filled.places s t o own, tt)
+        all_join OfItem (f.items ++ new) (last ∷ [])
+            (all_join OfItem f.items new before (of_made (derived_names (length filled.made) used) filled.made made))
+            (of_step f.numbers filled.places s t o own, tt)
 
     module _ (names : List Name) (bound : Bound) (judgements : List Judgement)
         (own : (i : ℕ) → Q (formula bound g i))

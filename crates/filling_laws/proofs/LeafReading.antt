@@ -61,7 +61,8 @@ module _ (m : ℕ) where
   low_kids f [] h = tt
   low_kids f (id ∷ kids) h = (h.0, low_kids f kids h.1)
 
-  low_made : (links : List Link) (works : List WorkNode) (e : ℕ) (f : ℕ → Tree) → e < m → (x : Term) → AllByRecursion (λ (id : Id). IsLow (f id.0)) (children_of x) → IsLow (made (leaf_at links works) e f x)
+  low_made : (links : List Link) (works : List WorkNode) (e : ℕ) (f : ℕ → Tree) → e < m → (x : Term)
+      → AllByRecursion (λ (id : Id). IsLow (f id.0)) (children_of x) → IsLow (made (leaf_at links works) e f x)
   low_made links works e f h (Var s c) below = low_Var s c
   low_made links works e f h (Free c) below = low_leaf e c h (least_at links e works)
   low_made links works e f h (Node l c k kids) below = low_Node l c (map (λ (id : Id). f id.0) kids) (low_kids f kids below)

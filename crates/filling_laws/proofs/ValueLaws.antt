@@ -34,7 +34,8 @@ all_mapped P f [] h = tt
 all_mapped P f (x ∷ xs) h = (h x (first x x xs refl), all_mapped P f xs (λ y m. h y (later y x xs m)))
 
 -- the assertions of candidates have no open leaf
-all_closed : (kinds : Kinds) (db : Database) → AssertionsAreWhole → IsOpened kinds db → (asked : List Asked) → ((x : Asked) → Contains asked x → db.usable x.assertion.label ≡ Some x.assertion) → AllByRecursion IsClosed asked
+all_closed : (kinds : Kinds) (db : Database) → AssertionsAreWhole → IsOpened kinds db → (asked : List Asked)
+    → ((x : Asked) → Contains asked x → db.usable x.assertion.label ≡ Some x.assertion) → AllByRecursion IsClosed asked
 all_closed kinds db whole opened xs usable = all_from IsClosed xs (λ x m. let is = whole kinds db x.assertion.label x.assertion opened (usable x m) in (is.closed, is.hyps_closed))
 
 pub values_are_short : AssertionsAreWhole → AcceptedAreCandidates → ValuesAreShort
@@ -47,7 +48,9 @@ values_are_short whole candidates h s kinds text sheet opened binds logic judged
     let value = long.value kinds text sheet opened binds logic in
     let y = value.long.0 in
     let are = candidates h kinds text sheet opened binds logic judged in
-    let closed = all_closed kinds _ whole (record { text = text; sound = opened.no_fault; is_database = opened.database }) (accepted_in judgements) (λ x m. (all_of _ (accepted_in judgements) x are m).usable) in
+    let closed =
+        all_closed kinds _ whole (record { text = text; sound = opened.no_fault; is_database = opened.database }) (accepted_in judgements)
+            (λ x m. (all_of _ (accepted_in judgements) x are m).usable) in
     let stand = formulas_stand (step_names s) h.bound g judgements front in
     value.long.2 (all_mapped (IsShort c) _ y.assertion.vars (λ v m. short_of c _
     (value_few c 4095 (omega arith) _ h.bound judgements g judged.judged judged.most_general closed earlier _ y value.long.1 (few_of c _ value.own)

@@ -25,7 +25,8 @@ use Rattle.filling_laws.proofs.ValueTokens.{fresh_tokens, within}
 use Rattle.filling_laws.proofs.ValuePlaces.{IsAcceptedStep, accepted_step, once, given_in}
 
 module _ (constants : Label → ℕ) (most : ℕ) (some : 1 ≤ most) (db : Database) (bound : Bound) (judgements : List Judgement) (g : Valuation)
-    (judged : AreJudged db bound judgements) (the : IsTheValuation db bound (accepted_in judgements) g) (closed : AllByRecursion IsClosed (accepted_in judgements)) (earlier : PlacesComeBefore bound) where
+    (judged : AreJudged db bound judgements) (the : IsTheValuation db bound (accepted_in judgements) g)
+        (closed : AllByRecursion IsClosed (accepted_in judgements)) (earlier : PlacesComeBefore bound) where
   abbrev Few : Tree → Type 0
   Few t = tokens constants t ≤ most
 
@@ -62,4 +63,6 @@ module _ (constants : Label → ℕ) (most : ℕ) (some : 1 ≤ most) (db : Data
         omega (arith, leaf, same, some)
 
     pub value_few : (v : TypedVariable) → Contains x.assertion.vars v → Few (g (copy k v.sym v.code))
-    value_few v m = subst (λ (i : ℕ). Few (g (copy i v.sym v.code))) is.step_is (elim (contains_or_not (shown_by x.assertion x.places) v) [ inl shown ↦ shown_few v shown | inr hidden ↦ hidden_few v m hidden ])
+    value_few v m =
+        subst (λ (i : ℕ). Few (g (copy i v.sym v.code))) is.step_is
+            (elim (contains_or_not (shown_by x.assertion x.places) v) [ inl shown ↦ shown_few v shown | inr hidden ↦ hidden_few v m hidden ])

@@ -42,7 +42,8 @@ in_order_at next (k ∷ order) h (suc j) l = in_order_at (next + 1) order h.1 j 
 pub pick_in_order : (ts : List Tree) (order : List ℕ) → length ts ≡ length order → IsInOrder 0 order → pick ts order ≡ ts
 pick_in_order ts order count h = pick_is ts order ts (sym count) (λ j l. ap (slice_get ts) (in_order_at 0 order h j l ∙ zero-add j))
 
-get_place_by : (k x : ℕ) (order : List ℕ) (b : Bool) → (k == x) ≡ b → cond b 0 (suc (place_of k order)) < suc (length order) → (place_of k order < length order → get_or order (place_of k order) 0 ≡ k)
+get_place_by : (k x : ℕ) (order : List ℕ) (b : Bool) → (k == x) ≡ b → cond b 0 (suc (place_of k order)) < suc (length order)
+    → (place_of k order < length order → get_or order (place_of k order) 0 ≡ k)
     → get_or (x ∷ order) (cond b 0 (suc (place_of k order))) 0 ≡ k
 get_place_by k x order true is l h = grind (arith, nat_tests)
 get_place_by k x order false is l h = h (omega arith)
@@ -81,7 +82,8 @@ pick_determines ts us order n once a b e = same_by_get ts us (a ∙ sym b) (λ k
     let place = get_place k order l in
     sym (subst (λ i. slice_get ts i ≡ slice_get us i) place at) ∙ is)
 
-module _ (rows : List Production) (before : ℕ) (r : Production) (once : EachOnce (length r.slots) (slot_order r.items)) (below : r.at < before) (e : List Leaf) (want : Typecode) (gives : r.gives ≡ want) where
+module _ (rows : List Production) (before : ℕ) (r : Production) (once : EachOnce (length r.slots) (slot_order r.items)) (below : r.at < before)
+    (e : List Leaf) (want : Typecode) (gives : r.gives ≡ want) where
   made_is : (us : List Tree) (t : Tree) → Fits rows before r.slots r.items e us → IsMade r us t → IsOf rows before r e want t
   made_is us t f m = record {
     below = below;

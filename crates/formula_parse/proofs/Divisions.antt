@@ -76,7 +76,9 @@ module _ (rows : List Production) (before : ℕ) (ok : AreRows rows) (slots : Li
       (λ us x. ⊎_elim (λ (y : Below k us). y) (λ (y : At (k + 1) us). absurd (none y.more y.after)) (fewer_places k us x)) a h
 
   -- one more place, of which not both hold
-  pub place_skip_both : (k : ℕ) → ((t : Tree) (us : List Tree) → Parses rows before (take (k + 1) e) code t → Fits rows before slots items (drop (k + 1) e) us → ⊥) → (a : Found (List Tree)) → Finds (Below k) a → Finds (Below (k + 1)) a
+  pub place_skip_both : (k : ℕ)
+      → ((t : Tree) (us : List Tree) → Parses rows before (take (k + 1) e) code t → Fits rows before slots items (drop (k + 1) e) us → ⊥)
+      → (a : Found (List Tree)) → Finds (Below k) a → Finds (Below (k + 1)) a
   place_skip_both k none a h = finds_same (Below k) (Below (k + 1)) (λ us x. more_places k us (inl x))
       (λ us x. ⊎_elim (λ (y : Below k us). y) (λ (y : At (k + 1) us). let p = to_pair (k + 1) us y in absurd (none p.first p.more p.head p.tail)) (fewer_places k us x)) a h
 

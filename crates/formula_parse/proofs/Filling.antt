@@ -42,10 +42,13 @@ picked_in ts (k ∷ order) t us e = picked_by ts (slice_get ts k) k (pick ts ord
 slot_code : (slots : List Typecode) (k : ℕ) (want code : Typecode) → slice_get slots k ≡ Some want → code ≡ want → slice_get slots k ≡ Some code
 slot_code slots k want code at is = at ∙ ap (λ c. Some c) (sym is)
 
-reaches_at : (leaves : List Leaf) (chart : List (List Entry)) (slots : List Typecode) (items : List Item) (p q e : ℕ) → p ≡ q → Reaches leaves chart slots items q e → Reaches leaves chart slots items p e
+reaches_at : (leaves : List Leaf) (chart : List (List Entry)) (slots : List Typecode) (items : List Item) (p q e : ℕ) → p ≡ q
+    → Reaches leaves chart slots items q e → Reaches leaves chart slots items p e
 reaches_at leaves chart slots items p q e is h = subst (λ k. Reaches leaves chart slots items k e) (sym is) h
 
-leaf_code : (b : ℕ) (leaves e : List Leaf) (code : Typecode) (t : Tree) → IsLeaf e code t → ((x : Leaf) (xs : List Leaf) → e ≡ x ∷ xs → slice_get leaves b ≡ Some x) → length e ≡ 1 × ((x : Leaf) × (slice_get leaves b ≡ Some x) × HasCode x code)
+leaf_code : (b : ℕ) (leaves e : List Leaf) (code : Typecode) (t : Tree) → IsLeaf e code t
+    → ((x : Leaf) (xs : List Leaf) → e ≡ x ∷ xs → slice_get leaves b ≡ Some x)
+    → length e ≡ 1 × ((x : Leaf) × (slice_get leaves b ≡ Some x) × HasCode x code)
 leaf_code b leaves [] code t h at = absurd h
 leaf_code b leaves (leaf.Const s ∷ e) code t h at = absurd h
 leaf_code b leaves (leaf.Var s c ∷ []) code t h at = (refl, (leaf.Var s c, at (leaf.Var s c) [] refl, sym h.0))
@@ -59,7 +62,8 @@ module _ (rows : List Production) (before : ℕ) (ok : AreRows rows) (leaves : L
   HasTree t = (e : ℕ) (code : Typecode) → b ≤ e → e ≤ length leaves → Parses rows before (span leaves b e) code t → HasEntry entries e code
 
   -- the items of a row fit a part
-  fit_entry : (e : ℕ) (i : ℕ) (r : Production) (ts : List Tree) (us : List Tree) (items : List Item) → b ≤ e → e ≤ length leaves → slice_get rows i ≡ Some r → r.at < before → r.items ≢ [] → r.items ≡ items
+  fit_entry : (e : ℕ) (i : ℕ) (r : Production) (ts : List Tree) (us : List Tree) (items : List Item) → b ≤ e → e ≤ length leaves
+      → slice_get rows i ≡ Some r → r.at < before → r.items ≢ [] → r.items ≡ items
       → ((t : Tree) (vs : List Tree) → us ≡ t ∷ vs → HasTree t) → Fits rows before r.slots items (span leaves b e) us → IsIn entries (entry_of e r.gives i)
   fit_entry e i r ts us [] l m at below some is each h = absurd (some is)
   fit_entry e i r ts us (Const s ∷ items) l m at below some is each h =
@@ -78,10 +82,12 @@ module _ (rows : List Production) (before : ℕ) (ok : AreRows rows) (leaves : L
       let next : b + 1 ≤ b + n = omega (arith, pos, span_length leaves b (b + n) (omega arith) (omega arith)) in
       let first = each s.first s.more s.us_is (b + n) s.want (omega arith) (omega arith) front in
       let x = first.entry in
-      filled.by_slot first.is_in.0 x first.is_in.1 i r k items at below is (slot_code r.slots k s.want first.entry.code s.code_is first.has_code) r (Slot k) items e at is (reaches_at leaves chart r.slots items first.entry.end (b + n) e first.ends
+      filled.by_slot first.is_in.0 x first.is_in.1 i r k items at below is (slot_code r.slots k s.want first.entry.code s.code_is first.has_code) r
+          (Slot k) items e at is (reaches_at leaves chart r.slots items first.entry.end (b + n) e first.ends
       (fits_reaches rows before ok leaves chart (b + 1) full r.slots items (b + n) e s.more next within m rest))
 
-  row_entry : (e : ℕ) (want : Typecode) (i : ℕ) (r : Production) (t : Tree) → b ≤ e → e ≤ length leaves → slice_get rows i ≡ Some r → (h : IsOf rows before r (span leaves b e) want t) → Each HasTree h.children → IsIn entries (entry_of e r.gives i)
+  row_entry : (e : ℕ) (want : Typecode) (i : ℕ) (r : Production) (t : Tree) → b ≤ e → e ≤ length leaves → slice_get rows i ≡ Some r
+      → (h : IsOf rows before r (span leaves b e) want t) → Each HasTree h.children → IsIn entries (entry_of e r.gives i)
   row_entry e want i r t l m at h each =
       let row = is_row rows ok i r at in
       fit_entry e i r h.children (pick h.children (slot_order r.items)) r.items l m at h.below row.written refl
@@ -93,7 +99,8 @@ module _ (rows : List Production) (before : ℕ) (ok : AreRows rows) (leaves : L
       let end : b + 1 ≡ e = omega (arith, x.0, span_length leaves b e l m) in
       subst (λ k. HasEntry entries k code) end (filled.begun.leaf_in x.1.0 code x.1.1 x.1.2)
 
-  of_entry : (e : ℕ) (code : Typecode) (l : Label) (c : Typecode) (ts : List Tree) → Each HasTree ts → b ≤ e → e ≤ length leaves → (h : IsOfRow rows before (length rows) (span leaves b e) code (Node l c ts)) → HasEntry entries e code
+  of_entry : (e : ℕ) (code : Typecode) (l : Label) (c : Typecode) (ts : List Tree) → Each HasTree ts → b ≤ e → e ≤ length leaves
+      → (h : IsOfRow rows before (length rows) (span leaves b e) code (Node l c ts)) → HasEntry entries e code
   of_entry e code l c ts each o m h =
       let same = same_node l h.row.label c h.row.gives ts h.is_of.children h.is_of.tree_is in
       let place = row_entry e code h.place h.row (Node l c ts) o m h.stands h.is_of (subst (Each HasTree) same.children each) in
@@ -102,8 +109,12 @@ module _ (rows : List Production) (before : ℕ) (ok : AreRows rows) (leaves : L
   -- each tree that begins at the place has its entry
   pub has_tree : (t : Tree) → HasTree t
   has_tree = tree_ind HasTree
-      (λ v c e code l m h. ⊎_elim (λ x. leaf_entry e code (Var v c) l m x) (λ x. absurd (var_is_no_node v c x.row.label x.row.gives x.is_of.children x.is_of.tree_is)) (parses_cases rows before ok (Var v c) (span leaves b e) code h))
-      (λ c n e code l m h. ⊎_elim (λ x. leaf_entry e code (Work c n) l m x) (λ x. absurd (work_is_no_node c n x.row.label x.row.gives x.is_of.children x.is_of.tree_is)) (parses_cases rows before ok (Work c n) (span leaves b e) code h))
+      (λ v c e code l m h. ⊎_elim (λ x. leaf_entry e code (Var v c) l m x)
+          (λ x. absurd (var_is_no_node v c x.row.label x.row.gives x.is_of.children x.is_of.tree_is))
+          (parses_cases rows before ok (Var v c) (span leaves b e) code h))
+      (λ c n e code l m h. ⊎_elim (λ x. leaf_entry e code (Work c n) l m x)
+          (λ x. absurd (work_is_no_node c n x.row.label x.row.gives x.is_of.children x.is_of.tree_is))
+          (parses_cases rows before ok (Work c n) (span leaves b e) code h))
       (λ c n e code l m h. absurd (fresh_is_not_named c n h.named))
       (λ l c ts each e code o m h. ⊎_elim (λ x. leaf_entry e code (Node l c ts) o m x) (λ x. of_entry e code l c ts each o m x) (parses_cases rows before ok (Node l c ts) (span leaves b e) code h))
 

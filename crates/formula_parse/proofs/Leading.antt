@@ -40,7 +40,9 @@ number_in : (test : Production → Bool) (rows : List Production) (i : ℕ) (r :
 number_in test rows i r is pass = let place : 0 + i ≡ i = omega arith in subst (IsIn (numbers test 0 rows)) place (number_from test 0 rows i r is pass)
 
 -- where no production begins with a slot of an entry's typecode, none is to follow the entry
-pub follows_none : (leaves : List Leaf) (chart : List (List Entry)) (rows : List Production) (before : ℕ) (entry : Entry) (entries : List Entry) (ns : List ℕ) → ns ≡ numbers (begins_slot entry.code.0.0) 0 rows → length ns ≡ 0
+pub follows_none : (leaves : List Leaf) (chart : List (List Entry)) (rows : List Production) (before : ℕ) (entry : Entry) (entries : List Entry)
+    (ns : List ℕ)
+    → ns ≡ numbers (begins_slot entry.code.0.0) 0 rows → length ns ≡ 0
     → Follows leaves chart rows before entry entries
 follows_none leaves chart rows before entry entries ns are none i r k rest at below is code =
     let first : first_code r.slots r.items ≡ Some entry.code = ap (first_code r.slots) is ∙ code in
@@ -59,7 +61,8 @@ module _ (leaves : List Leaf) (chart : List (List Entry)) (rows : List Productio
       all number.0 i number.1 (r, stands, below, is)
 
   module _ (entries : List Entry) (lone : (j i : ℕ) → slice_get (numbers (is_lone first.0) 0 rows) j ≡ Some i → IsStart rows before first i → Enters leaves chart rows i place entries)
-      (here : EntersNext leaves chart rows before first place place entries) (behind : (m : ℕ) (code : Typecode) → IsEntry chart place m code → EntersNext leaves chart rows before first place m entries)
+      (here : EntersNext leaves chart rows before first place place entries)
+          (behind : (m : ℕ) (code : Typecode) → IsEntry chart place m code → EntersNext leaves chart rows before first place m entries)
       (i : ℕ) (r : Production) (stands : slice_get rows i ≡ Some r) (below : r.at < before) (is : first_sym r.slots r.items ≡ Some first) where
     no_next : next_const r.items ≡ None → Enters leaves chart rows i place entries
     no_next none =
@@ -79,4 +82,5 @@ module _ (leaves : List Leaf) (chart : List (List Entry)) (rows : List Productio
       → EntersFirst leaves chart rows before first place entries
   first_entered entries lone here behind i start r f rest e stands split h =
       let one : start.0 ≡ r = (let a = start.1 in let b = stands in cc) in
-      by_rest entries lone here behind i r stands (subst (λ (p : Production). p.at < before) one start.2) (subst (λ (p : Production). first_sym p.slots p.items ≡ Some first) one start.3) f rest e split h
+      by_rest entries lone here behind i r stands (subst (λ (p : Production). p.at < before) one start.2)
+          (subst (λ (p : Production). first_sym p.slots p.items ≡ Some first) one start.3) f rest e split h

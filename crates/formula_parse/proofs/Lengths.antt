@@ -28,7 +28,8 @@ module _ (rows : List Production) (before : ℕ) (ok : AreRows rows) where
   abbrev HasText : Tree → Type 0
   HasText t = 0 < length (text rows t)
 
-  items_pos : (slots : List Typecode) (ts : List Tree) (items : List Item) → items ≢ [] → Within rows before slots ts (slot_order items) → Each HasText ts → 0 < length (items_text (map (text rows) ts) items)
+  items_pos : (slots : List Typecode) (ts : List Tree) (items : List Item) → items ≢ [] → Within rows before slots ts (slot_order items)
+      → Each HasText ts → 0 < length (items_text (map (text rows) ts) items)
   items_pos slots ts [] some w h = absurd (some refl)
   items_pos slots ts (Const s ∷ items) some w h = omega arith
   items_pos slots ts (Slot k ∷ items) some w h =

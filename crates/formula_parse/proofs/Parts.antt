@@ -41,13 +41,15 @@ module _ (rows : List Production) (before : ℕ) (ok : AreRows rows) (leaves : L
       (subst (λ xs. Fits rows before slots items xs us) (back k i) f))) a h
 
   -- the chart has no such front from which it leads on
-  pub part_skip_both : (k : ℕ) → b + k + 1 ≤ e → (IsEntry chart b (b + k + 1) code → Reaches leaves chart slots items (b + k + 1) e → ⊥) → (a : Found (List Tree)) → Finds (Below k) a → Finds (Below (k + 1)) a
+  pub part_skip_both : (k : ℕ) → b + k + 1 ≤ e → (IsEntry chart b (b + k + 1) code → Reaches leaves chart slots items (b + k + 1) e → ⊥)
+      → (a : Found (List Tree)) → Finds (Below k) a → Finds (Below (k + 1)) a
   part_skip_both k i none a h = place_skip_both rows before ok slots items code (span leaves b e) k
       (λ t us p f. none
       (parses_entry rows before ok leaves chart 0 full b (b + k + 1) code t (omega arith) (omega arith) (omega arith) (subst (λ xs. Parses rows before xs code t) (front k i) p))
       (fits_reaches rows before ok leaves chart 0 full slots items (b + k + 1) e us (omega arith) i m (subst (λ xs. Fits rows before slots items xs us) (back k i) f))) a h
 
-  pub part_found : (k : ℕ) → b + k + 1 ≤ e → (a : Found (List Tree)) (f : Found Tree) (g more result : Found (List Tree)) → Finds (Below k) a → Finds (Parses rows before (span leaves b (b + k + 1)) code) f
+  pub part_found : (k : ℕ) → b + k + 1 ≤ e → (a : Found (List Tree)) (f : Found Tree) (g more result : Found (List Tree)) → Finds (Below k) a
+      → Finds (Parses rows before (span leaves b (b + k + 1)) code) f
       → Finds (Fits rows before slots items (span leaves (b + k + 1) e)) g → more ≡ paired f g → result ≡ joined a more → Finds (Below (k + 1)) result
   part_found k i a f g more result h p q is was =
       place_found rows before ok slots items code (span leaves b e) k (omega (arith, span_length leaves b e l m)) (span leaves (b + k + 1) e) (sym (back k i)) a f g more result h

@@ -24,7 +24,8 @@ module _ (rows : List Production) (before : ℕ) (ok : AreRows rows) (leaves : L
       let at = full.each b f (omega (arith, pos, span_length leaves b e l m)) in
       record { entries = at.0; stand = at.1; has = at.2.parts_in e code t l m h }
 
-  pub fits_reaches : (slots : List Typecode) (items : List Item) (q e : ℕ) (us : List Tree) → from ≤ q → q ≤ e → e ≤ length leaves → Fits rows before slots items (span leaves q e) us → Reaches leaves chart slots items q e
+  pub fits_reaches : (slots : List Typecode) (items : List Item) (q e : ℕ) (us : List Tree) → from ≤ q → q ≤ e → e ≤ length leaves
+      → Fits rows before slots items (span leaves q e) us → Reaches leaves chart slots items q e
   fits_reaches slots [] q e us f l m h = span_empty leaves q e l m h.0
   fits_reaches slots (Const s ∷ items) q e us f l m h =
       let x = leaf.Const s in

@@ -12,7 +12,9 @@ use Rattle.formula_parse.specs.Ends.{IsAmong}
 use Rattle.formula_parse.proofs.Lists.{can_of}
 
 -- the slot's end is one of those that were found, and the rest leads on from there
-pub slot_among : (leaves : List Leaf) (chart : List (List Entry)) (slots : List Typecode) (items rest : List Item) (k : ℕ) (code : Typecode) (q e : ℕ) (ends : Ends) → items ≡ Slot k ∷ rest → slice_get slots k ≡ Some code
+pub slot_among : (leaves : List Leaf) (chart : List (List Entry)) (slots : List Typecode) (items rest : List Item) (k : ℕ) (code : Typecode) (q e : ℕ)
+    (ends : Ends)
+    → items ≡ Slot k ∷ rest → slice_get slots k ≡ Some code
     → ((m : ℕ) → IsEntry chart q m code → CanLead leaves rest m → IsAmong ends m) → Reaches leaves chart slots items q e → (m : ℕ) × IsAmong ends m × Reaches leaves chart slots rest m e
 slot_among leaves chart slots items rest k code q e ends split slot found r =
     let at = subst (λ xs. Reaches leaves chart slots xs q e) split r in

@@ -65,7 +65,8 @@ module _ (rows : List Production) where
   by_chain (Some c) t h = omega (arith, h c refl)
 
   -- from a tree to the items of a row that gives it
-  pub tree_to_items : HasNoCycle (reverse rows) → (n k : ℕ) (r : Production) (want : Typecode) → slice_get rows k ≡ Some r → r.gives ≡ want → items_weight rows r.slots r.items n < tree_weight rows n want
+  pub tree_to_items : HasNoCycle (reverse rows) → (n k : ℕ) (r : Production) (want : Typecode) → slice_get rows k ≡ Some r → r.gives ≡ want
+      → items_weight rows r.slots r.items n < tree_weight rows n want
   tree_to_items h n k r want at is =
       let small = by_chain (chain_from r) (rank_of rows r.gives) (λ c e. row_rank h k r c at e) in
       subst (λ c. items_weight rows r.slots r.items n < tree_weight rows n c) is
@@ -80,7 +81,8 @@ module _ (rows : List Production) where
   last_less slots k code (i ∷ rest) e = omega arith
 
   -- from items that begin with a slot to the places of division
-  pub items_to_split : (n : ℕ) (slots : List Typecode) (k : ℕ) (code : Typecode) (rest : List Item) → slice_get slots k ≡ Some code → split_weight rows code rest n < items_weight rows slots (Slot k ∷ rest) n
+  pub items_to_split : (n : ℕ) (slots : List Typecode) (k : ℕ) (code : Typecode) (rest : List Item) → slice_get slots k ≡ Some code
+      → split_weight rows code rest n < items_weight rows slots (Slot k ∷ rest) n
   items_to_split n slots k code rest e = not_longer (width rows) n n (last_weight rows code rest) (lone_weight rows (lone_slot slots (Slot k ∷ rest))) (omega arith) (last_less slots k code rest e)
 
   -- from a place of division to the tree before it

@@ -74,7 +74,9 @@ module _ (ss : List Statement) (l : Listed) (of : AreOf l ss) (sound : AreSound 
     | inr f ↦ g.has_label (codes "$e") refl (kind-is_essential i.statement ∙ f)
   ]
 
-  hyps-by : (xs : List Numbered) → ((i : Numbered) → In i xs → In i ns) → map (hypothesis_at l) (map (λ (i : Numbered). i.label) (filter is_hyp xs)) ≡ map (hypothesis_of names) (statements_of (filter (λ (i : Numbered). model.is_hypothesis i.statement) xs))
+  hyps-by : (xs : List Numbered) → ((i : Numbered) → In i xs → In i ns)
+      → map (hypothesis_at l) (map (λ (i : Numbered). i.label) (filter is_hyp xs))
+          ≡ map (hypothesis_of names) (statements_of (filter (λ (i : Numbered). model.is_hypothesis i.statement) xs))
   hyps-by [] f = refl
   hyps-by (x ∷ xs) f =
       let later = hyps-by xs (λ i m. f i (inr m)) in
@@ -92,14 +94,20 @@ module _ (ss : List Statement) (l : Listed) (of : AreOf l ss) (sound : AreSound 
       let label : Numbered → ℕ = λ i. i.label in
       let statement : Numbered → Statement = λ i. i.statement in
       ap (λ xs. map (hypothesis_at l) xs) (sh.hyps_are ∙ hyps-are ss ns) ∙ hyps-by (reverse ns) (λ i m. in_reverse i ns m)
-      ∙ ap (λ xs. map (hypothesis_of names) xs) (sym (filter-map statement model.is_hypothesis (reverse ns)) ∙ ap (λ xs. filter model.is_hypothesis xs) (map-reverse statement ns) ∙ ap (λ xs. filter model.is_hypothesis (reverse xs)) (on-is (path e) e))
+      ∙ ap (λ xs. map (hypothesis_of names) xs)
+          (sym (filter-map statement model.is_hypothesis (reverse ns)) ∙ ap (λ xs. filter model.is_hypothesis xs) (map-reverse statement ns)
+              ∙ ap (λ xs. filter model.is_hypothesis (reverse xs)) (on-is (path e) e))
 
   abbrev pub made : List Sym → List Hyp → List Pair → Active
   made vs hs ps = record { variables = vs; hyps = hs; pairs = ps }
 
-  pub active-is : (vs : List Sym) (hs : List Hyp) (ps : List Pair) → AreVariables s.variables vs → hs ≡ map (hypothesis_at l) s.hyps → ArePairs l s.distinct s.variables ps → made vs hs ps ≡ model.active_at ss k
+  pub active-is : (vs : List Sym) (hs : List Hyp) (ps : List Pair) → AreVariables s.variables vs → hs ≡ map (hypothesis_at l) s.hyps
+      → ArePairs l s.distinct s.variables ps → made vs hs ps ≡ model.active_at ss k
   active-is vs hs ps a b c =
       let make : List Sym → List Hyp → List Pair → Active = λ x y z. record { variables = x; hyps = y; pairs = z } in
       ap (λ x. make x hs ps) (variables-are vs a)
       ∙ ap (λ y. make (map (symbol_in names) (active_variables names e)) y ps) (b ∙ hyps-law)
-      ∙ ap (λ z. make (map (symbol_in names) (active_variables names e)) (map (hypothesis_of names) (filter model.is_hypothesis (reverse (active e)))) z) (pairs-law ss l of e good s sh.distinct_are q s.variables within law ps c)
+      ∙ ap
+          (λ z. make (map (symbol_in names) (active_variables names e))
+              (map (hypothesis_of names) (filter model.is_hypothesis (reverse (active e)))) z)
+          (pairs-law ss l of e good s sh.distinct_are q s.variables within law ps c)

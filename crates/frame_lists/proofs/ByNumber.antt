@@ -1,5 +1,6 @@
 -- Names and their numbers.
-use Rattle.std.proofs.Common.{◌≡◌, ℕ, zero, suc, ◌+◌, ◌<◌, ◌≤◌, Bool, true, false, ◌||◌, List, [], ◌∷◌, ◌++◌, append_assoc, length, take, map, flat_map, reverse, nat_eq, eqb, ltb, refl, sym, ap, ◌∙◌, arith, inl, inr, subst, codes, get_or, slice_get, Some}
+use Rattle.std.proofs.Common.{◌≡◌, ℕ, zero, suc, ◌+◌, ◌<◌, ◌≤◌, Bool, true, false, ◌||◌, List, [], ◌∷◌, ◌++◌, append_assoc, length, take, map}
+use Rattle.std.proofs.Common.{flat_map, reverse, nat_eq, eqb, ltb, refl, sym, ap, ◌∙◌, arith, inl, inr, subst, codes, get_or, slice_get, Some}
 use Rattle.std.specs.List.{list_any, position_or_len, AllByRecursion, filter}
 use Rattle.std.specs.List.Sorted.{IsStrictlySortedBy}
 use Rattle.std.specs.Ordering.{nat_cmp}
@@ -201,7 +202,8 @@ module _ (names : List Name) where
     | inr e ↦ let r = in-passing q xs j (rw e at i) in (r.0, or_right (bytes_eq r.0 x) (contains xs r.0) r.1, r.2, r.3)
   ]
     where
-      first : q x ≡ true → (In j (numbers_passing q xs) → (n : Name) × (contains xs n ≡ true) × (q n ≡ true) × (number n ≡ j)) → In j (number x ∷ numbers_passing q xs) → (n : Name) × (contains (x ∷ xs) n ≡ true) × (q n ≡ true) × (number n ≡ j)
+      first : q x ≡ true → (In j (numbers_passing q xs) → (n : Name) × (contains xs n ≡ true) × (q n ≡ true) × (number n ≡ j))
+          → In j (number x ∷ numbers_passing q xs) → (n : Name) × (contains (x ∷ xs) n ≡ true) × (q n ≡ true) × (number n ≡ j)
       first e f i = elim i [
         | inl d ↦ (x, or_left (bytes_eq x x) (contains xs x) (name-self x), e, sym d)
         | inr k ↦ let r = f k in (r.0, or_right (bytes_eq r.0 x) (contains xs r.0) r.1, r.2, r.3)
@@ -215,7 +217,8 @@ module _ (names : List Name) where
   ]
 
   -- a number of the set is that of a name that passes, and the other way
-  pub to-passing : (q : Name → Bool) (set : List ℕ) → Fresh [] names → ((j : ℕ) → has set j ≡ true → j < length names) → ((n : Name) → contains names n ≡ true → q n ≡ has set (number n)) → (j : ℕ) → has set j ≡ true → In j (numbers_passing q names)
+  pub to-passing : (q : Name → Bool) (set : List ℕ) → Fresh [] names → ((j : ℕ) → has set j ≡ true → j < length names)
+      → ((n : Name) → contains names n ≡ true → q n ≡ has set (number n)) → (j : ℕ) → has set j ≡ true → In j (numbers_passing q names)
   to-passing q set fresh within law j there =
       let n = number-at [] names j refl fresh (within j there) in
       let is : number n.0 ≡ j = omega (arith, n.2) in
@@ -226,7 +229,8 @@ module _ (names : List Name) where
   from-passing q set law j i = let r = in-passing q names j i in ap (has set) (sym r.3) ∙ sym (law r.0 r.1) ∙ r.2
 
   -- numbers in order, each of a name that passes
-  pub ordered-is : (q : Name → Bool) (set ns : List ℕ) → Fresh [] names → Ordered Rises set ns → ((j : ℕ) → has set j ≡ true → j < length names) → ((n : Name) → contains names n ≡ true → q n ≡ has set (number n))
+  pub ordered-is : (q : Name → Bool) (set ns : List ℕ) → Fresh [] names → Ordered Rises set ns → ((j : ℕ) → has set j ≡ true → j < length names)
+      → ((n : Name) → contains names n ≡ true → q n ≡ has set (number n))
       → ns ≡ numbers_passing q names
   ordered-is q set ns fresh o within law =
       unique nat_cmp nat_cmp_total ns (numbers_passing q names) o.rises (passing-rise q fresh)
@@ -275,7 +279,8 @@ declares-constants s h = go (body s) h
       | inr e ↦ let bad : false ≡ true = rw e at h in absurd cc
     ]
 
-stands : (ss : List Statement) (k : ℕ) (s : Statement) (n : Name) → slice_get ss k ≡ Some s → declaring s ≡ true → contains (symbols_in s) n ≡ true → contains (flat_map symbols_in (filter declaring ss)) n ≡ true
+stands : (ss : List Statement) (k : ℕ) (s : Statement) (n : Name) → slice_get ss k ≡ Some s → declaring s ≡ true → contains (symbols_in s) n ≡ true
+    → contains (flat_map symbols_in (filter declaring ss)) n ≡ true
 stands [] k s n at v h = absurd cc
 stands (x ∷ ss) zero s n at v h =
     let same : s ≡ x = cc in
@@ -291,5 +296,6 @@ stands (x ∷ ss) (suc k) s n at v h =
 pub declared-known : (ss : List Statement) (k : ℕ) (s : Statement) (n : Name) → slice_get ss k ≡ Some s → declaring s ≡ true → contains (symbols_in s) n ≡ true → contains (symbols ss) n ≡ true
 declared-known ss k s n at v h = kept_names [] (flat_map symbols_in (filter declaring ss)) n (stands ss k s n at v h) refl
 
-pub variable-known : (ss : List Statement) (k : ℕ) (s : Statement) (n : Name) → slice_get ss k ≡ Some s → has_keyword (codes "$v") s ≡ true → contains (symbols_in s) n ≡ true → contains (symbols ss) n ≡ true
+pub variable-known : (ss : List Statement) (k : ℕ) (s : Statement) (n : Name) → slice_get ss k ≡ Some s → has_keyword (codes "$v") s ≡ true
+    → contains (symbols_in s) n ≡ true → contains (symbols ss) n ≡ true
 variable-known ss k s n at v h = declared-known ss k s n at (declares s v) h

@@ -1,5 +1,7 @@
 -- Where constants are declared, and typecodes of `$f`.
-use Rattle.std.proofs.Common.{◌≡◌, ℕ, zero, suc, ◌+◌, ◌<◌, ◌≤◌, ◌==◌, ◌^◌, Bool, true, false, cond, ◌&&◌, ◌||◌, List, [], ◌∷◌, ◌++◌, append-nil, append_assoc, length, take, map, reverse, flat_map, fold, Some, slice_get, option_map, slice_set, get_or, nat_lt, refl, sym, ap, ◌∙◌, arith, subst, inl, inr, codes, replicate}
+use Rattle.std.proofs.Common.{◌≡◌, ℕ, zero, suc, ◌+◌, ◌<◌, ◌≤◌, ◌==◌, ◌^◌, Bool, true, false, cond, ◌&&◌, ◌||◌, List, [], ◌∷◌, ◌++◌, append-nil}
+use Rattle.std.proofs.Common.{append_assoc, length, take, map, reverse, flat_map, fold, Some, slice_get, option_map, slice_set, get_or, nat_lt, refl}
+use Rattle.std.proofs.Common.{sym, ap, ◌∙◌, arith, subst, inl, inr, codes, replicate}
 use Rattle.std.specs.Str.{bytes_eq}
 use Rattle.std.proofs.lemmas.Bool.{cases_Bool, or_left, or_right}
 use Rattle.std.proofs.lemmas.Bool.Decides.{nat_tests}
@@ -30,14 +32,27 @@ firsts_of ss = flat_map (λ x. take 1 (symbols_in x)) (with_keyword (codes "$f")
 codes-from : (names : List Name) (cs : List Typecode) (ss : List Statement) → fold codes_more cs (map (entry_in names) ss) ≡ cs ++ map (code names) (firsts_of ss)
 codes-from names cs [] = sym (append-nil cs)
 codes-from names cs (s ∷ ss) = elim (cases_Bool (has_keyword (codes "$f") s)) [
-  | inl k ↦ first (sym (kind-is_floating s) ∙ k) ∙ sym (ap (λ b. cs ++ map (code names) (flat_map (λ x. take 1 (symbols_in x)) (cond b (s ∷ with_keyword (codes "$f") ss) (with_keyword (codes "$f") ss)))) k ∙ sym (a_float (symbols_in s) (λ ds. codes-from names ds ss)))
-  | inr k ↦ first (sym (kind-is_floating s) ∙ k) ∙ sym (ap (λ b. cs ++ map (code names) (flat_map (λ x. take 1 (symbols_in x)) (cond b (s ∷ with_keyword (codes "$f") ss) (with_keyword (codes "$f") ss)))) k ∙ sym (codes-from names cs ss))
+  | inl k ↦ first (sym (kind-is_floating s) ∙ k)
+      ∙ sym
+          (ap (λ b. cs
+              ++ map (code names)
+                  (flat_map (λ x. take 1 (symbols_in x)) (cond b (s ∷ with_keyword (codes "$f") ss) (with_keyword (codes "$f") ss)))) k
+              ∙ sym (a_float (symbols_in s) (λ ds. codes-from names ds ss)))
+  | inr k ↦ first (sym (kind-is_floating s) ∙ k)
+      ∙ sym
+          (ap (λ b. cs
+              ++ map (code names)
+                  (flat_map (λ x. take 1 (symbols_in x)) (cond b (s ∷ with_keyword (codes "$f") ss) (with_keyword (codes "$f") ss)))) k
+              ∙ sym (codes-from names cs ss))
 ]
   where
-    first : {b : Bool} → is_floating (kind_in s) ≡ b → fold codes_more cs (map (entry_in names) (s ∷ ss)) ≡ fold codes_more (cond b (with_first cs (map (symbol_in names) (symbols_in s))) cs) (map (entry_in names) ss)
+    first : {b : Bool} → is_floating (kind_in s) ≡ b
+        → fold codes_more cs (map (entry_in names) (s ∷ ss))
+            ≡ fold codes_more (cond b (with_first cs (map (symbol_in names) (symbols_in s))) cs) (map (entry_in names) ss)
     first e = ap (λ b. fold codes_more (cond b (with_first cs (map (symbol_in names) (symbols_in s))) cs) (map (entry_in names) ss)) e
 
-    a_float : (us : List Name) → ((ds : List Typecode) → fold codes_more ds (map (entry_in names) ss) ≡ ds ++ map (code names) (firsts_of ss)) → fold codes_more (with_first cs (map (symbol_in names) us)) (map (entry_in names) ss) ≡ cs ++ map (code names) (take 1 us ++ firsts_of ss)
+    a_float : (us : List Name) → ((ds : List Typecode) → fold codes_more ds (map (entry_in names) ss) ≡ ds ++ map (code names) (firsts_of ss))
+        → fold codes_more (with_first cs (map (symbol_in names) us)) (map (entry_in names) ss) ≡ cs ++ map (code names) (take 1 us ++ firsts_of ss)
     a_float [] f = f cs
     a_float (u ∷ us) f = f (cs ++ code names u ∷ []) ∙ append_assoc cs (code names u ∷ []) (map (code names) (firsts_of ss))
 
@@ -203,7 +218,8 @@ module _ (ss : List Statement) (sound : AreSound (reverse ss)) (few : length ss 
       same : has_keyword (codes "$c") s ≡ false → map (declared_by (below ss k)) names ≡ map (declared_by (s ∷ below ss k)) names
       same c = map-same (declared_by (below ss k)) (declared_by (s ∷ below ss k)) names (λ n. rw c (none n (declared_by (below ss k) n == no_place)))
 
-      unchanged : has_keyword (codes "$c") s ≡ false → (b : Bool) → is_constants (kind_in s) ≡ b → noted_entry k (map (declared_by (below ss k)) names) (entry_in names s) ≡ map (declared_by (s ∷ below ss k)) names
+      unchanged : has_keyword (codes "$c") s ≡ false → (b : Bool) → is_constants (kind_in s) ≡ b
+          → noted_entry k (map (declared_by (below ss k)) names) (entry_in names s) ≡ map (declared_by (s ∷ below ss k)) names
       unchanged c true is =
           let no_symbols = sound_s.has_keyword_or_none (no-keyword s c is) in
           ap (λ b. cond b (noted k (map (declared_by (below ss k)) names) (map (symbol_in names) (symbols_in s))) (map (declared_by (below ss k)) names)) is
@@ -223,7 +239,8 @@ module _ (ss : List Statement) (sound : AreSound (reverse ss)) (few : length ss 
 
   pub places-are : places_upto (length names) entries (length entries) ≡ constant_places ss
   places-are =
-      ap (λ (k : ℕ). places_upto (length names) entries k) (mapped-length (entry_in names) ss) ∙ places-law (length ss) (omega arith) ∙ ap (λ b. map (declared_by b) names) (ap (λ l. reverse l) (take-all ss))
+      ap (λ (k : ℕ). places_upto (length names) entries k) (mapped-length (entry_in names) ss) ∙ places-law (length ss) (omega arith)
+          ∙ ap (λ b. map (declared_by b) names) (ap (λ l. reverse l) (take-all ss))
     where
       take-all : (xs : List Statement) → take (length xs) xs ≡ xs
       take-all [] = refl

@@ -1,5 +1,6 @@
 -- The frame of a label is that of the definitions.
-use Rattle.std.proofs.Common.{◌≡◌, ℕ, zero, suc, ◌+◌, ◌<◌, ◌≤◌, Bool, true, false, not, ◌&&◌, cond, List, [], ◌∷◌, ◌++◌, length, take, drop, map, reverse, Option, Some, None, slice_get, option_map, option_and_then, refl, sym, ap, ◌∙◌, arith, subst}
+use Rattle.std.proofs.Common.{◌≡◌, ℕ, zero, suc, ◌+◌, ◌<◌, ◌≤◌, Bool, true, false, not, ◌&&◌, cond, List, [], ◌∷◌, ◌++◌, length, take, drop, map}
+use Rattle.std.proofs.Common.{reverse, Option, Some, None, slice_get, option_map, option_and_then, refl, sym, ap, ◌∙◌, arith, subst}
 use Rattle.std.specs.List.{range_with_len}
 use Rattle.std.proofs.lemmas.List.{map-append, reverse-reverse}
 use Rattle.mm_base.specs.declared.symbols.Label.{Label}
@@ -101,19 +102,22 @@ module _ (ss : List Statement) (l : Listed) (of : AreOf l ss) (sound : AreSound 
   one-label (w ∷ []) h t = refl
   one-label (w ∷ v ∷ ws) h t = let bad : ⊥ = omega (arith, h) in absurd bad
 
-  if-frame : (b : Bool) (k n : ℕ) (st : Statement) (s : Scope) (o : Option Frame) → slice_get ss k ≡ Some st → ScopeIs names (below ss k) s → IsFrameIf b l s (entry_in names st) k n o → o ≡ cond b (Some (frame_at ss (label n) k st)) None
+  if-frame : (b : Bool) (k n : ℕ) (st : Statement) (s : Scope) (o : Option Frame) → slice_get ss k ≡ Some st → ScopeIs names (below ss k) s
+      → IsFrameIf b l s (entry_in names st) k n o → o ≡ cond b (Some (frame_at ss (label n) k st)) None
   if-frame true k n st s None h scope i = absurd i
   if-frame true k n st s (Some f) h scope i = ap (λ g. Some g) (frame-is k n st s f h scope i)
   if-frame false k n st s o h scope i = i
 
-  by-label : (k n : ℕ) (st : Statement) → slice_get (positions ss) n ≡ Some k → slice_get ss k ≡ Some st → frame_of ss (label n) ≡ cond (is_assertion (kind_in st)) (Some (frame_at ss (label n) k st)) None
+  by-label : (k n : ℕ) (st : Statement) → slice_get (positions ss) n ≡ Some k → slice_get ss k ≡ Some st
+      → frame_of ss (label n) ≡ cond (is_assertion (kind_in st)) (Some (frame_at ss (label n) k st)) None
   by-label k n st p h =
       let found : ℕ × Statement → Option Frame = λ r. cond (model.is_assertion r.1) (Some (frame_at ss (label n) r.0 r.1)) None in
       ap (λ o. option_and_then found (option_and_then (λ at. option_map (λ x. (at, x)) (slice_get ss at)) o)) p
       ∙ ap (λ o. option_and_then found (option_map (λ x. (k, x)) o)) h
       ∙ ap (λ b. cond b (Some (frame_at ss (label n) k st)) None) (kind-is_assertion st)
 
-  pub frame-here : (k n : ℕ) (x : Entry) (s : Scope) (o : Option Frame) → slice_get l.entries k ≡ Some x → s ≡ scope_upto l k → n ≡ label_upto l k → is_label_of l n k ≡ true → IsFrameIf (is_assertion x.kind) l s x k n o → o ≡ frame_of ss (label n)
+  pub frame-here : (k n : ℕ) (x : Entry) (s : Scope) (o : Option Frame) → slice_get l.entries k ≡ Some x → s ≡ scope_upto l k → n ≡ label_upto l k
+      → is_label_of l n k ≡ true → IsFrameIf (is_assertion x.kind) l s x k n o → o ≡ frame_of ss (label n)
   frame-here k n x s o at is_s is_n has_l i =
       let r = map-get (entry_in names) ss k x (ap (λ xs. slice_get xs k) (sym of.entries_are) ∙ at) in
       let st = r.0 in
@@ -146,7 +150,8 @@ length-push : (fs : List (Option Frame)) (o : Option Frame) → length (fs ++ o 
 length-push [] o = refl
 length-push (f ∷ fs) o = ap (λ (n : ℕ). suc n) (length-push fs o)
 
-pub framed-push : (l : Listed) (fs : List (Option Frame)) (o : Option Frame) → Framed l fs → ((ss : List Statement) → AreSound (reverse ss) → AreOf l ss → o ≡ frame_of ss (label (length fs))) → Framed l (fs ++ o ∷ [])
+pub framed-push : (l : Listed) (fs : List (Option Frame)) (o : Option Frame) → Framed l fs
+    → ((ss : List Statement) → AreSound (reverse ss) → AreOf l ss → o ≡ frame_of ss (label (length fs))) → Framed l (fs ++ o ∷ [])
 framed-push l fs o f h ss sound of =
     let g : ℕ → Option Frame = λ n. frame_of ss (label n) in
     let zero-sum : 0 + length fs ≡ length fs = omega arith in
@@ -159,7 +164,8 @@ pub record FramedNext (l : Listed) (k : ℕ) (gs : List (Option Frame)) : Type 0
   pub small : length gs ≤ k + 1
   pub framed : Framed l gs
 
-pub framed-next : (l : Listed) (k n : ℕ) (x : Entry) (s : Scope) (fs gs : List (Option Frame)) → slice_get l.entries k ≡ Some x → s ≡ scope_upto l k → length fs ≡ label_upto l k → length fs ≤ k → n ≡ length fs → Framed l fs
+pub framed-next : (l : Listed) (k n : ℕ) (x : Entry) (s : Scope) (fs gs : List (Option Frame)) → slice_get l.entries k ≡ Some x → s ≡ scope_upto l k
+    → length fs ≡ label_upto l k → length fs ≤ k → n ≡ length fs → Framed l fs
     → IsAdded (is_label_of l n k) l s x k n fs gs → FramedNext l k gs
 framed-next l k n x s fs gs at is_s long small is_n f added = go (is_label_of l n k) refl added
   where

@@ -1,5 +1,6 @@
 -- Mandatory hypotheses in order of appearance.
-use Rattle.std.proofs.Common.{◌≡◌, ℕ, ◌+◌, ◌<◌, ◌≤◌, Bool, true, false, ◌&&◌, ◌||◌, ◌⊎◌, List, [], ◌∷◌, ◌++◌, length, map, reverse, fold, Option, Some, None, refl, sym, ap, ◌∙◌, arith, inl, inr, subst, codes, nat_eq, ltb}
+use Rattle.std.proofs.Common.{◌≡◌, ℕ, ◌+◌, ◌<◌, ◌≤◌, Bool, true, false, ◌&&◌, ◌||◌, ◌⊎◌, List, [], ◌∷◌, ◌++◌, length, map, reverse, fold, Option}
+use Rattle.std.proofs.Common.{Some, None, refl, sym, ap, ◌∙◌, arith, inl, inr, subst, codes, nat_eq, ltb}
 use Rattle.std.specs.List.{list_any, filter, AllByRecursion, ends_with}
 use Rattle.std.specs.Ordering.{nat_cmp}
 use Rattle.std.specs.declared.cmp.Ordering.TheVariants.{Less}
@@ -18,7 +19,8 @@ use Rattle.frame_lists.specs.Entries.{kind_in}
 use Rattle.frame_lists.specs.Orders.{Rises, AreHypotheses}
 use Rattle.frame_lists.specs.Steps.{has, is_floating, mandatory, hypothesis_at, float_of, or_more, labels_of}
 use Rattle.frame_lists.proofs.Keywords.{is_essential, kind-is_essential, kind-is_floating}
-use Rattle.frame_lists.proofs.Members.{In, in_all, in_has, has_in, in_contains, contains_in, in_map, map_in, in_filter, filter_in, in_reverse, reverse_in, in_append, in_left, in_right, any_found, any_there, unique, sorted_push, sorted_none}
+use Rattle.frame_lists.proofs.Members.{In, in_all, in_has, has_in, in_contains, contains_in, in_map, map_in, in_filter, filter_in, in_reverse}
+use Rattle.frame_lists.proofs.Members.{reverse_in, in_append, in_left, in_right, any_found, any_there, unique, sorted_push, sorted_none}
 use Rattle.frame_lists.proofs.Numbered.{Numbered, item, count, on, here, on-is}
 use Rattle.frame_lists.proofs.ByNumber.{number, same-names, name-self}
 use Rattle.frame_lists.proofs.Added.{plus, filter-last, filter-map, map-reverse}
@@ -116,13 +118,17 @@ module _ (ss : List Statement) where
       | inr d ↦ rw d (let later = labels-rise e p (rw d at a) in record { rises = later.rises; below = weaker (count e) (count (s ∷ e)) (chosen_labels (on p e)) (omega arith) later.below })
     ]
       where
-        grown : AllByRecursion (IsGood ss) (item s e ∷ on p e) → (AllByRecursion (IsGood ss) (on p e) → RiseBelow (count e) (chosen_labels (on p e))) → RiseBelow (count e + length (labels_in s)) (chosen_labels (item s e ∷ on p e))
+        grown : AllByRecursion (IsGood ss) (item s e ∷ on p e) → (AllByRecursion (IsGood ss) (on p e) → RiseBelow (count e) (chosen_labels (on p e)))
+            → RiseBelow (count e + length (labels_in s)) (chosen_labels (item s e ∷ on p e))
         grown a f =
             let later = f a.1 in
             let js = chosen_labels (on p e) in
             subst (λ (l : List ℕ). RiseBelow (count e + length (labels_in s)) l) (sym (filter-last (λ (i : Numbered). i.label) q (item s e) (on p e)))
             (elim (cases_Bool (q (item s e))) as (λ w. RiseBelow (count e + length (labels_in s)) (plus (q (item s e)) js (count e))) [
-              | inl h ↦ let here' = one (item s e) a.0 h in rw h (record { rises = sorted_push nat_cmp js (count e) later.rises (below-less (count e) js later.below); below = push-below (count e) (count e + length (labels_in s)) js (omega (arith, here')) later.below })
+              | inl h ↦ let here' = one (item s e) a.0 h in
+                  rw h
+                      (record { rises = sorted_push nat_cmp js (count e) later.rises (below-less (count e) js later.below);
+                          below = push-below (count e) (count e + length (labels_in s)) js (omega (arith, here')) later.below })
               | inr h ↦ rw h (record { rises = later.rises; below = weaker (count e) (count e + length (labels_in s)) js (omega arith) later.below })
             ])
 
@@ -140,7 +146,9 @@ module _ (ss : List Statement) where
   pair-at : (v x : ℕ) (ns : List Numbered) → In (v, x) (float_pairs names ns) → FloatAt v x ns
   pair-at v x [] i = absurd i
   pair-at v x (n ∷ ns) i = elim (in_append (v, x) (float_pairs names ns) (float_pair names n) i) [
-    | inl k ↦ let r = pair-at v x ns k in record { i = r.i; there = inr r.there; floating = r.floating; variable = r.variable; second_is = r.second_is; number_is = r.number_is; label_is = r.label_is }
+    | inl k ↦ let r = pair-at v x ns k in
+        record { i = r.i; there = inr r.there; floating = r.floating; variable = r.variable; second_is = r.second_is; number_is = r.number_is;
+            label_is = r.label_is }
     | inr k ↦ last (is_floating (kind_in n.statement)) refl k
   ]
     where
@@ -151,11 +159,13 @@ module _ (ss : List Statement) where
           record { i = n; there = inl refl; floating = f; variable = r.0; second_is = r.1; number_is = ap (λ (p : ℕ × ℕ). p.0) r.2; label_is = ap (λ (p : ℕ × ℕ). p.1) r.2 }
       last false f k = let none : ⊥ = rw f at k in absurd none
 
-  pair-in : (i : Numbered) (u : Name) (ns : List Numbered) → In i ns → is_floating (kind_in i.statement) ≡ true → In u (second (symbols_in i.statement)) → In (number names u, i.label) (float_pairs names ns)
+  pair-in : (i : Numbered) (u : Name) (ns : List Numbered) → In i ns → is_floating (kind_in i.statement) ≡ true
+      → In u (second (symbols_in i.statement)) → In (number names u, i.label) (float_pairs names ns)
   pair-in i u [] h f k = absurd h
   pair-in i u (n ∷ ns) h f k = elim h [
     | inr j ↦ in_left (number names u, i.label) (float_pairs names ns) (float_pair names n) (pair-in i u ns j f k)
-    | inl e ↦ subst (λ (m : Numbered). In (number names u, i.label) (float_pairs names ns ++ float_pair names m)) e (in_right (number names u, i.label) (float_pairs names ns) (float_pair names i) (mine f))
+    | inl e ↦ subst (λ (m : Numbered). In (number names u, i.label) (float_pairs names ns ++ float_pair names m)) e
+        (in_right (number names u, i.label) (float_pairs names ns) (float_pair names i) (mine f))
   ]
     where
       mine : is_floating (kind_in i.statement) ≡ true → In (number names u, i.label) (float_pair names i)
@@ -164,7 +174,8 @@ module _ (ss : List Statement) where
   -- ---- the law
 
   module _ (l : Listed) (of : AreOf l ss) (e : List Statement) (good : AllByRecursion (IsGood ss) (here e)) (fs : FloatsAre ss (here e))
-      (s : Scope) (is_v : s.variables ≡ (state names (here e)).variables) (is_t : s.typed ≡ (state names (here e)).typed) (is_f : s.floats ≡ (state names (here e)).floats) (is_e : s.essentials ≡ (state names (here e)).essentials) where
+      (s : Scope) (is_v : s.variables ≡ (state names (here e)).variables) (is_t : s.typed ≡ (state names (here e)).typed)
+          (is_f : s.floats ≡ (state names (here e)).floats) (is_e : s.essentials ≡ (state names (here e)).essentials) where
     abbrev ns : List Numbered
     ns = here e
 
@@ -214,7 +225,10 @@ module _ (ss : List Statement) where
             let listed : In x (labels_by ss is_essential ns) = subst (λ (es : List ℕ). In x es) (is_e ∙ essentials-are ss ns) k in
             let r = in_map (λ (j : Numbered). j.label) x (filter (λ (j : Numbered). is_essential (kind_in j.statement)) (reverse ns)) listed in
             let f = in_filter (λ (j : Numbered). is_essential (kind_in j.statement)) r.0 (reverse ns) r.1 in
-            let pass = or_left (has_keyword (codes "$e") r.0.statement) (has_keyword (codes "$f") r.0.statement && list_any (contains mand) (second (symbols_in r.0.statement))) (kind-is_essential r.0.statement ∙ f.1) in
+            let pass =
+                or_left (has_keyword (codes "$e") r.0.statement)
+                    (has_keyword (codes "$f") r.0.statement && list_any (contains mand) (second (symbols_in r.0.statement)))
+                    (kind-is_essential r.0.statement ∙ f.1) in
             subst (λ (y : ℕ). In y labels) r.2 (map_in (λ (j : Numbered). j.label) r.0 chosen (filter_in (λ (j : Numbered). test j.statement) r.0 (reverse ns) f.0 pass))
         | inr r ↦
             let a = pair-at r.0 x ns (look-in r.0 x (float_pairs names ns) (sym (float-is ss ns s r.0 fs is_t is_f) ∙ r.2)) in
@@ -222,8 +236,13 @@ module _ (ss : List Statement) where
             let g = in_all (IsGood ss) a.i ns good a.there in
             let known = g.float_known a.variable f (in-name a.variable (second (symbols_in a.i.statement)) a.second_is) in
             let is_m : contains mand a.variable ≡ true = mandatory-is a.variable known ∙ ap (has set) a.number_is ∙ in_has r.0 set r.1 in
-            let pass = or_right (has_keyword (codes "$e") a.i.statement) _ (and_from (has_keyword (codes "$f") a.i.statement) (list_any (contains mand) (second (symbols_in a.i.statement))) f (any_there (contains mand) a.variable (second (symbols_in a.i.statement)) a.second_is is_m)) in
-            subst (λ (y : ℕ). In y labels) a.label_is (map_in (λ (j : Numbered). j.label) a.i chosen (filter_in (λ (j : Numbered). test j.statement) a.i (reverse ns) (reverse_in a.i ns a.there) pass))
+            let pass =
+                or_right (has_keyword (codes "$e") a.i.statement) _
+                    (and_from (has_keyword (codes "$f") a.i.statement) (list_any (contains mand) (second (symbols_in a.i.statement))) f
+                        (any_there (contains mand) a.variable (second (symbols_in a.i.statement)) a.second_is is_m)) in
+            subst (λ (y : ℕ). In y labels) a.label_is
+                (map_in (λ (j : Numbered). j.label) a.i chosen
+                    (filter_in (λ (j : Numbered). test j.statement) a.i (reverse ns) (reverse_in a.i ns a.there) pass))
       ]
 
       from-labels : (x : ℕ) → In x labels → In x (labels_of s set)
@@ -234,7 +253,11 @@ module _ (ss : List Statement) where
           let st' = r.0.statement in
           elim (or_cases (has_keyword (codes "$e") st') (has_keyword (codes "$f") st' && list_any (contains mand) (second (symbols_in st'))) f.1) [
             | inl k ↦
-                let listed : In x (labels_by ss is_essential ns) = subst (λ (y : ℕ). In y (labels_by ss is_essential ns)) r.2 (map_in (λ (j : Numbered). j.label) r.0 (filter (λ (j : Numbered). is_essential (kind_in j.statement)) (reverse ns)) (filter_in (λ (j : Numbered). is_essential (kind_in j.statement)) r.0 (reverse ns) f.0 (sym (kind-is_essential st') ∙ k))) in
+                let listed : In x (labels_by ss is_essential ns) =
+                    subst (λ (y : ℕ). In y (labels_by ss is_essential ns)) r.2
+                        (map_in (λ (j : Numbered). j.label) r.0 (filter (λ (j : Numbered). is_essential (kind_in j.statement)) (reverse ns))
+                            (filter_in (λ (j : Numbered). is_essential (kind_in j.statement)) r.0 (reverse ns) f.0
+                                (sym (kind-is_essential st') ∙ k))) in
                 base_in s x s.essentials set (subst (λ (es : List ℕ). In x es) (sym (is_e ∙ essentials-are ss ns)) listed)
             | inr k ↦
                 let both = and_parts (has_keyword (codes "$f") st') (list_any (contains mand) (second (symbols_in st'))) k in
@@ -242,14 +265,18 @@ module _ (ss : List Statement) where
                 let g = in_all (IsGood ss) r.0 ns good there in
                 let known = g.float_known w.0 both.0 (in-name w.0 (second (symbols_in st')) w.1) in
                 let in_set : In (number names w.0) set = has_in (number names w.0) set (sym (mandatory-is w.0 known) ∙ w.2) in
-                let found : float_of s (number names w.0) ≡ Some r.0.label = float-is ss ns s (number names w.0) fs is_t is_f ∙ fs.unique (number names w.0) r.0.label (pair-in r.0 w.0 ns there (sym (kind-is_floating st') ∙ both.0) w.1) in
+                let found : float_of s (number names w.0) ≡ Some r.0.label =
+                    float-is ss ns s (number names w.0) fs is_t is_f
+                        ∙ fs.unique (number names w.0) r.0.label (pair-in r.0 w.0 ns there (sym (kind-is_floating st') ∙ both.0) w.1) in
                 subst (λ (y : ℕ). In y (labels_of s set)) r.2 (float_in s r.0.label (number names w.0) s.essentials set in_set found)
           ]
 
       good-chosen : AllByRecursion (λ (i : Numbered). hypothesis_at l i.label ≡ hypothesis_of names i.statement) chosen
       good-chosen = each (reverse ns) (λ i k. in_reverse i ns k)
         where
-          each : (xs : List Numbered) → ((i : Numbered) → In i xs → In i ns) → AllByRecursion (λ (i : Numbered). hypothesis_at l i.label ≡ hypothesis_of names i.statement) (filter (λ (i : Numbered). test i.statement) xs)
+          each : (xs : List Numbered) → ((i : Numbered) → In i xs → In i ns)
+              → AllByRecursion (λ (i : Numbered). hypothesis_at l i.label ≡ hypothesis_of names i.statement)
+                  (filter (λ (i : Numbered). test i.statement) xs)
           each [] f = tt
           each (x ∷ xs) f =
               let later = each xs (λ i k. f i (inr k)) in
@@ -258,7 +285,8 @@ module _ (ss : List Statement) where
                 | inr h ↦ rw h later
               ]
 
-      same-hypotheses : (xs : List Numbered) → AllByRecursion (λ (i : Numbered). hypothesis_at l i.label ≡ hypothesis_of names i.statement) xs → map (hypothesis_at l) (map (λ (i : Numbered). i.label) xs) ≡ map (hypothesis_of names) (statements_of xs)
+      same-hypotheses : (xs : List Numbered) → AllByRecursion (λ (i : Numbered). hypothesis_at l i.label ≡ hypothesis_of names i.statement) xs
+          → map (hypothesis_at l) (map (λ (i : Numbered). i.label) xs) ≡ map (hypothesis_of names) (statements_of xs)
       same-hypotheses [] h = refl
       same-hypotheses (x ∷ xs) h = ap (λ y. y ∷ map (hypothesis_at l) (map (λ (i : Numbered). i.label) xs)) h.0 ∙ ap (λ ys. hypothesis_of names x.statement ∷ ys) (same-hypotheses xs h.1)
 
@@ -268,5 +296,7 @@ module _ (ss : List Statement) where
           let same : a.0 ≡ labels = unique nat_cmp nat_cmp_total a.0 labels o.rises (labels-rise (λ (i : Numbered). test i.statement) one-label e (path e) good).rises
           (λ x i. to-labels x (contains_in x (labels_of s set) (o.adds_none x (in_contains x a.0 i))))
           (λ x i. contains_in x a.0 (o.keeps x (in_contains x (labels_of s set) (from-labels x i)))) in
-          let model : mandatory_hypotheses mand e ≡ statements_of chosen = ap (λ xs. filter test (reverse xs)) active-is ∙ ap (λ xs. filter test xs) (sym (map-reverse (λ (i : Numbered). i.statement) ns)) ∙ filter-map (λ (i : Numbered). i.statement) test (reverse ns) in
+          let model : mandatory_hypotheses mand e ≡ statements_of chosen =
+              ap (λ xs. filter test (reverse xs)) active-is ∙ ap (λ xs. filter test xs) (sym (map-reverse (λ (i : Numbered). i.statement) ns))
+                  ∙ filter-map (λ (i : Numbered). i.statement) test (reverse ns) in
           a.2 ∙ ap (λ xs. map (hypothesis_at l) xs) same ∙ same-hypotheses chosen good-chosen ∙ ap (λ xs. map (hypothesis_of names) xs) (sym model)

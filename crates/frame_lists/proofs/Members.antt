@@ -92,7 +92,8 @@ module _ {X : Type 0} where
   sorted_none R = tt
 
   -- two lists in order, all of the first below all of the second
-  pub sorted_append : (R : X → X → Ordering) (xs ys : List X) → IsStrictlySortedBy R xs → IsStrictlySortedBy R ys → AllByRecursion (λ x. AllByRecursion (λ y. R x y ≡ Less) ys) xs → IsStrictlySortedBy R (xs ++ ys)
+  pub sorted_append : (R : X → X → Ordering) (xs ys : List X) → IsStrictlySortedBy R xs → IsStrictlySortedBy R ys
+      → AllByRecursion (λ x. AllByRecursion (λ y. R x y ≡ Less) ys) xs → IsStrictlySortedBy R (xs ++ ys)
   unfolding IsStrictlySortedBy
   sorted_append R [] ys a b h = b
   sorted_append R (x ∷ xs) ys a b h = (join (λ z. R x z ≡ Less) xs ys a.0 h.0, sorted_append R xs ys a.1 b h.1)

@@ -1,5 +1,6 @@
 -- Pairs of distinct variables in order.
-use Rattle.std.proofs.Common.{◌≡◌, ℕ, ◌<◌, Bool, true, false, ◌&&◌, ◌||◌, ◌⊎◌, List, [], ◌∷◌, ◌++◌, length, map, fold, refl, sym, ap, ◌∙◌, arith, inl, inr, subst, codes, nat_eq, ltb, eqb, nat_lt}
+use Rattle.std.proofs.Common.{◌≡◌, ℕ, ◌<◌, Bool, true, false, ◌&&◌, ◌||◌, ◌⊎◌, List, [], ◌∷◌, ◌++◌, length, map, fold, refl, sym, ap, ◌∙◌, arith, inl}
+use Rattle.std.proofs.Common.{inr, subst, codes, nat_eq, ltb, eqb, nat_lt}
 use Rattle.std.specs.List.{list_any, filter, AllByRecursion}
 use Rattle.std.specs.Ordering.{nat_cmp, ordering_then}
 use Rattle.std.specs.declared.cmp.Ordering.TheVariants.{Less, Equal, Greater}
@@ -24,7 +25,8 @@ use Rattle.frame_lists.specs.Orders.{Rises, PairsRise, ArePairs}
 use Rattle.frame_lists.specs.Steps.{has, symbols_at, chosen_more, chosen, pairs_with, pairs_all, found_pairs, pair_of}
 use Rattle.frame_lists.proofs.Keywords.{is_distinct, kind-is_distinct}
 use Rattle.frame_lists.proofs.PairOrder.{pair_cmp, pair_total}
-use Rattle.frame_lists.proofs.Members.{In, in_all, in_contains, contains_in, in_map, map_in, in_filter, filter_in, in_append, in_left, in_right, any_there, unique, sorted_cons, sorted_none, sorted_append}
+use Rattle.frame_lists.proofs.Members.{In, in_all, in_contains, contains_in, in_map, map_in, in_filter, filter_in, in_append, in_left, in_right}
+use Rattle.frame_lists.proofs.Members.{any_there, unique, sorted_cons, sorted_none, sorted_append}
 use Rattle.frame_lists.proofs.Numbered.{Numbered, here, on-is}
 use Rattle.frame_lists.proofs.ByNumber.{has_symbol, number, numbers_passing, contains-symbols, any-turned, passing-rise, to-passing, from-passing, names-fresh, name-self}
 use Rattle.frame_lists.proofs.Added.{map-reverse}
@@ -60,7 +62,8 @@ chosen_base set base (s ∷ ss) n i = elim (cases_Bool (has set s.0)) [
 chosen_in : (set base : List ℕ) (ss : List Sym) (n : ℕ) → has set n ≡ true → has_symbol ss n ≡ true → In n (fold (chosen_more set) base ss)
 chosen_in set base [] n a h = absurd cc
 chosen_in set base (s ∷ ss) n a h = elim (or_cases (nat_eq n s.0) (has_symbol ss n) h) [
-  | inl e ↦ let same : n ≡ s.0 = grind (arith, nat_tests) in let there : has set s.0 ≡ true = ap (has set) (sym same) ∙ a in rw there (chosen_base set (base ++ s.0 ∷ []) ss n (in_right n base (s.0 ∷ []) (inl same)))
+  | inl e ↦ let same : n ≡ s.0 = grind (arith, nat_tests) in let there : has set s.0 ≡ true = ap (has set) (sym same) ∙ a in
+      rw there (chosen_base set (base ++ s.0 ∷ []) ss n (in_right n base (s.0 ∷ []) (inl same)))
   | inr k ↦ elim (cases_Bool (has set s.0)) [ inl g ↦ rw g (chosen_in set (base ++ s.0 ∷ []) ss n a k) | inr g ↦ rw g (chosen_in set base ss n a k) ]
 ]
 
@@ -95,7 +98,10 @@ with_base one base (o ∷ others) p i = elim (cases_Bool (nat_lt one o)) [
 with_in : (one : ℕ) (base : List (ℕ × ℕ)) (others : List ℕ) (b : ℕ) → In b others → nat_lt one b ≡ true → In (joined one b) (pairs_with base one others)
 with_in one base [] b i h = absurd i
 with_in one base (o ∷ others) b i h = elim i [
-  | inl e ↦ let yes : nat_lt one o ≡ true = ap (nat_lt one) (sym e) ∙ h in rw yes (with_base one (base ++ joined one o ∷ []) others (joined one b) (in_right (joined one b) base (joined one o ∷ []) (inl (ap (joined one) e))))
+  | inl e ↦ let yes : nat_lt one o ≡ true = ap (nat_lt one) (sym e) ∙ h in
+      rw yes
+          (with_base one (base ++ joined one o ∷ []) others (joined one b)
+              (in_right (joined one b) base (joined one o ∷ []) (inl (ap (joined one) e))))
   | inr k ↦ elim (cases_Bool (nat_lt one o)) [ inl g ↦ rw g (with_in one (base ++ joined one o ∷ []) others b k h) | inr g ↦ rw g (with_in one base others b k h) ]
 ]
 
@@ -149,7 +155,11 @@ module _ (l : Listed) (set : List ℕ) where
         | inl none ↦ absurd none
         | inr x ↦ elim (in_chosen set [] (symbols_at l d) p.1 b.other) [
           | inl none ↦ absurd none
-          | inr y ↦ inr (record { one = x.0; other = y.0; less = b.less; stand = or_left (together p.0 p.1 d) (list_any (together p.0 p.1) distinct) (and_from (has_symbol (symbols_at l d) p.0) (has_symbol (symbols_at l d) p.1) x.1 y.1) })
+          | inr y ↦ inr
+              (record { one = x.0; other = y.0; less = b.less;
+                  stand =
+                      or_left (together p.0 p.1 d) (list_any (together p.0 p.1) distinct)
+                          (and_from (has_symbol (symbols_at l d) p.0) (has_symbol (symbols_at l d) p.1) x.1 y.1) })
         ]
       ]
     ]
@@ -160,7 +170,8 @@ module _ (l : Listed) (set : List ℕ) where
   found_base base [] p i = i
   found_base base (d ∷ distinct) p i = found_base (pairs_all base (chosen set (symbols_at l d))) distinct p (all_base (chosen set (symbols_at l d)) base (chosen set (symbols_at l d)) p i)
 
-  found_in : (base : List (ℕ × ℕ)) (distinct : List ℕ) (a b : ℕ) → has set a ≡ true → has set b ≡ true → nat_lt a b ≡ true → list_any (together a b) distinct ≡ true → In (joined a b) (found_from base distinct)
+  found_in : (base : List (ℕ × ℕ)) (distinct : List ℕ) (a b : ℕ) → has set a ≡ true → has set b ≡ true → nat_lt a b ≡ true
+      → list_any (together a b) distinct ≡ true → In (joined a b) (found_from base distinct)
   found_in base [] a b ha hb less h = absurd cc
   found_in base (d ∷ distinct) a b ha hb less h = elim (or_cases (together a b d) (list_any (together a b) distinct) h) [
     | inl t ↦
@@ -211,7 +222,8 @@ module _ (g : ℕ → ℕ → Bool) where
   pairs_in (n ∷ v) r a b i j less h = elim i [
     | inl e ↦ elim j [
       | inl f ↦ let same : a ≡ b = e ∙ sym f in let bad : ⊥ = grind (arith, nat_tests, same) in absurd bad
-      | inr k ↦ in_left (joined a b) (map (joined n) (filter (g n) v)) (pairs_of v) (subst (λ (m : ℕ). In (joined a b) (map (joined m) (filter (g m) v))) e (map_in (joined a) b (filter (g a) v) (filter_in (g a) b v k h)))
+      | inr k ↦ in_left (joined a b) (map (joined n) (filter (g n) v)) (pairs_of v)
+          (subst (λ (m : ℕ). In (joined a b) (map (joined m) (filter (g m) v))) e (map_in (joined a) b (filter (g a) v) (filter_in (g a) b v k h)))
     ]
     | inr k ↦ elim j [
       | inl f ↦
@@ -254,9 +266,12 @@ module _ (ss : List Statement) where
   numbers p = joined (number names p.0) (number names p.1)
 
   -- by name and by number
-  module _ (ds : List Statement) (g : ℕ → ℕ → Bool) (law : (x y : Name) → Known x → Known y → list_any (λ d. contains (symbols_in d) x && contains (symbols_in d) y) ds ≡ g (number names x) (number names y)) where
+  module _ (ds : List Statement) (g : ℕ → ℕ → Bool)
+      (law : (x y : Name) → Known x → Known y
+          → list_any (λ d. contains (symbols_in d) x && contains (symbols_in d) y) ds ≡ g (number names x) (number names y)) where
     row-is : (x : Name) (ys : List Name) → Known x → AllByRecursion Known ys
-        → map numbers (map (λ y. (x, y)) (filter (λ y. list_any (λ d. contains (symbols_in d) x && contains (symbols_in d) y) ds) ys)) ≡ map (joined (number names x)) (filter (g (number names x)) (map (number names) ys))
+        → map numbers (map (λ y. (x, y)) (filter (λ y. list_any (λ d. contains (symbols_in d) x && contains (symbols_in d) y) ds) ys))
+            ≡ map (joined (number names x)) (filter (g (number names x)) (map (number names) ys))
     row-is x [] kx k = refl
     row-is x (y ∷ ys) kx k =
         let later = row-is x ys kx k.1 in
@@ -275,7 +290,9 @@ module _ (ss : List Statement) where
 
   module _ (l : Listed) (of : AreOf l ss) where
     together-by : (x y : Name) → Known x → Known y → (ns : List Numbered) → AllByRecursion (IsGood ss) ns
-        → list_any (λ d. contains (symbols_in d) x && contains (symbols_in d) y) (with_keyword (codes "$d") (statements_of ns)) ≡ list_any (together l [] (number names x) (number names y)) (map (λ (i : Numbered). i.at) (filter (λ (i : Numbered). is_distinct (kind_in i.statement)) ns))
+        → list_any (λ d. contains (symbols_in d) x && contains (symbols_in d) y) (with_keyword (codes "$d") (statements_of ns))
+            ≡ list_any (together l [] (number names x) (number names y))
+                (map (λ (i : Numbered). i.at) (filter (λ (i : Numbered). is_distinct (kind_in i.statement)) ns))
     together-by x y kx ky [] a = refl
     together-by x y kx ky (i ∷ ns) a =
         let later = together-by x y kx ky ns a.1 in
@@ -283,10 +300,16 @@ module _ (ss : List Statement) where
         let test : Statement → Bool = λ d. contains (symbols_in d) x && contains (symbols_in d) y in
         let old = list_any (together l [] (number names x) (number names y)) (map (λ (j : Numbered). j.at) (filter (λ (j : Numbered). is_distinct (kind_in j.statement)) ns)) in
         let same : test st ≡ together l [] (number names x) (number names y) i.at =
-        ap (λ b. b && contains (symbols_in st) y) (contains-symbols names x (symbols_in st) kx) ∙ ap (λ b. has_symbol (model.formula_of names st) (number names x) && b) (contains-symbols names y (symbols_in st) ky)
+        ap (λ b. b && contains (symbols_in st) y) (contains-symbols names x (symbols_in st) kx)
+            ∙ ap (λ b. has_symbol (model.formula_of names st) (number names x) && b) (contains-symbols names y (symbols_in st) ky)
         ∙ ap (λ (f : List Sym). has_symbol f (number names x) && has_symbol f (number names y)) (sym (symbols-is ss l of i.at st a.0.placed.there)) in
-        elim (cases_Bool (has_keyword (codes "$d") st)) as (λ w. list_any test (with_keyword (codes "$d") (st ∷ statements_of ns)) ≡ list_any (together l [] (number names x) (number names y)) (map (λ (j : Numbered). j.at) (filter (λ (j : Numbered). is_distinct (kind_in j.statement)) (i ∷ ns)))) [
-          | inl k ↦ rw (sym (kind-is_distinct st) ∙ k, k) (ap (λ b. b || list_any test (with_keyword (codes "$d") (statements_of ns))) same ∙ ap (λ b. together l [] (number names x) (number names y) i.at || b) later)
+        elim (cases_Bool (has_keyword (codes "$d") st)) as
+            (λ w. list_any test (with_keyword (codes "$d") (st ∷ statements_of ns))
+                ≡ list_any (together l [] (number names x) (number names y))
+                    (map (λ (j : Numbered). j.at) (filter (λ (j : Numbered). is_distinct (kind_in j.statement)) (i ∷ ns)))) [
+          | inl k ↦ rw (sym (kind-is_distinct st) ∙ k, k)
+              (ap (λ b. b || list_any test (with_keyword (codes "$d") (statements_of ns))) same
+                  ∙ ap (λ b. together l [] (number names x) (number names y) i.at || b) later)
           | inr k ↦ rw (sym (kind-is_distinct st) ∙ k, k) later
         ]
 
@@ -294,14 +317,18 @@ module _ (ss : List Statement) where
       abbrev ns : List Numbered
       ns = here e
 
-      together-law : (x y : Name) → Known x → Known y → list_any (λ d. contains (symbols_in d) x && contains (symbols_in d) y) (with_keyword (codes "$d") (active e)) ≡ list_any (together l [] (number names x) (number names y)) s.distinct
+      together-law : (x y : Name) → Known x → Known y
+          → list_any (λ d. contains (symbols_in d) x && contains (symbols_in d) y) (with_keyword (codes "$d") (active e))
+              ≡ list_any (together l [] (number names x) (number names y)) s.distinct
       together-law x y kx ky =
           let at : Numbered → ℕ = λ i. i.at in
           let q : Numbered → Bool = λ i. is_distinct (kind_in i.statement) in
           let p = together l [] (number names x) (number names y) in
           ap (λ a. list_any (λ d. contains (symbols_in d) x && contains (symbols_in d) y) (with_keyword (codes "$d") a)) (sym (on-is (path e) e))
           ∙ together-by x y kx ky ns good
-          ∙ sym (ap (λ ds. list_any p ds) (is_d ∙ distinct-are ss ns) ∙ ap (λ xs. list_any p (map at xs)) (filter-reverse q ns) ∙ ap (λ xs. list_any p xs) (map-reverse at (filter q ns)) ∙ any-turned p (map at (filter q ns)))
+          ∙ sym
+              (ap (λ ds. list_any p ds) (is_d ∙ distinct-are ss ns) ∙ ap (λ xs. list_any p (map at xs)) (filter-reverse q ns)
+                  ∙ ap (λ xs. list_any p xs) (map-reverse at (filter q ns)) ∙ any-turned p (map at (filter q ns)))
 
       -- the pairs of the variables that pass a test, which are those of the set
       pub pairs-law : (q : Name → Bool) (set : List ℕ) → ((j : ℕ) → has set j ≡ true → j < length names) → ((n : Name) → Known n → q n ≡ has set (number names n))
@@ -322,7 +349,8 @@ module _ (ss : List Statement) where
           let r = in_pairs g v rise p i in
           contains_in p a.0 (o.keeps p (in_contains p found (found_in l set [] s.distinct p.0 p.1 (from-passing names q set law p.0 r.0.0) (from-passing names q set law p.1 r.0.1) r.0.2 r.1)))) in
           let known : AllByRecursion Known (filter q names) = all_of_in Known (filter q names) (λ n i. any_there (bytes_eq n) n names (in_filter q n names i).0 (name-self n)) in
-          let by_name : map numbers (model.pairs_with (with_keyword (codes "$d") (active e)) (filter q names)) ≡ pairs_of g v = pairs-are (with_keyword (codes "$d") (active e)) g together-law (filter q names) known in
+          let by_name : map numbers (model.pairs_with (with_keyword (codes "$d") (active e)) (filter q names)) ≡ pairs_of g v =
+              pairs-are (with_keyword (codes "$d") (active e)) g together-law (filter q names) known in
           a.2 ∙ ap (λ ps. map pair_of ps) (same ∙ sym by_name) ∙ twice (model.pairs_with (with_keyword (codes "$d") (active e)) (filter q names))
         where
           twice : (ps : List (Name × Name)) → map pair_of (map numbers ps) ≡ map (model.pair_of names) ps

@@ -1,5 +1,6 @@
 -- What the pass over the statements keeps is that of the active statements.
-use Rattle.std.proofs.Common.{◌≡◌, ℕ, suc, ◌-◌, ◌<◌, List, [], ◌∷◌, ◌++◌, append-nil, append_assoc, length, take, drop, reverse, Some, slice_get, refl, sym, ap, ◌∙◌, arith, inl, inr, subst}
+use Rattle.std.proofs.Common.{◌≡◌, ℕ, suc, ◌-◌, ◌<◌, List, [], ◌∷◌, ◌++◌, append-nil, append_assoc, length, take, drop, reverse, Some, slice_get}
+use Rattle.std.proofs.Common.{refl, sym, ap, ◌∙◌, arith, inl, inr, subst}
 use Rattle.std.proofs.lemmas.Bool.{cases_Bool}
 use Rattle.std.proofs.lemmas.List.{reverse-append}
 use Rattle.mm_base.specs.declared.symbols.Sym.{Sym}
@@ -72,18 +73,28 @@ float-grown s t n [] g = g
 float-grown s t n (a ∷ []) g = g
 float-grown s t n (a ∷ v ∷ ss) g = elim (cases_Bool (has t.typed v.0)) [
   | inl h ↦ rw h g
-  | inr h ↦ rw h (record { variables = g.variables; typed = more s.typed t.typed v.0 g.typed; floats = more s.floats t.floats n g.floats; essentials = g.essentials; hyps = g.hyps; distinct = g.distinct; parallel = g.parallel })
+  | inr h ↦ rw h
+      (record { variables = g.variables; typed = more s.typed t.typed v.0 g.typed; floats = more s.floats t.floats n g.floats;
+          essentials = g.essentials; hyps = g.hyps; distinct = g.distinct; parallel = g.parallel })
 ]
 
 grows : (s t : Scope) (k : EntryKind) (ss : List Sym) (at n : ℕ) → Grown s t → Grown s (added k ss at n t)
 grows s t entry.OpenBlock ss at n g = g
 grows s t entry.CloseBlock ss at n g = g
 grows s t (entry.Statement kind.Constants) ss at n g = g
-grows s t (entry.Statement kind.Variables) ss at n g = record { variables = declared-begins s.variables t.variables ss g.variables; typed = g.typed; floats = g.floats; essentials = g.essentials; hyps = g.hyps; distinct = g.distinct; parallel = g.parallel }
-grows s t (entry.Statement kind.Distinct) ss at n g = record { variables = g.variables; typed = g.typed; floats = g.floats; essentials = g.essentials; hyps = g.hyps; distinct = more s.distinct t.distinct at g.distinct; parallel = g.parallel }
+grows s t (entry.Statement kind.Variables) ss at n g =
+    record { variables = declared-begins s.variables t.variables ss g.variables; typed = g.typed; floats = g.floats; essentials = g.essentials;
+        hyps = g.hyps; distinct = g.distinct; parallel = g.parallel }
+grows s t (entry.Statement kind.Distinct) ss at n g =
+    record { variables = g.variables; typed = g.typed; floats = g.floats; essentials = g.essentials; hyps = g.hyps;
+        distinct = more s.distinct t.distinct at g.distinct; parallel = g.parallel }
 grows s t (entry.Statement kind.Floating) ss at n g =
-    float-grown s (record t { hyps = t.hyps ++ n ∷ [] }) n ss (record { variables = g.variables; typed = g.typed; floats = g.floats; essentials = g.essentials; hyps = more s.hyps t.hyps n g.hyps; distinct = g.distinct; parallel = g.parallel })
-grows s t (entry.Statement kind.Essential) ss at n g = record { variables = g.variables; typed = g.typed; floats = g.floats; essentials = more s.essentials t.essentials n g.essentials; hyps = more s.hyps t.hyps n g.hyps; distinct = g.distinct; parallel = g.parallel }
+    float-grown s (record t { hyps = t.hyps ++ n ∷ [] }) n ss
+        (record { variables = g.variables; typed = g.typed; floats = g.floats; essentials = g.essentials; hyps = more s.hyps t.hyps n g.hyps;
+            distinct = g.distinct; parallel = g.parallel })
+grows s t (entry.Statement kind.Essential) ss at n g =
+    record { variables = g.variables; typed = g.typed; floats = g.floats; essentials = more s.essentials t.essentials n g.essentials;
+        hyps = more s.hyps t.hyps n g.hyps; distinct = g.distinct; parallel = g.parallel }
 grows s t (entry.Statement kind.Axiom) ss at n g = g
 grows s t (entry.Statement kind.Provable) ss at n g = g
 
@@ -144,7 +155,8 @@ snoc-rest bs b = ap (λ (k : ℕ). take (k - 1) (bs ++ b ∷ [])) (longer bs b) 
 abbrev with_blocks : Scope → List Block → Scope
 with_blocks s bs = record s { blocks = bs }
 
-scope-fields : (s t : Scope) → s.variables ≡ t.variables → s.typed ≡ t.typed → s.floats ≡ t.floats → s.essentials ≡ t.essentials → s.hyps ≡ t.hyps → s.distinct ≡ t.distinct → (bs cs : List Block) → bs ≡ cs → with_blocks s bs ≡ with_blocks t cs
+scope-fields : (s t : Scope) → s.variables ≡ t.variables → s.typed ≡ t.typed → s.floats ≡ t.floats → s.essentials ≡ t.essentials → s.hyps ≡ t.hyps
+    → s.distinct ≡ t.distinct → (bs cs : List Block) → bs ≡ cs → with_blocks s bs ≡ with_blocks t cs
 scope-fields s t a b c d e f bs cs g =
     let make : List ℕ → List ℕ → List ℕ → List ℕ → List ℕ → List ℕ → List Block → Scope =
     λ v ty fl es hy di bl. record { variables = v; typed = ty; floats = fl; essentials = es; hyps = hy; distinct = di; blocks = bl } in
@@ -200,7 +212,8 @@ module _ (names : List Name) where
   blocks-plain s e k [] p h = ap (λ (q : List ℕ). length q) p ∙ h
   blocks-plain s e k (b ∷ bs) p h =
       let there : 0 < length (path e) = omega (arith, h.0) in
-      let same' : on (drop (suc k) (path (s ∷ e))) (s ∷ e) ≡ on (drop (suc k) (path e)) e = ap (λ (q : List ℕ). on (drop (suc k) q) (s ∷ e)) p ∙ on-skip (drop (suc k) (path e)) s e (length-drop-lt k (path e) there) in
+      let same' : on (drop (suc k) (path (s ∷ e))) (s ∷ e) ≡ on (drop (suc k) (path e)) e =
+          ap (λ (q : List ℕ). on (drop (suc k) q) (s ∷ e)) p ∙ on-skip (drop (suc k) (path e)) s e (length-drop-lt k (path e) there) in
       (subst (λ (q : List ℕ). k < length q) (sym p) h.0, h.1 ∙ ap (λ l. block_of (state names l)) (sym same'), blocks-plain s e (suc k) bs p h.2)
 
   blocks-under : (s : Statement) (e : List Statement) (k : ℕ) (bs : List Block) → path (s ∷ e) ≡ length e ∷ path e → BlocksAre e k bs → BlocksAre (s ∷ e) (suc k) bs
@@ -208,7 +221,8 @@ module _ (names : List Name) where
   blocks-under s e k (b ∷ bs) p h =
       let there : 0 < length (path e) = omega (arith, h.0) in
       let deep : suc k < length (length e ∷ path e) = omega (arith, h.0) in
-      let same' : on (drop (suc (suc k)) (path (s ∷ e))) (s ∷ e) ≡ on (drop (suc k) (path e)) e = ap (λ (q : List ℕ). on (drop (suc (suc k)) q) (s ∷ e)) p ∙ on-skip (drop (suc k) (path e)) s e (length-drop-lt k (path e) there) in
+      let same' : on (drop (suc (suc k)) (path (s ∷ e))) (s ∷ e) ≡ on (drop (suc k) (path e)) e =
+          ap (λ (q : List ℕ). on (drop (suc (suc k)) q) (s ∷ e)) p ∙ on-skip (drop (suc k) (path e)) s e (length-drop-lt k (path e) there) in
       (subst (λ (q : List ℕ). suc k < length q) (sym p) deep, h.1 ∙ ap (λ l. block_of (state names l)) (sym same'), blocks-under s e (suc k) bs p h.2)
 
   blocks-over : (s : Statement) (e : List Statement) (k : ℕ) (bs : List Block) → path (s ∷ e) ≡ drop 1 (path e) → 0 < length (path e) → BlocksAre e (suc k) bs → BlocksAre (s ∷ e) k bs
@@ -219,7 +233,8 @@ module _ (names : List Name) where
       shorter (n ∷ q) k h = omega arith
   blocks-over s e k (b ∷ bs) p there h =
       let same' : on (drop (suc k) (path (s ∷ e))) (s ∷ e) ≡ on (drop (suc (suc k)) (path e)) e =
-      ap (λ (q : List ℕ). on (drop (suc k) q) (s ∷ e)) p ∙ ap (λ (q : List ℕ). on q (s ∷ e)) (drop-tail (suc k) (path e)) ∙ on-skip (drop (suc (suc k)) (path e)) s e (length-drop-lt (suc k) (path e) there) in
+      ap (λ (q : List ℕ). on (drop (suc k) q) (s ∷ e)) p ∙ ap (λ (q : List ℕ). on q (s ∷ e)) (drop-tail (suc k) (path e))
+          ∙ on-skip (drop (suc (suc k)) (path e)) s e (length-drop-lt (suc k) (path e) there) in
       (subst (λ (q : List ℕ). k < length q) (sym p) (within (path e) k h.0), h.1 ∙ ap (λ l. block_of (state names l)) (sym same'), blocks-over s e (suc k) bs p there h.2)
     where
       within : (q : List ℕ) (k : ℕ) → suc k < length q → k < length (drop 1 q)
@@ -258,10 +273,13 @@ module _ (names : List Name) where
         marks = (subst (λ (q : List ℕ). 0 < length q) (sym (path-open st e o)) deep, ap block_of (sym there), blocks-under st e 0 i.open_blocks (path-open st e o) i.marks);
       }
 
-  closed : (st : Statement) (e : List Statement) (s : Scope) → kind_in st ≡ entry.CloseBlock → (bs : List Block) → s ≡ with_blocks (state names (here e)) (reverse bs) → BlocksAre e 0 bs → ScopeIs (st ∷ e) (step entry.CloseBlock st e s)
+  closed : (st : Statement) (e : List Statement) (s : Scope) → kind_in st ≡ entry.CloseBlock → (bs : List Block)
+      → s ≡ with_blocks (state names (here e)) (reverse bs) → BlocksAre e 0 bs → ScopeIs (st ∷ e) (step entry.CloseBlock st e s)
   closed st e s is_k [] is marks =
       let c = closes st is_k in
-      let after : state names (here (st ∷ e)) ≡ state names (here e) = ap (λ l. state names l) (here-astray st e c.0 c.1 marks) ∙ ap (λ j. added j (formula_of names st) (length e) (count e) (state names (here e))) is_k in
+      let after : state names (here (st ∷ e)) ≡ state names (here e) =
+          ap (λ l. state names l) (here-astray st e c.0 c.1 marks)
+              ∙ ap (λ j. added j (formula_of names st) (length e) (count e) (state names (here e))) is_k in
       record {
         open_blocks = [];
         is = ap (λ x. with_close x) is ∙ ap (λ x. with_blocks x []) (sym after);
@@ -288,7 +306,10 @@ module _ (names : List Name) where
   by_kind : (st : Statement) (e : List Statement) (s : Scope) (k : EntryKind) → kind_in st ≡ k → ScopeIs e s → ScopeIs (st ∷ e) (step k st e s)
   by_kind st e s entry.OpenBlock is i = opened st e s is i
   by_kind st e s entry.CloseBlock is i = closed st e s is i.open_blocks i.is i.marks
-  by_kind st e s (entry.Statement kind.Floating) is i = let n = neither st is in plain st e s (entry.Statement kind.Floating) is (path-plain st e n.0 n.1) (here-plain st e n.0 n.1) (λ bs. with_float-blocks (record (state names (here e)) { hyps = (state names (here e)).hyps ++ count e ∷ [] }) bs (count e) (formula_of names st)) i
+  by_kind st e s (entry.Statement kind.Floating) is i = let n = neither st is in
+      plain st e s (entry.Statement kind.Floating) is (path-plain st e n.0 n.1) (here-plain st e n.0 n.1)
+          (λ bs. with_float-blocks (record (state names (here e)) { hyps = (state names (here e)).hyps ++ count e ∷ [] }) bs (count e)
+              (formula_of names st)) i
   by_kind st e s (entry.Statement kind.Constants) is i = let n = neither st is in plain st e s (entry.Statement kind.Constants) is (path-plain st e n.0 n.1) (here-plain st e n.0 n.1) (λ bs. refl) i
   by_kind st e s (entry.Statement kind.Variables) is i = let n = neither st is in plain st e s (entry.Statement kind.Variables) is (path-plain st e n.0 n.1) (here-plain st e n.0 n.1) (λ bs. refl) i
   by_kind st e s (entry.Statement kind.Distinct) is i = let n = neither st is in plain st e s (entry.Statement kind.Distinct) is (path-plain st e n.0 n.1) (here-plain st e n.0 n.1) (λ bs. refl) i

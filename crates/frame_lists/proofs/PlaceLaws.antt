@@ -1,5 +1,6 @@
 -- Places where no block is open.
-use Rattle.std.proofs.Common.{◌≡◌, ℕ, zero, suc, ◌+◌, ◌-◌, ◌<◌, ◌≤◌, ◌==◌, Bool, true, false, cond, List, [], ◌∷◌, length, drop, map, Some, None, slice_get, option_map, unwrap_or, eqb, refl, sym, ap, ◌∙◌, arith, inl, inr}
+use Rattle.std.proofs.Common.{◌≡◌, ℕ, zero, suc, ◌+◌, ◌-◌, ◌<◌, ◌≤◌, ◌==◌, Bool, true, false, cond, List, [], ◌∷◌, length, drop, map, Some, None}
+use Rattle.std.proofs.Common.{slice_get, option_map, unwrap_or, eqb, refl, sym, ap, ◌∙◌, arith, inl, inr}
 use Rattle.std.specs.Prelude.{find}
 use Rattle.std.specs.List.{range_with_len}
 use Rattle.std.proofs.lemmas.Bool.{cases_Bool}
@@ -48,9 +49,12 @@ not-zero zero h = absurd (h refl)
 not-zero (suc n) h = grind (arith, nat_tests)
 
 -- the first place behind the position with no open block
-pub place-found : (xs : List Entry) (position r : ℕ) → suc position ≤ r → r ≤ length xs → depth_upto xs r ≡ 0 → ((p : ℕ) → suc position ≤ p → p < r → depth_upto xs p ≡ 0 → ⊥) → r ≡ place_by xs position
+pub place-found : (xs : List Entry) (position r : ℕ) → suc position ≤ r → r ≤ length xs → depth_upto xs r ≡ 0
+    → ((p : ℕ) → suc position ≤ p → p < r → depth_upto xs p ≡ 0 → ⊥) → r ≡ place_by xs position
 place-found xs position r low high h none =
-    sym (ap (λ o. unwrap_or o (length xs)) (find-at (λ p. depth_upto xs p == 0) (suc position) (length xs - position) r low (omega (arith, low, high)) (zero-test (depth_upto xs r) h) (λ p l m. not-zero (depth_upto xs p) (none p l m))))
+    sym (ap (λ o. unwrap_or o (length xs))
+        (find-at (λ p. depth_upto xs p == 0) (suc position) (length xs - position) r low (omega (arith, low, high)) (zero-test (depth_upto xs r) h)
+            (λ p l m. not-zero (depth_upto xs p) (none p l m))))
 
 pub no-place : (xs : List Entry) (position : ℕ) → ((p : ℕ) → suc position ≤ p → p ≤ length xs → depth_upto xs p ≡ 0 → ⊥) → length xs ≡ place_by xs position
 no-place xs position none =

@@ -1,5 +1,7 @@
 -- The numbers of active statements, and of their labels.
-use Rattle.std.proofs.Common.{◌≡◌, ℕ, zero, suc, ◌+◌, ◌≤◌, ◌==◌, Bool, false, not, List, [], ◌∷◌, ◌++◌, append-nil, append_assoc, length, take, drop, map, reverse, Option, Some, None, slice_get, option_map, unwrap_or, flat_map, nat_eq, refl, sym, ap, ◌∙◌, arith, inl, inr}
+use Rattle.std.proofs.Common.{◌≡◌, ℕ, zero, suc, ◌+◌, ◌≤◌, ◌==◌, Bool, false, not, List, [], ◌∷◌, ◌++◌, append-nil, append_assoc, length, take, drop}
+use Rattle.std.proofs.Common.{map, reverse, Option, Some, None, slice_get, option_map, unwrap_or, flat_map, nat_eq, refl, sym, ap, ◌∙◌, arith, inl}
+use Rattle.std.proofs.Common.{inr}
 use Rattle.std.specs.List.{AllByRecursion, ends_with}
 use Rattle.std.proofs.lemmas.Bool.{cases_Bool}
 use Rattle.std.proofs.lemmas.Bool.Decides.{nat_tests}
@@ -43,7 +45,9 @@ last-first s e = reverse-append (s ∷ []) e
 pub count-labels : (e : List Statement) → length (labels (reverse e)) ≡ count e
 count-labels [] = refl
 count-labels (s ∷ e) =
-    let one : length (labels (s ∷ [])) ≡ length (labels_in s) = ap (λ (ws : List Word). length (map (λ (w : Word). w.bytes) ws)) (append-nil (labels_in s)) ∙ length-map (λ (w : Word). w.bytes) (labels_in s) in
+    let one : length (labels (s ∷ [])) ≡ length (labels_in s) =
+        ap (λ (ws : List Word). length (map (λ (w : Word). w.bytes) ws)) (append-nil (labels_in s))
+            ∙ length-map (λ (w : Word). w.bytes) (labels_in s) in
     let whole : length (labels (reverse (s ∷ e))) ≡ length (labels (reverse e) ++ labels (s ∷ [])) = ap (λ l. length l) (ap labels (last-first s e) ∙ labels-append (reverse e) (s ∷ [])) in
     omega (arith, one, whole, length-append (labels (reverse e)) (labels (s ∷ [])), count-labels e)
 
@@ -51,8 +55,10 @@ pub count-positions : (e : List Statement) → length (positions (reverse e)) �
 count-positions [] = refl
 count-positions (s ∷ e) =
     let at = 0 + length (reverse e) in
-    let one : length (positions_from at (s ∷ [])) ≡ length (labels_in s) = ap (λ (l : List ℕ). length l) (append-nil (map (λ (w : Word). at) (labels_in s))) ∙ length-map (λ (w : Word). at) (labels_in s) in
-    let whole : length (positions (reverse (s ∷ e))) ≡ length (positions (reverse e) ++ positions_from at (s ∷ [])) = ap (λ l. length l) (ap positions (last-first s e) ∙ positions-append 0 (reverse e) (s ∷ [])) in
+    let one : length (positions_from at (s ∷ [])) ≡ length (labels_in s) =
+        ap (λ (l : List ℕ). length l) (append-nil (map (λ (w : Word). at) (labels_in s))) ∙ length-map (λ (w : Word). at) (labels_in s) in
+    let whole : length (positions (reverse (s ∷ e))) ≡ length (positions (reverse e) ++ positions_from at (s ∷ [])) =
+        ap (λ l. length l) (ap positions (last-first s e) ∙ positions-append 0 (reverse e) (s ∷ [])) in
     omega (arith, one, whole, length-append (positions (reverse e)) (positions_from at (s ∷ [])), count-positions e)
 
 -- a statement with its number, and its label
@@ -70,7 +76,8 @@ split : (s : Statement) (e rest ss : List Statement) → ss ≡ reverse (s ∷ e
 split s e rest ss h = h ∙ ap (λ l. l ++ rest) (last-first s e) ∙ append_assoc (reverse e) (s ∷ []) rest
 
 positions-behind : (s : Statement) (e rest : List Statement) → positions (reverse e ++ s ∷ rest) ≡ positions (reverse e) ++ positions_from (length e) (s ∷ rest)
-positions-behind s e rest = let at : 0 + length (reverse e) ≡ length e = omega (arith, length-reverse e) in positions-append 0 (reverse e) (s ∷ rest) ∙ ap (λ (k : ℕ). positions (reverse e) ++ positions_from k (s ∷ rest)) at
+positions-behind s e rest = let at : 0 + length (reverse e) ≡ length e = omega (arith, length-reverse e) in
+    positions-append 0 (reverse e) (s ∷ rest) ∙ ap (λ (k : ℕ). positions (reverse e) ++ positions_from k (s ∷ rest)) at
 
 pub item-placed : (s : Statement) (e rest ss : List Statement) → ss ≡ reverse (s ∷ e) ++ rest → IsPlaced ss (item s e)
 item-placed s e rest ss h = record {
@@ -113,7 +120,8 @@ past at (s ∷ ss) m h = go (labels_in s) (λ q. past (suc at) ss m q) h
 abbrev pub is_at : Option ℕ → ℕ → Bool
 is_at o at = unwrap_or (option_map (λ p. p == at) o) false
 
-pub next-label : (s : Statement) (e rest ss : List Statement) → ss ≡ reverse (s ∷ e) ++ rest → length (labels_in s) ≤ 1 → is_at (slice_get (positions ss) (count e)) (length e) ≡ not (is_empty (labels_in s))
+pub next-label : (s : Statement) (e rest ss : List Statement) → ss ≡ reverse (s ∷ e) ++ rest → length (labels_in s) ≤ 1
+    → is_at (slice_get (positions ss) (count e)) (length e) ≡ not (is_empty (labels_in s))
 next-label s e rest ss h few =
     ap (λ l. is_at (slice_get (positions l) (count e)) (length e)) (split s e rest ss h) ∙ ap (λ l. is_at (slice_get l (count e)) (length e)) (positions-behind s e rest)
     ∙ ap (λ o. is_at o (length e)) (get-behind (positions (reverse e)) (positions_from (length e) (s ∷ rest)) (count e) (count-positions e)) ∙ go (labels_in s)

@@ -1,5 +1,6 @@
 -- Behind the first statements of a text without a fault, the scope and the next label are as the definitions say.
-use Rattle.std.proofs.Common.{◌≡◌, ℕ, zero, suc, ◌+◌, ◌<◌, ◌≤◌, not, cond, List, [], ◌∷◌, ◌++◌, length, take, drop, reverse, Some, slice_get, option_map, unwrap_or, refl, sym, ap, ◌∙◌, arith, subst}
+use Rattle.std.proofs.Common.{◌≡◌, ℕ, zero, suc, ◌+◌, ◌<◌, ◌≤◌, not, cond, List, [], ◌∷◌, ◌++◌, length, take, drop, reverse, Some, slice_get}
+use Rattle.std.proofs.Common.{option_map, unwrap_or, refl, sym, ap, ◌∙◌, arith, subst}
 use Rattle.std.proofs.lemmas.List.{reverse-append}
 use Rattle.mm_base.specs.declared.symbols.Sym.{Sym}
 use Rattle.mm_model.specs.Words.{Word}
@@ -83,7 +84,9 @@ module _ (ss : List Statement) (l : Listed) (of : AreOf l ss) (sound : AreSound 
       let next = below-next ss k s h in
       record {
         scope = subst (λ b. ScopeIs names b (scope_upto l (suc k))) (sym next) (subst (λ (t : Scope). ScopeIs names (s ∷ e) t) (sym same) step);
-        label = ap (λ (n : ℕ). label_after l n k) u.label ∙ ap (λ b. cond b (count e + 1) (count e)) (label-here k s h) ∙ counted (count e) (labels_in s) (sound-at k s h).one_label ∙ ap count (sym next);
+        label =
+            ap (λ (n : ℕ). label_after l n k) u.label ∙ ap (λ b. cond b (count e + 1) (count e)) (label-here k s h)
+                ∙ counted (count e) (labels_in s) (sound-at k s h).one_label ∙ ap count (sym next);
       }
 
   pub upto : (k : ℕ) → k ≤ length ss → UptoIs k

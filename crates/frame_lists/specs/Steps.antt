@@ -1,5 +1,6 @@
 -- What the passes make of their lists, step by step. Variables, labels and statements are numbers here.
-use Rattle.std.specs.Prelude.{ℕ, zero, suc, ◌+◌, ◌-◌, ◌==◌, Bool, true, false, not, ◌&&◌, List, [], ◌∷◌, ◌++◌, length, take, fold, Option, None, Some, if◌then◌else◌, nat_eq, nat_lt, slice_get, slice_index_or, unwrap_or, option_map, option_and_then, position}
+use Rattle.std.specs.Prelude.{ℕ, zero, suc, ◌+◌, ◌-◌, ◌==◌, Bool, true, false, not, ◌&&◌, List, [], ◌∷◌, ◌++◌, length, take, fold, Option, None, Some}
+use Rattle.std.specs.Prelude.{if◌then◌else◌, nat_eq, nat_lt, slice_get, slice_index_or, unwrap_or, option_map, option_and_then, position}
 use Rattle.std.specs.List.{list_any}
 use Rattle.mm_base.specs.declared.symbols.Sym.{Sym}
 use Rattle.mm_base.specs.declared.symbols.Pair.{Pair}
@@ -65,10 +66,17 @@ with_float s n (a ∷ []) = s
 with_float s n (a ∷ v ∷ ss) = if has s.typed v.0 then s else record s { typed = s.typed ++ v.0 ∷ []; floats = s.floats ++ n ∷ [] }
 
 abbrev pub with_open : Scope → Scope
-with_open s = record s { blocks = s.blocks ++ (record { variables = length s.variables; floats = length s.floats; essentials = length s.essentials; hyps = length s.hyps; distinct = length s.distinct }) ∷ [] }
+with_open s =
+    record s { blocks =
+        s.blocks
+            ++ (record { variables = length s.variables; floats = length s.floats; essentials = length s.essentials; hyps = length s.hyps;
+                distinct = length s.distinct })
+                ∷ [] }
 
 abbrev pub cut_to : Scope → Block → Scope
-cut_to s b = record s { variables = take b.variables s.variables; typed = take b.floats s.typed; floats = take b.floats s.floats; essentials = take b.essentials s.essentials; hyps = take b.hyps s.hyps; distinct = take b.distinct s.distinct }
+cut_to s b =
+    record s { variables = take b.variables s.variables; typed = take b.floats s.typed; floats = take b.floats s.floats;
+        essentials = take b.essentials s.essentials; hyps = take b.hyps s.hyps; distinct = take b.distinct s.distinct }
 
 abbrev pub last_block : List Block → Option Block
 last_block bs = slice_get bs (length bs - 1)

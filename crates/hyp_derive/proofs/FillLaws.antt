@@ -1,5 +1,6 @@
 -- New trees and places, one wanted tree after the other.
-use Rattle.std.proofs.Common.{◌≡◌, ℕ, ◌+◌, ◌<◌, ◌≤◌, Bool, true, false, List, [], ◌∷◌, ◌++◌, map, fold, length, take, get_or, Some, None, nat_lt, position, append_assoc, refl, sym, ap, ◌∙◌, inl, inr, arith}
+use Rattle.std.proofs.Common.{◌≡◌, ℕ, ◌+◌, ◌<◌, ◌≤◌, Bool, true, false, List, [], ◌∷◌, ◌++◌, map, fold, length, take, get_or, Some, None, nat_lt}
+use Rattle.std.proofs.Common.{position, append_assoc, refl, sym, ap, ◌∙◌, inl, inr, arith}
 use Rattle.std.specs.List.{list_any, position_or_len}
 use Rattle.std.proofs.lemmas.Bool.{cases_Bool}
 use Rattle.std.proofs.lemmas.Bool.Decides.{nat_tests}
@@ -150,9 +151,11 @@ module _ (itself : (t : Tree) → same_tree t t ≡ true) (earlier : List Tree) 
   made_all [] made places = sym (append-nil made)
   made_all (w ∷ ws) made places = elim (cases_Bool (list_any (same_tree w) (earlier ++ made))) [
     | inl e ↦
-        ap (λ m. (fold (step earlier) (state m (places ++ at earlier made w ∷ [])) ws).made) (tree_kept earlier made w e) ∙ made_all ws made (places ++ at earlier made w ∷ []) ∙ sym (all_kept earlier made w ws e)
+        ap (λ m. (fold (step earlier) (state m (places ++ at earlier made w ∷ [])) ws).made) (tree_kept earlier made w e)
+            ∙ made_all ws made (places ++ at earlier made w ∷ []) ∙ sym (all_kept earlier made w ws e)
     | inr e ↦
-        ap (λ m. (fold (step earlier) (state m (places ++ at earlier made w ∷ [])) ws).made) (tree_put earlier made w e) ∙ made_all ws (made ++ w ∷ []) (places ++ at earlier made w ∷ []) ∙ sym (all_put earlier made w ws e)
+        ap (λ m. (fold (step earlier) (state m (places ++ at earlier made w ∷ [])) ws).made) (tree_put earlier made w e)
+            ∙ made_all ws (made ++ w ∷ []) (places ++ at earlier made w ∷ []) ∙ sym (all_put earlier made w ws e)
   ]
 
   pub places_all : (ws made : List Tree) (places : List ℕ) → (fold (step earlier) (state made places) ws).places ≡ places ++ map (at earlier (all_made earlier made ws)) ws

@@ -1,5 +1,6 @@
 -- The numbers of names, and the least number whose name is not used.
-use Rattle.std.proofs.Common.{◌≡◌, ℕ, zero, suc, ◌+◌, ◌<◌, ◌≤◌, ◌^◌, ◌==◌, Bool, true, false, not, ◌||◌, List, [], ◌∷◌, ◌++◌, map, find, take, length, get_or, Some, unwrap_or, nat_lt, codes, decimal, refl, sym, ap, subst, ◌∙◌, inl, inr, add-one, arith}
+use Rattle.std.proofs.Common.{◌≡◌, ℕ, zero, suc, ◌+◌, ◌<◌, ◌≤◌, ◌^◌, ◌==◌, Bool, true, false, not, ◌||◌, List, [], ◌∷◌, ◌++◌, map, find, take, length}
+use Rattle.std.proofs.Common.{get_or, Some, unwrap_or, nat_lt, codes, decimal, refl, sym, ap, subst, ◌∙◌, inl, inr, add-one, arith}
 use Rattle.std.specs.List.{range_with_len}
 use Rattle.std.specs.Str.{bytes_eq}
 use Rattle.std.proofs.lemmas.Bool.{cases_Bool}
@@ -85,7 +86,8 @@ pub find_first : (used : List Name) (n a k : ℕ) → a ≤ k → k < a + n → 
 find_first used zero a k h l free below = absurd (omega arith)
 find_first used (suc n) a k h l free below = elim (eq-or-lt_of_le h) [
   | inl e ↦ let here : contains used (numbered_name a) ≡ false = ap (λ m. contains used (numbered_name m)) e ∙ free in rw here (ap (λ m. Some (numbered_name m)) e)
-  | inr less ↦ let here : contains used (numbered_name a) ≡ true = below a (omega arith) less in rw here (find_first used n (a + 1) k (omega arith) (omega arith) free (λ j from to. below j (omega arith) to))
+  | inr less ↦ let here : contains used (numbered_name a) ≡ true = below a (omega arith) less in
+      rw here (find_first used n (a + 1) k (omega arith) (omega arith) free (λ j from to. below j (omega arith) to))
 ]
 
 pub name_is : (used : List Name) (numbers : List ℕ) (k : ℕ) → AreNumbersOf used numbers → IsLeastFree numbers k → k ≤ length numbers + 1 → k < 2 ^ 64 → numbered_name k ≡ derived_name used

@@ -1,5 +1,6 @@
 -- The least number that makes a name not used, over lists that have the same names.
-use Rattle.std.proofs.Common.{◌≡◌, ℕ, zero, suc, ◌+◌, ◌-◌, ◌<◌, ◌≤◌, ◌^◌, Bool, true, false, ◌||◌, cond, take, get_or, append_assoc, append-nil, List, [], ◌∷◌, ◌++◌, map, length, unwrap_or, codes, decimal, refl, sym, ap, ◌∙◌, inl, inr, add-one, arith}
+use Rattle.std.proofs.Common.{◌≡◌, ℕ, zero, suc, ◌+◌, ◌-◌, ◌<◌, ◌≤◌, ◌^◌, Bool, true, false, ◌||◌, cond, take, get_or, append_assoc, append-nil, List}
+use Rattle.std.proofs.Common.{[], ◌∷◌, ◌++◌, map, length, unwrap_or, codes, decimal, refl, sym, ap, ◌∙◌, inl, inr, add-one, arith}
 use Rattle.std.specs.Cmp.{IsEquivalence}
 use Rattle.std.specs.List.{AllByRecursion, IsDistinct, filter_map, range_with_len}
 use Rattle.std.specs.Set.{is_member}
@@ -127,7 +128,8 @@ one_item (item.Step s) = refl
 pub item_more : (items : List SheetItem) (i : ℕ) (one : SheetItem) → i < length items → one ≡ get_or items i one → names_of (take (i + 1) items) ≡ names_of (take i items) ++ item_names one
 item_more items i one h is =
     ap names_of (take_more items i one h ∙ ap (λ (x : SheetItem). take i items ++ x ∷ []) (sym is))
-    ∙ ap (map (λ (s : SheetStep). s.name)) (filter_map-append step_of_item (take i items) (one ∷ [])) ∙ map-append (λ (s : SheetStep). s.name) (filter_map step_of_item (take i items)) (filter_map step_of_item (one ∷ []))
+    ∙ ap (map (λ (s : SheetStep). s.name)) (filter_map-append step_of_item (take i items) (one ∷ []))
+        ∙ map-append (λ (s : SheetStep). s.name) (filter_map step_of_item (take i items)) (filter_map step_of_item (one ∷ []))
     ∙ ap (λ names. names_of (take i items) ++ names) (one_item one)
 
 -- ---- several new names

@@ -1,5 +1,6 @@
 -- The orders of rising numbers are listed one after the other.
-use Rattle.std.proofs.Common.{◌≡◌, ℕ, zero, suc, ◌+◌, ◌<◌, ◌≤◌, List, [], ◌∷◌, ◌++◌, Bool, true, false, if◌then◌else◌, Option, Some, None, MatchBool, map, take, drop, length, reverse, slice_get, append_assoc, add-one, refl, sym, ap, subst, ◌∙◌, inl, inr, arith}
+use Rattle.std.proofs.Common.{◌≡◌, ℕ, zero, suc, ◌+◌, ◌<◌, ◌≤◌, List, [], ◌∷◌, ◌++◌, Bool, true, false, if◌then◌else◌, Option, Some, None, MatchBool}
+use Rattle.std.proofs.Common.{map, take, drop, length, reverse, slice_get, append_assoc, add-one, refl, sym, ap, subst, ◌∙◌, inl, inr, arith}
 use Rattle.std.specs.List.{flat_map, range_with_len}
 use Rattle.std.specs.List.Sorted.{IsPermutation}
 use Rattle.std.proofs.lemmas.List.{append-nil, drop_all, length-append, reverse-append, take_all}
@@ -78,7 +79,10 @@ module _ (pre : List ℕ) (y z : ℕ) (zs : List ℕ) (c : Climbs (pre ++ y ∷ 
         | inl h ↦ inr (inl h)
         | inr e ↦ elim (rises_first next ws (climbs_rise next next_climbs) (rest_same w ws same e)) [ inl h ↦ inl (heads_join z w next ws e h) | inr b ↦ inr (inr (e, b)) ]
       ]
-  change_least (w ∷ ws) same (inr h) = absurd (falls_last (reverse others) ws (reverse_falls others (climbs_rise others (climbs_without pre y (z ∷ zs) c))) (tails_same y (reverse others) ws (subst (λ x. SameCounts (y ∷ reverse others) (x ∷ ws)) (sym h.0) same)) h.1)
+  change_least (w ∷ ws) same (inr h) =
+      absurd
+          (falls_last (reverse others) ws (reverse_falls others (climbs_rise others (climbs_without pre y (z ∷ zs) c)))
+              (tails_same y (reverse others) ws (subst (λ x. SameCounts (y ∷ reverse others) (x ∷ ws)) (sym h.0) same)) h.1)
 
   change_same : IsPermutation (y ∷ reverse others) (z ∷ next)
   change_same =
@@ -186,7 +190,8 @@ module _ (n k : ℕ) (old : List ℕ) where
       → slice_get (orders n (range_with_len 0 n)) (k + 1) ≡ (if b then Some new else None)
   listed_next new b m e = rw (add-one k) (by b (slice_get (orders n (range_with_len 0 n)) (suc k)) m refl)
     where
-      by : (b : Bool) (o : Option (List ℕ)) → MatchBool b (IsNextOrder old new) ((new ≡ old) × IsLastOrder old) → slice_get (orders n (range_with_len 0 n)) (suc k) ≡ o → o ≡ (if b then Some new else None)
+      by : (b : Bool) (o : Option (List ℕ)) → MatchBool b (IsNextOrder old new) ((new ≡ old) × IsLastOrder old)
+          → slice_get (orders n (range_with_len 0 n)) (suc k) ≡ o → o ≡ (if b then Some new else None)
       by true None m f = absurd (falls_last old new (last_listed e f) (same_counts old new m.same) m.after)
       by true (Some y) m f = ap (λ (x : List ℕ). Some x) (next_once old y new (next_listed y e f) m)
       by false None m f = refl

@@ -1,5 +1,6 @@
 -- Where constants are declared, by the numbers of their `$c`.
-use Rattle.std.specs.Prelude.{◌≡◌, ◌<◌, ◌≤◌, ◌^◌, ◌-◌, ◌++◌, ◌&&◌, ◌||◌, ℕ, zero, suc, Bool, true, false, List, [], ◌∷◌, length, take, filter, reverse, nat_lt, option_map, codes, refl}
+use Rattle.std.specs.Prelude.{◌≡◌, ◌<◌, ◌≤◌, ◌^◌, ◌-◌, ◌++◌, ◌&&◌, ◌||◌, ℕ, zero, suc, Bool, true, false, List, [], ◌∷◌, length, take, filter}
+use Rattle.std.specs.Prelude.{reverse, nat_lt, option_map, codes, refl}
 use Rattle.std.specs.List.{list_any, flat_map}
 use Rattle.std.specs.Option.{option_map_or}
 use Rattle.std.specs.Str.{bytes_eq}
@@ -32,7 +33,8 @@ any_reversed q [] = refl
 any_reversed q (x ∷ xs) =
     ap (list_any q) (reverse_onto xs x []) ∙ list_any-append q (reverse xs) (x ∷ []) ∙ ap (λ b. b || (q x || false)) (any_reversed q xs) ∙ or_turned (list_any q xs) (q x)
 
-one_statement : (b : Bool) (n : Name) (s : Statement) (rest : List Statement) → contains (flat_map symbols_in (cond b (s ∷ rest) rest)) n ≡ ((b && contains (symbols_in s) n) || contains (flat_map symbols_in rest) n)
+one_statement : (b : Bool) (n : Name) (s : Statement) (rest : List Statement)
+    → contains (flat_map symbols_in (cond b (s ∷ rest) rest)) n ≡ ((b && contains (symbols_in s) n) || contains (flat_map symbols_in rest) n)
 one_statement true n s rest = list_any-append (bytes_eq n) (symbols_in s) (flat_map symbols_in rest)
 one_statement false n s rest = refl
 

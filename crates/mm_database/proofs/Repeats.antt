@@ -19,7 +19,8 @@ first_of [] d x l e = absurd (omega arith)
 first_of (y ∷ ys) d x l e = ap (λ z. z ∷ ys) e ∙ ap (λ zs. x ∷ zs) (sym (take_all (length (y ∷ ys) - 1) ys (omega arith)))
 
 -- the slot in front stands behind it too
-pub slot_repeated : (left : List Item) (d : Item) (k : ℕ) → 1 ≤ length left → get_or left 0 d ≡ Slot k → list_any (is_slot k) (take (length left - 1) (drop 1 left)) ≡ true → has_repeats (slot_order left) ≡ true
+pub slot_repeated : (left : List Item) (d : Item) (k : ℕ) → 1 ≤ length left → get_or left 0 d ≡ Slot k
+    → list_any (is_slot k) (take (length left - 1) (drop 1 left)) ≡ true → has_repeats (slot_order left) ≡ true
 slot_repeated left d k l e any =
     let rest = slot_order (take (length left - 1) (drop 1 left)) in
     ap (λ items. has_repeats (slot_order items)) (first_of left d (Slot k) l e)

@@ -1,5 +1,6 @@
 -- What is kept of a text is the database of the definitions.
-use Rattle.std.specs.Prelude.{◌≡◌, ◌<◌, ◌≤◌, ◌+◌, ◌^◌, ◌-◌, ◌==◌, ℕ, true, nat_le, List, [], ◌∷◌, length, map, drop, find, slice_get, Option, Some, None, option_map, option_and_then, refl}
+use Rattle.std.specs.Prelude.{◌≡◌, ◌<◌, ◌≤◌, ◌+◌, ◌^◌, ◌-◌, ◌==◌, ℕ, true, nat_le, List, [], ◌∷◌, length, map, drop, find, slice_get, Option, Some}
+use Rattle.std.specs.Prelude.{None, option_map, option_and_then, refl}
 use Rattle.std.specs.List.{AllZip, AllByRecursion, filter_map, cons_option, range_with_len}
 use Rattle.std.proofs.Common.{arith, sym, ap, ◌∙◌, subst, cond}
 use Rattle.std.proofs.lemmas.Bool.{and_parts, and_from, eqb-true, eq-eqb, leb-true, le-leb}
@@ -79,7 +80,8 @@ begins_from o s rest formula is named short =
 
 module _ (kinds : Kinds) (text : List ℕ) (ok : database_fault text ≡ None) (own : FramesHaveOwnExpressions) (small : length (statements text) ≤ 2 ^ 32 - 1)
     (rows : List Production) (parsed : List (Option Parsed)) (rows_are : rows ≡ kept_rows kinds.provable (statements text))
-    (are : AreParsed (kinds_in (symbols (statements text)) kinds) rows (constant_places (statements text)) (map (λ n. frame_of (statements text) (label n)) (range_with_len 0 (length (labels (statements text))))) parsed) where
+    (are : AreParsed (kinds_in (symbols (statements text)) kinds) rows (constant_places (statements text))
+        (map (λ n. frame_of (statements text) (label n)) (range_with_len 0 (length (labels (statements text))))) parsed) where
   abbrev ss : List Statement
   ss = statements text
 
@@ -110,7 +112,8 @@ module _ (kinds : Kinds) (text : List ℕ) (ok : database_fault text ≡ None) (
         ap (λ b. cond b (Some (leaf.Const s)) (option_map (λ c. leaf.Var s c) (code_of (frame_variables f.hyps) s))) (constants_same ss s f.at within (omega (arith, place, small)))
         ∙ ap (λ o. cond (is_constant_at ss s f.at) (Some (leaf.Const s)) (option_map (λ c. leaf.Var s c) o)) (code_is f.hyps s)
 
-    leaves_are : (syms : List Sym) → AllByRecursion (λ s. s.0 < length (symbols ss)) syms → filter_map (leaf_of (constant_places ss) f.at (frame_variables f.hyps)) syms ≡ filter_map (own_leaf db f) syms
+    leaves_are : (syms : List Sym) → AllByRecursion (λ s. s.0 < length (symbols ss)) syms
+        → filter_map (leaf_of (constant_places ss) f.at (frame_variables f.hyps)) syms ≡ filter_map (own_leaf db f) syms
     leaves_are [] h = refl
     leaves_are (s ∷ syms) h =
         ap (λ o. cons_option o (filter_map (leaf_of (constant_places ss) f.at (frame_variables f.hyps)) syms)) (leaf_is s h.0) ∙ ap (cons_option (own_leaf db f s)) (leaves_are syms h.1)

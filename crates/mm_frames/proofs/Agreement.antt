@@ -25,7 +25,9 @@ code n = Some n
 
 -- ---- keywords
 
-pub constants-agrees : (before : List Word) (at : ℕ) (after : List Word) (r : Reader) (s : Stage) (empty : Bool) → is_empty (path (ended before)) ≡ empty → StageIs (unended before) (word at (codes "$c") ∷ after) r s → Codes.code_at before (word at (codes "$c")) after ≡ cond (not empty) (code 11) (between_code_at s r)
+pub constants-agrees : (before : List Word) (at : ℕ) (after : List Word) (r : Reader) (s : Stage) (empty : Bool)
+    → is_empty (path (ended before)) ≡ empty → StageIs (unended before) (word at (codes "$c") ∷ after) r s
+    → Codes.code_at before (word at (codes "$c")) after ≡ cond (not empty) (code 11) (between_code_at s r)
 constants-agrees before at after r stage.Between true p h = Codes.constants-between before at after true h.0 p
 constants-agrees before at after r stage.Between false p h = Codes.constants-between before at after false h.0 p
 constants-agrees before at after r stage.Labelled empty p h = absurd (clash h.0.next)
@@ -37,7 +39,8 @@ constants-agrees before at after r (stage.Symbols k) false p h = Codes.constants
 constants-agrees before at after r (stage.Proof from) true p h = Codes.constants-begun before at after (codes "$p") true h.begun p
 constants-agrees before at after r (stage.Proof from) false p h = Codes.constants-begun before at after (codes "$p") false h.begun p
 
-pub variables-keyword-agrees : (before : List Word) (at : ℕ) (after : List Word) (r : Reader) (s : Stage) → StageIs (unended before) (word at (codes "$v") ∷ after) r s → Codes.code_at before (word at (codes "$v")) after ≡ between_code_at s r
+pub variables-keyword-agrees : (before : List Word) (at : ℕ) (after : List Word) (r : Reader) (s : Stage)
+    → StageIs (unended before) (word at (codes "$v") ∷ after) r s → Codes.code_at before (word at (codes "$v")) after ≡ between_code_at s r
 variables-keyword-agrees before at after r stage.Between h = Codes.variables-between before at after h.0
 variables-keyword-agrees before at after r stage.Labelled h = absurd (clash h.0.next)
   where
@@ -46,7 +49,8 @@ variables-keyword-agrees before at after r stage.Labelled h = absurd (clash h.0.
 variables-keyword-agrees before at after r (stage.Symbols k) h = Codes.variables-begun before at after (keyword k) h.begun
 variables-keyword-agrees before at after r (stage.Proof from) h = Codes.variables-begun before at after (codes "$p") h.begun
 
-pub distinct-keyword-agrees : (before : List Word) (at : ℕ) (after : List Word) (r : Reader) (s : Stage) → StageIs (unended before) (word at (codes "$d") ∷ after) r s → Codes.code_at before (word at (codes "$d")) after ≡ between_code_at s r
+pub distinct-keyword-agrees : (before : List Word) (at : ℕ) (after : List Word) (r : Reader) (s : Stage)
+    → StageIs (unended before) (word at (codes "$d") ∷ after) r s → Codes.code_at before (word at (codes "$d")) after ≡ between_code_at s r
 distinct-keyword-agrees before at after r stage.Between h = Codes.distinct-between before at after h.0
 distinct-keyword-agrees before at after r stage.Labelled h = absurd (clash h.0.next)
   where
@@ -55,71 +59,97 @@ distinct-keyword-agrees before at after r stage.Labelled h = absurd (clash h.0.n
 distinct-keyword-agrees before at after r (stage.Symbols k) h = Codes.distinct-begun before at after (keyword k) h.begun
 distinct-keyword-agrees before at after r (stage.Proof from) h = Codes.distinct-begun before at after (codes "$p") h.begun
 
-pub floating-keyword-agrees : (before : List Word) (at : ℕ) (after : List Word) (r : Reader) (s : Stage) → StageIs (unended before) (word at (codes "$f") ∷ after) r s → Codes.code_at before (word at (codes "$f")) after ≡ labelled_code_at s r
+pub floating-keyword-agrees : (before : List Word) (at : ℕ) (after : List Word) (r : Reader) (s : Stage)
+    → StageIs (unended before) (word at (codes "$f") ∷ after) r s → Codes.code_at before (word at (codes "$f")) after ≡ labelled_code_at s r
 floating-keyword-agrees before at after r stage.Between h = Codes.floating-between before at after h.0
 floating-keyword-agrees before at after r stage.Labelled h = Codes.floating-labelled before at after h.0.label h.0.is h.0.is_name
 floating-keyword-agrees before at after r (stage.Symbols k) h = Codes.floating-begun before at after (keyword k) h.begun
 floating-keyword-agrees before at after r (stage.Proof from) h = Codes.floating-begun before at after (codes "$p") h.begun
 
-pub essential-keyword-agrees : (before : List Word) (at : ℕ) (after : List Word) (r : Reader) (s : Stage) → StageIs (unended before) (word at (codes "$e") ∷ after) r s → Codes.code_at before (word at (codes "$e")) after ≡ labelled_code_at s r
+pub essential-keyword-agrees : (before : List Word) (at : ℕ) (after : List Word) (r : Reader) (s : Stage)
+    → StageIs (unended before) (word at (codes "$e") ∷ after) r s → Codes.code_at before (word at (codes "$e")) after ≡ labelled_code_at s r
 essential-keyword-agrees before at after r stage.Between h = Codes.essential-between before at after h.0
 essential-keyword-agrees before at after r stage.Labelled h = Codes.essential-labelled before at after h.0.label h.0.is h.0.is_name
 essential-keyword-agrees before at after r (stage.Symbols k) h = Codes.essential-begun before at after (keyword k) h.begun
 essential-keyword-agrees before at after r (stage.Proof from) h = Codes.essential-begun before at after (codes "$p") h.begun
 
-pub axiom-keyword-agrees : (before : List Word) (at : ℕ) (after : List Word) (r : Reader) (s : Stage) → StageIs (unended before) (word at (codes "$a") ∷ after) r s → Codes.code_at before (word at (codes "$a")) after ≡ labelled_code_at s r
+pub axiom-keyword-agrees : (before : List Word) (at : ℕ) (after : List Word) (r : Reader) (s : Stage)
+    → StageIs (unended before) (word at (codes "$a") ∷ after) r s → Codes.code_at before (word at (codes "$a")) after ≡ labelled_code_at s r
 axiom-keyword-agrees before at after r stage.Between h = Codes.axiom-between before at after h.0
 axiom-keyword-agrees before at after r stage.Labelled h = Codes.axiom-labelled before at after h.0.label h.0.is h.0.is_name
 axiom-keyword-agrees before at after r (stage.Symbols k) h = Codes.axiom-begun before at after (keyword k) h.begun
 axiom-keyword-agrees before at after r (stage.Proof from) h = Codes.axiom-begun before at after (codes "$p") h.begun
 
-pub provable-keyword-agrees : (before : List Word) (at : ℕ) (after : List Word) (r : Reader) (s : Stage) → StageIs (unended before) (word at (codes "$p") ∷ after) r s → Codes.code_at before (word at (codes "$p")) after ≡ labelled_code_at s r
+pub provable-keyword-agrees : (before : List Word) (at : ℕ) (after : List Word) (r : Reader) (s : Stage)
+    → StageIs (unended before) (word at (codes "$p") ∷ after) r s → Codes.code_at before (word at (codes "$p")) after ≡ labelled_code_at s r
 provable-keyword-agrees before at after r stage.Between h = Codes.provable-between before at after h.0
 provable-keyword-agrees before at after r stage.Labelled h = Codes.provable-labelled before at after h.0.label h.0.is h.0.is_name
 provable-keyword-agrees before at after r (stage.Symbols k) h = Codes.provable-begun before at after (keyword k) h.begun
 provable-keyword-agrees before at after r (stage.Proof from) h = Codes.provable-begun before at after (codes "$p") h.begun
 
-constant-equals-agrees : (before : List Word) (at : ℕ) (after : List Word) (r : Reader) (names : Sym → List ℕ) (fs : List Sym) → fs ≡ r.formula → IsOpen (unended before) (codes "$c") (map names fs) → Codes.code_at before (word at (codes "$=")) after ≡ cond (is_empty r.formula) (code 26) (code 29)
+constant-equals-agrees : (before : List Word) (at : ℕ) (after : List Word) (r : Reader) (names : Sym → List ℕ) (fs : List Sym) → fs ≡ r.formula
+    → IsOpen (unended before) (codes "$c") (map names fs)
+    → Codes.code_at before (word at (codes "$=")) after ≡ cond (is_empty r.formula) (code 26) (code 29)
 constant-equals-agrees before at after r names [] q o = Codes.constant-equals-empty before at after o ∙ ap (λ (f : List Sym). cond (is_empty f) (code 26) (code 29)) q
 constant-equals-agrees before at after r names (s ∷ fs) q o = Codes.constant-equals before at after (names s) (map names fs) o ∙ ap (λ (f : List Sym). cond (is_empty f) (code 26) (code 29)) q
 
-constant-end-agrees : (before : List Word) (at : ℕ) (after : List Word) (r : Reader) (names : Sym → List ℕ) (fs : List Sym) → fs ≡ r.formula → IsOpen (unended before) (codes "$c") (map names fs) → Codes.code_at before (word at (codes "$.")) after ≡ cond (is_empty r.formula) (code 26) None
+constant-end-agrees : (before : List Word) (at : ℕ) (after : List Word) (r : Reader) (names : Sym → List ℕ) (fs : List Sym) → fs ≡ r.formula
+    → IsOpen (unended before) (codes "$c") (map names fs)
+    → Codes.code_at before (word at (codes "$.")) after ≡ cond (is_empty r.formula) (code 26) None
 constant-end-agrees before at after r names [] q o = Codes.constant-end-empty before at after o ∙ ap (λ (f : List Sym). cond (is_empty f) (code 26) None) q
 constant-end-agrees before at after r names (s ∷ fs) q o = Codes.constant-end before at after (names s) (map names fs) o ∙ ap (λ (f : List Sym). cond (is_empty f) (code 26) None) q
 
-variable-equals-agrees : (before : List Word) (at : ℕ) (after : List Word) (r : Reader) (names : Sym → List ℕ) (fs : List Sym) → fs ≡ r.formula → IsOpen (unended before) (codes "$v") (map names fs) → Codes.code_at before (word at (codes "$=")) after ≡ cond (is_empty r.formula) (code 26) (code 29)
+variable-equals-agrees : (before : List Word) (at : ℕ) (after : List Word) (r : Reader) (names : Sym → List ℕ) (fs : List Sym) → fs ≡ r.formula
+    → IsOpen (unended before) (codes "$v") (map names fs)
+    → Codes.code_at before (word at (codes "$=")) after ≡ cond (is_empty r.formula) (code 26) (code 29)
 variable-equals-agrees before at after r names [] q o = Codes.variable-equals-empty before at after o ∙ ap (λ (f : List Sym). cond (is_empty f) (code 26) (code 29)) q
 variable-equals-agrees before at after r names (s ∷ fs) q o = Codes.variable-equals before at after (names s) (map names fs) o ∙ ap (λ (f : List Sym). cond (is_empty f) (code 26) (code 29)) q
 
-variable-end-agrees : (before : List Word) (at : ℕ) (after : List Word) (r : Reader) (names : Sym → List ℕ) (fs : List Sym) → fs ≡ r.formula → IsOpen (unended before) (codes "$v") (map names fs) → Codes.code_at before (word at (codes "$.")) after ≡ cond (is_empty r.formula) (code 26) None
+variable-end-agrees : (before : List Word) (at : ℕ) (after : List Word) (r : Reader) (names : Sym → List ℕ) (fs : List Sym) → fs ≡ r.formula
+    → IsOpen (unended before) (codes "$v") (map names fs)
+    → Codes.code_at before (word at (codes "$.")) after ≡ cond (is_empty r.formula) (code 26) None
 variable-end-agrees before at after r names [] q o = Codes.variable-end-empty before at after o ∙ ap (λ (f : List Sym). cond (is_empty f) (code 26) None) q
 variable-end-agrees before at after r names (s ∷ fs) q o = Codes.variable-end before at after (names s) (map names fs) o ∙ ap (λ (f : List Sym). cond (is_empty f) (code 26) None) q
 
-essential-equals-agrees : (before : List Word) (at : ℕ) (after : List Word) (r : Reader) (names : Sym → List ℕ) (fs : List Sym) → fs ≡ r.formula → IsOpen (unended before) (codes "$e") (map names fs) → Codes.code_at before (word at (codes "$=")) after ≡ cond (is_empty r.formula) (code 26) (code 29)
+essential-equals-agrees : (before : List Word) (at : ℕ) (after : List Word) (r : Reader) (names : Sym → List ℕ) (fs : List Sym) → fs ≡ r.formula
+    → IsOpen (unended before) (codes "$e") (map names fs)
+    → Codes.code_at before (word at (codes "$=")) after ≡ cond (is_empty r.formula) (code 26) (code 29)
 essential-equals-agrees before at after r names [] q o = Codes.essential-equals-empty before at after o ∙ ap (λ (f : List Sym). cond (is_empty f) (code 26) (code 29)) q
 essential-equals-agrees before at after r names (s ∷ fs) q o = Codes.essential-equals before at after (names s) (map names fs) o ∙ ap (λ (f : List Sym). cond (is_empty f) (code 26) (code 29)) q
 
-essential-end-agrees : (before : List Word) (at : ℕ) (after : List Word) (r : Reader) (names : Sym → List ℕ) (fs : List Sym) → fs ≡ r.formula → IsOpen (unended before) (codes "$e") (map names fs) → Codes.code_at before (word at (codes "$.")) after ≡ cond (is_empty r.formula) (code 26) None
+essential-end-agrees : (before : List Word) (at : ℕ) (after : List Word) (r : Reader) (names : Sym → List ℕ) (fs : List Sym) → fs ≡ r.formula
+    → IsOpen (unended before) (codes "$e") (map names fs)
+    → Codes.code_at before (word at (codes "$.")) after ≡ cond (is_empty r.formula) (code 26) None
 essential-end-agrees before at after r names [] q o = Codes.essential-end-empty before at after o ∙ ap (λ (f : List Sym). cond (is_empty f) (code 26) None) q
 essential-end-agrees before at after r names (s ∷ fs) q o = Codes.essential-end before at after (names s) (map names fs) o ∙ ap (λ (f : List Sym). cond (is_empty f) (code 26) None) q
 
-axiom-equals-agrees : (before : List Word) (at : ℕ) (after : List Word) (r : Reader) (names : Sym → List ℕ) (fs : List Sym) → fs ≡ r.formula → IsOpen (unended before) (codes "$a") (map names fs) → Codes.code_at before (word at (codes "$=")) after ≡ cond (is_empty r.formula) (code 26) (code 29)
+axiom-equals-agrees : (before : List Word) (at : ℕ) (after : List Word) (r : Reader) (names : Sym → List ℕ) (fs : List Sym) → fs ≡ r.formula
+    → IsOpen (unended before) (codes "$a") (map names fs)
+    → Codes.code_at before (word at (codes "$=")) after ≡ cond (is_empty r.formula) (code 26) (code 29)
 axiom-equals-agrees before at after r names [] q o = Codes.axiom-equals-empty before at after o ∙ ap (λ (f : List Sym). cond (is_empty f) (code 26) (code 29)) q
 axiom-equals-agrees before at after r names (s ∷ fs) q o = Codes.axiom-equals before at after (names s) (map names fs) o ∙ ap (λ (f : List Sym). cond (is_empty f) (code 26) (code 29)) q
 
-axiom-end-agrees : (before : List Word) (at : ℕ) (after : List Word) (r : Reader) (names : Sym → List ℕ) (fs : List Sym) → fs ≡ r.formula → IsOpen (unended before) (codes "$a") (map names fs) → Codes.code_at before (word at (codes "$.")) after ≡ cond (is_empty r.formula) (code 26) None
+axiom-end-agrees : (before : List Word) (at : ℕ) (after : List Word) (r : Reader) (names : Sym → List ℕ) (fs : List Sym) → fs ≡ r.formula
+    → IsOpen (unended before) (codes "$a") (map names fs)
+    → Codes.code_at before (word at (codes "$.")) after ≡ cond (is_empty r.formula) (code 26) None
 axiom-end-agrees before at after r names [] q o = Codes.axiom-end-empty before at after o ∙ ap (λ (f : List Sym). cond (is_empty f) (code 26) None) q
 axiom-end-agrees before at after r names (s ∷ fs) q o = Codes.axiom-end before at after (names s) (map names fs) o ∙ ap (λ (f : List Sym). cond (is_empty f) (code 26) None) q
 
-provable-equals-agrees : (before : List Word) (at : ℕ) (after : List Word) (r : Reader) (names : Sym → List ℕ) (fs : List Sym) → fs ≡ r.formula → IsOpen (unended before) (codes "$p") (map names fs) → Codes.code_at before (word at (codes "$=")) after ≡ cond (is_empty r.formula) (code 26) None
+provable-equals-agrees : (before : List Word) (at : ℕ) (after : List Word) (r : Reader) (names : Sym → List ℕ) (fs : List Sym) → fs ≡ r.formula
+    → IsOpen (unended before) (codes "$p") (map names fs)
+    → Codes.code_at before (word at (codes "$=")) after ≡ cond (is_empty r.formula) (code 26) None
 provable-equals-agrees before at after r names [] q o = Codes.provable-equals-empty before at after o ∙ ap (λ (f : List Sym). cond (is_empty f) (code 26) None) q
 provable-equals-agrees before at after r names (s ∷ fs) q o = Codes.provable-equals before at after (names s) (map names fs) o ∙ ap (λ (f : List Sym). cond (is_empty f) (code 26) None) q
 
-provable-end-agrees : (before : List Word) (at : ℕ) (after : List Word) (r : Reader) (names : Sym → List ℕ) (fs : List Sym) → fs ≡ r.formula → IsOpen (unended before) (codes "$p") (map names fs) → Codes.code_at before (word at (codes "$.")) after ≡ cond (is_empty r.formula) (code 26) (code 28)
+provable-end-agrees : (before : List Word) (at : ℕ) (after : List Word) (r : Reader) (names : Sym → List ℕ) (fs : List Sym) → fs ≡ r.formula
+    → IsOpen (unended before) (codes "$p") (map names fs)
+    → Codes.code_at before (word at (codes "$.")) after ≡ cond (is_empty r.formula) (code 26) (code 28)
 provable-end-agrees before at after r names [] q o = Codes.provable-end-empty before at after o ∙ ap (λ (f : List Sym). cond (is_empty f) (code 26) (code 28)) q
 provable-end-agrees before at after r names (s ∷ fs) q o = Codes.provable-end before at after (names s) (map names fs) o ∙ ap (λ (f : List Sym). cond (is_empty f) (code 26) (code 28)) q
 
-distinct-end-agrees : (before : List Word) (at : ℕ) (after : List Word) (r : Reader) (names : ℕ → List ℕ) (fs : List ℕ) → fs ≡ r.listed → IsOpen (unended before) (codes "$d") (map names fs) → Codes.code_at before (word at (codes "$.")) after ≡ cond (nat_lt (length r.listed) 2) (code 24) None
+distinct-end-agrees : (before : List Word) (at : ℕ) (after : List Word) (r : Reader) (names : ℕ → List ℕ) (fs : List ℕ) → fs ≡ r.listed
+    → IsOpen (unended before) (codes "$d") (map names fs)
+    → Codes.code_at before (word at (codes "$.")) after ≡ cond (nat_lt (length r.listed) 2) (code 24) None
 distinct-end-agrees before at after r names [] q o = Codes.distinct-end-empty before at after o ∙ ap (λ (f : List ℕ). cond (nat_lt (length f) 2) (code 24) None) q
 distinct-end-agrees before at after r names (s ∷ []) q o = Codes.distinct-end-short before at after (names s) o ∙ ap (λ (f : List ℕ). cond (nat_lt (length f) 2) (code 24) None) q
 distinct-end-agrees before at after r names (s ∷ t ∷ fs) q o =
@@ -127,7 +157,9 @@ distinct-end-agrees before at after r names (s ∷ t ∷ fs) q o =
     let here : None ≡ cond (nat_lt (length (s ∷ t ∷ fs)) 2) (code 24) None = rw many refl in
     Codes.distinct-end before at after (names s) (names t) (map names fs) o ∙ here ∙ ap (λ (f : List ℕ). cond (nat_lt (length f) 2) (code 24) None) q
 
-floating-end-agrees : (before : List Word) (at : ℕ) (after : List Word) (r : Reader) (names : Sym → List ℕ) (fs : List Sym) → fs ≡ r.formula → IsOpen (unended before) (codes "$f") (map names fs) → Codes.code_at before (word at (codes "$.")) after ≡ cond (nat_lt (length r.formula) 2) (code 27) None
+floating-end-agrees : (before : List Word) (at : ℕ) (after : List Word) (r : Reader) (names : Sym → List ℕ) (fs : List Sym) → fs ≡ r.formula
+    → IsOpen (unended before) (codes "$f") (map names fs)
+    → Codes.code_at before (word at (codes "$.")) after ≡ cond (nat_lt (length r.formula) 2) (code 27) None
 floating-end-agrees before at after r names [] q o = Codes.floating-end-empty before at after o ∙ ap (λ (f : List Sym). cond (nat_lt (length f) 2) (code 27) None) q
 floating-end-agrees before at after r names (s ∷ []) q o = Codes.floating-end-short before at after (names s) o ∙ ap (λ (f : List Sym). cond (nat_lt (length f) 2) (code 27) None) q
 floating-end-agrees before at after r names (s ∷ t ∷ fs) q o =
@@ -135,7 +167,8 @@ floating-end-agrees before at after r names (s ∷ t ∷ fs) q o =
     let here : None ≡ cond (nat_lt (length (s ∷ t ∷ fs)) 2) (code 27) None = rw many refl in
     Codes.floating-end before at after (names s) (names t) (map names fs) o ∙ here ∙ ap (λ (f : List Sym). cond (nat_lt (length f) 2) (code 27) None) q
 
-equals-agrees : (before : List Word) (at : ℕ) (after : List Word) (r : Reader) (s : Stage) → StageIs (unended before) (word at (codes "$=") ∷ after) r s → Codes.code_at before (word at (codes "$=")) after ≡ equals_code_at s r
+equals-agrees : (before : List Word) (at : ℕ) (after : List Word) (r : Reader) (s : Stage)
+    → StageIs (unended before) (word at (codes "$=") ∷ after) r s → Codes.code_at before (word at (codes "$=")) after ≡ equals_code_at s r
 equals-agrees before at after r stage.Between h = Codes.equals-between before at after h.0
 equals-agrees before at after r stage.Labelled h = absurd (clash h.0.next)
   where
@@ -150,7 +183,8 @@ equals-agrees before at after r (stage.Symbols kind.Distinct) h = Codes.distinct
 equals-agrees before at after r (stage.Symbols kind.Floating) h = Codes.floating-equals before at after (formula_names r) h
 equals-agrees before at after r (stage.Proof from) h = Codes.proof-equals before at after (formula_names r) h
 
-end-agrees : (before : List Word) (at : ℕ) (after : List Word) (r : Reader) (s : Stage) → StageIs (unended before) (word at (codes "$.") ∷ after) r s → Codes.code_at before (word at (codes "$.")) after ≡ end_code_at s r
+end-agrees : (before : List Word) (at : ℕ) (after : List Word) (r : Reader) (s : Stage) → StageIs (unended before) (word at (codes "$.") ∷ after) r s
+    → Codes.code_at before (word at (codes "$.")) after ≡ end_code_at s r
 end-agrees before at after r stage.Between h = Codes.end-between before at after h.0
 end-agrees before at after r stage.Labelled h = absurd (clash h.0.next)
   where
@@ -165,7 +199,8 @@ end-agrees before at after r (stage.Symbols kind.Floating) h = floating-end-agre
 end-agrees before at after r (stage.Symbols kind.Distinct) h = distinct-end-agrees before at after r (λ i. name_of r.symbols i) r.listed refl h
 end-agrees before at after r (stage.Proof from) h = Codes.proof-end before at after (formula_names r) h
 
-open-agrees : (before : List Word) (at : ℕ) (after : List Word) (r : Reader) (s : Stage) → StageIs (unended before) (word at (codes "${") ∷ after) r s → Codes.code_at before (word at (codes "${")) after ≡ between_code_at s r
+open-agrees : (before : List Word) (at : ℕ) (after : List Word) (r : Reader) (s : Stage) → StageIs (unended before) (word at (codes "${") ∷ after) r s
+    → Codes.code_at before (word at (codes "${")) after ≡ between_code_at s r
 open-agrees before at after r stage.Between h = Codes.open-between before at after h.0
 open-agrees before at after r stage.Labelled h = absurd (clash h.0.next)
   where
@@ -174,7 +209,9 @@ open-agrees before at after r stage.Labelled h = absurd (clash h.0.next)
 open-agrees before at after r (stage.Symbols k) h = Codes.open-begun before at after (keyword k) h.begun
 open-agrees before at after r (stage.Proof from) h = Codes.open-begun before at after (codes "$p") h.begun
 
-close-agrees : (before : List Word) (at : ℕ) (after : List Word) (r : Reader) (s : Stage) (ss : List Scope) → is_empty (path (ended before)) ≡ is_empty ss → s ≡ r.stage → StageIs (unended before) (word at (codes "$}") ∷ after) r s → Codes.code_at before (word at (codes "$}")) after ≡ close_code_at ss r
+close-agrees : (before : List Word) (at : ℕ) (after : List Word) (r : Reader) (s : Stage) (ss : List Scope)
+    → is_empty (path (ended before)) ≡ is_empty ss → s ≡ r.stage → StageIs (unended before) (word at (codes "$}") ∷ after) r s
+    → Codes.code_at before (word at (codes "$}")) after ≡ close_code_at ss r
 close-agrees before at after r stage.Between [] p q h = Codes.close-between before at after true h.0 p
 close-agrees before at after r stage.Between (s ∷ ss) p q h = Codes.close-between before at after false h.0 p ∙ ap (λ (t : Stage). between_code_at t r) q
 close-agrees before at after r stage.Labelled ss p q h = absurd (clash h.0.next)
@@ -189,7 +226,8 @@ close-agrees before at after r (stage.Proof from) (s ∷ ss) p q h = Codes.close
 include-agrees : (before : List Word) (at : ℕ) (after : List Word) → Codes.code_at before (word at (codes "$[")) after ≡ Some 10
 include-agrees before at after = refl
 
-close-include-agrees : (before : List Word) (at : ℕ) (after : List Word) (r : Reader) (s : Stage) → StageIs (unended before) (word at (codes "$]") ∷ after) r s → Codes.code_at before (word at (codes "$]")) after ≡ Some 29
+close-include-agrees : (before : List Word) (at : ℕ) (after : List Word) (r : Reader) (s : Stage)
+    → StageIs (unended before) (word at (codes "$]") ∷ after) r s → Codes.code_at before (word at (codes "$]")) after ≡ Some 29
 close-include-agrees before at after r stage.Between h = Codes.close_include-between before at after h.0
 close-include-agrees before at after r stage.Labelled h = absurd (clash h.0.next)
   where
@@ -200,7 +238,8 @@ close-include-agrees before at after r (stage.Proof from) h = Codes.close_includ
 
 -- ---- any token
 
-pub agrees : (before after : List Word) (r : Reader) (w : Word) (k : TokenKind) (next : Option TokenKind) → IsReader before (w ∷ after) r → IsKind k w.bytes → is_extra next ≡ list_any (λ v. not (is_one_of labelled v)) (take 1 after)
+pub agrees : (before after : List Word) (r : Reader) (w : Word) (k : TokenKind) (next : Option TokenKind) → IsReader before (w ∷ after) r
+    → IsKind k w.bytes → is_extra next ≡ list_any (λ v. not (is_one_of labelled v)) (take 1 after)
     → Codes.code_at before w after ≡ step_code r k w.bytes next
 agrees before after r w token.Word next o is x =
     let st : StageIs (unended before) (word w.start (is.first ∷ is.rest) ∷ after) r r.stage = subst (λ (n : List ℕ). StageIs (unended before) (word w.start n ∷ after) r r.stage) is.eq o.stage in

@@ -33,7 +33,9 @@ label-code before at b bs after false false true h e es x y z = rw (h, e, es, x,
 label-code before at b bs after false false false h e es x y z = rw (h, e, es, x, y, z) refl
 
 -- in `$c`
-pub constant-code : (before : List Word) (at b : ℕ) (bs : List ℕ) (after : List Word) (names : List (List ℕ)) (o : IsOpen (unended before) (codes "$c") names) (c ev st : Bool) → eqb b 36 ≡ false → list_any (λ b. eqb b 36) bs ≡ false
+pub constant-code : (before : List Word) (at b : ℕ) (bs : List ℕ) (after : List Word) (names : List (List ℕ))
+    (o : IsOpen (unended before) (codes "$c") names) (c ev st : Bool)
+    → eqb b 36 ≡ false → list_any (λ b. eqb b 36) bs ≡ false
     → is_constant before (word at (b ∷ bs)) ≡ c → contains (variables_ever (ended before)) (b ∷ bs) ≡ ev → contains names (b ∷ bs) ≡ st
     → code_at before (word at (b ∷ bs)) after ≡ cond (c || (ev || st)) (Some 12) None
 constant-code before at b bs after names o true ev st e es x y z = rw (o.begun.body_is, o.begun.not_empty, o.begun.not_label, o.no_proof, e, es, o.names_are, x) refl
@@ -42,7 +44,9 @@ constant-code before at b bs after names o false false true e es x y z = rw (o.b
 constant-code before at b bs after names o false false false e es x y z = rw (o.begun.body_is, o.begun.not_empty, o.begun.not_label, o.no_proof, e, es, o.names_are, x, y, z) refl
 
 -- in `$v`
-pub variable-code : (before : List Word) (at b : ℕ) (bs : List ℕ) (after : List Word) (names : List (List ℕ)) (o : IsOpen (unended before) (codes "$v") names) (c v st : Bool) → eqb b 36 ≡ false → list_any (λ b. eqb b 36) bs ≡ false
+pub variable-code : (before : List Word) (at b : ℕ) (bs : List ℕ) (after : List Word) (names : List (List ℕ))
+    (o : IsOpen (unended before) (codes "$v") names) (c v st : Bool)
+    → eqb b 36 ≡ false → list_any (λ b. eqb b 36) bs ≡ false
     → is_constant before (word at (b ∷ bs)) ≡ c → is_variable before (word at (b ∷ bs)) ≡ v → contains names (b ∷ bs) ≡ st
     → code_at before (word at (b ∷ bs)) after ≡ cond (c || (v || st)) (Some 12) None
 variable-code before at b bs after names o true v st e es x y z = rw (o.begun.body_is, o.begun.not_empty, o.begun.not_label, o.no_proof, e, es, o.names_are, x) refl
@@ -51,7 +55,9 @@ variable-code before at b bs after names o false false true e es x y z = rw (o.b
 variable-code before at b bs after names o false false false e es x y z = rw (o.begun.body_is, o.begun.not_empty, o.begun.not_label, o.no_proof, e, es, o.names_are, x, y, z) refl
 
 -- in `$d`
-pub distinct-code : (before : List Word) (at b : ℕ) (bs : List ℕ) (after : List Word) (names : List (List ℕ)) (o : IsOpen (unended before) (codes "$d") names) (v st : Bool) → eqb b 36 ≡ false → list_any (λ b. eqb b 36) bs ≡ false
+pub distinct-code : (before : List Word) (at b : ℕ) (bs : List ℕ) (after : List Word) (names : List (List ℕ))
+    (o : IsOpen (unended before) (codes "$d") names) (v st : Bool)
+    → eqb b 36 ≡ false → list_any (λ b. eqb b 36) bs ≡ false
     → is_variable before (word at (b ∷ bs)) ≡ v → contains names (b ∷ bs) ≡ st
     → code_at before (word at (b ∷ bs)) after ≡ cond (not v) (Some 13) (cond st (Some 25) None)
 distinct-code before at b bs after names o false st e es x y = rw (o.begun.body_is, o.begun.not_empty, o.begun.not_label, o.no_proof, e, es, o.names_are, x) refl
@@ -59,7 +65,8 @@ distinct-code before at b bs after names o true true e es x y = rw (o.begun.body
 distinct-code before at b bs after names o true false e es x y = rw (o.begun.body_is, o.begun.not_empty, o.begun.not_label, o.no_proof, e, es, o.names_are, x, y) refl
 
 -- first in `$f`
-pub floating-first : (before : List Word) (at b : ℕ) (bs : List ℕ) (after : List Word) (o : IsOpen (unended before) (codes "$f") []) (c v : Bool) → eqb b 36 ≡ false → list_any (λ b. eqb b 36) bs ≡ false
+pub floating-first : (before : List Word) (at b : ℕ) (bs : List ℕ) (after : List Word) (o : IsOpen (unended before) (codes "$f") []) (c v : Bool)
+    → eqb b 36 ≡ false → list_any (λ b. eqb b 36) bs ≡ false
     → is_constant before (word at (b ∷ bs)) ≡ c → is_variable before (word at (b ∷ bs)) ≡ v
     → code_at before (word at (b ∷ bs)) after ≡ cond (not c && not v) (Some 13) (cond v (Some 16) None)
 floating-first before at b bs after o true true e es x y = rw (o.begun.body_is, o.begun.not_empty, o.begun.not_label, o.no_proof, e, es, o.names_are, x, y) refl
@@ -68,7 +75,9 @@ floating-first before at b bs after o false true e es x y = rw (o.begun.body_is,
 floating-first before at b bs after o false false e es x y = rw (o.begun.body_is, o.begun.not_empty, o.begun.not_label, o.no_proof, e, es, o.names_are, x, y) refl
 
 -- second in `$f`
-pub floating-second : (before : List Word) (at b : ℕ) (bs : List ℕ) (after : List Word) (n : List ℕ) (o : IsOpen (unended before) (codes "$f") (n ∷ [])) (v t : Bool) → eqb b 36 ≡ false → list_any (λ b. eqb b 36) bs ≡ false
+pub floating-second : (before : List Word) (at b : ℕ) (bs : List ℕ) (after : List Word) (n : List ℕ)
+    (o : IsOpen (unended before) (codes "$f") (n ∷ [])) (v t : Bool)
+    → eqb b 36 ≡ false → list_any (λ b. eqb b 36) bs ≡ false
     → is_variable before (word at (b ∷ bs)) ≡ v → is_typed before (word at (b ∷ bs)) ≡ t
     → code_at before (word at (b ∷ bs)) after ≡ cond (not v) (Some 13) (cond t (Some 15) None)
 floating-second before at b bs after n o true true e es x y = rw (o.begun.body_is, o.begun.not_empty, o.begun.not_label, o.no_proof, e, es, o.names_are, x, y) refl
@@ -76,12 +85,16 @@ floating-second before at b bs after n o true false e es x y = rw (o.begun.body_
 floating-second before at b bs after n o false t e es x y = rw (o.begun.body_is, o.begun.not_empty, o.begun.not_label, o.no_proof, e, es, o.names_are, x) refl
 
 -- third in `$f`
-pub floating-third : (before : List Word) (at b : ℕ) (bs : List ℕ) (after : List Word) (m n : List ℕ) (names : List (List ℕ)) (o : IsOpen (unended before) (codes "$f") (m ∷ n ∷ names)) → eqb b 36 ≡ false → list_any (λ b. eqb b 36) bs ≡ false
+pub floating-third : (before : List Word) (at b : ℕ) (bs : List ℕ) (after : List Word) (m n : List ℕ) (names : List (List ℕ))
+    (o : IsOpen (unended before) (codes "$f") (m ∷ n ∷ names))
+    → eqb b 36 ≡ false → list_any (λ b. eqb b 36) bs ≡ false
     → code_at before (word at (b ∷ bs)) after ≡ Some 27
-floating-third before at b bs after m n names o e es = rw (o.begun.body_is, o.begun.not_empty, o.begun.not_label, o.no_proof, e, es, o.names_are, eq-suc-1 (length names), le-suc-2 (length names)) refl
+floating-third before at b bs after m n names o e es =
+    rw (o.begun.body_is, o.begun.not_empty, o.begun.not_label, o.no_proof, e, es, o.names_are, eq-suc-1 (length names), le-suc-2 (length names)) refl
 
 -- first in `$e`
-pub essential-first : (before : List Word) (at b : ℕ) (bs : List ℕ) (after : List Word) (o : IsOpen (unended before) (codes "$e") []) (c v : Bool) → eqb b 36 ≡ false → list_any (λ b. eqb b 36) bs ≡ false
+pub essential-first : (before : List Word) (at b : ℕ) (bs : List ℕ) (after : List Word) (o : IsOpen (unended before) (codes "$e") []) (c v : Bool)
+    → eqb b 36 ≡ false → list_any (λ b. eqb b 36) bs ≡ false
     → is_constant before (word at (b ∷ bs)) ≡ c → is_variable before (word at (b ∷ bs)) ≡ v
     → code_at before (word at (b ∷ bs)) after ≡ cond (not c && not v) (Some 13) (cond v (Some 16) None)
 essential-first before at b bs after o true true e es x y = rw (o.begun.body_is, o.begun.not_empty, o.begun.not_label, o.no_proof, e, es, o.names_are, x, y) refl
@@ -90,7 +103,9 @@ essential-first before at b bs after o false true e es x y = rw (o.begun.body_is
 essential-first before at b bs after o false false e es x y = rw (o.begun.body_is, o.begun.not_empty, o.begun.not_label, o.no_proof, e, es, o.names_are, x, y) refl
 
 -- past the first in `$e`
-pub essential-later : (before : List Word) (at b : ℕ) (bs : List ℕ) (after : List Word) (n : List ℕ) (names : List (List ℕ)) (o : IsOpen (unended before) (codes "$e") (n ∷ names)) (c v t : Bool) → eqb b 36 ≡ false → list_any (λ b. eqb b 36) bs ≡ false
+pub essential-later : (before : List Word) (at b : ℕ) (bs : List ℕ) (after : List Word) (n : List ℕ) (names : List (List ℕ))
+    (o : IsOpen (unended before) (codes "$e") (n ∷ names)) (c v t : Bool)
+    → eqb b 36 ≡ false → list_any (λ b. eqb b 36) bs ≡ false
     → is_constant before (word at (b ∷ bs)) ≡ c → is_variable before (word at (b ∷ bs)) ≡ v → is_typed before (word at (b ∷ bs)) ≡ t
     → code_at before (word at (b ∷ bs)) after ≡ cond (not c && not v) (Some 13) (cond (v && not t) (Some 14) None)
 essential-later before at b bs after n names o true true true e es x y z = rw (o.begun.body_is, o.begun.not_empty, o.begun.not_label, o.no_proof, e, es, o.names_are, x, y, z) refl
@@ -110,7 +125,9 @@ axiom-first before at b bs after o false true e es x y = rw (o.begun.body_is, o.
 axiom-first before at b bs after o false false e es x y = rw (o.begun.body_is, o.begun.not_empty, o.begun.not_label, o.no_proof, e, es, o.names_are, x, y) refl
 
 -- past the first in `$a`
-pub axiom-later : (before : List Word) (at b : ℕ) (bs : List ℕ) (after : List Word) (n : List ℕ) (names : List (List ℕ)) (o : IsOpen (unended before) (codes "$a") (n ∷ names)) (c v t : Bool) → eqb b 36 ≡ false → list_any (λ b. eqb b 36) bs ≡ false
+pub axiom-later : (before : List Word) (at b : ℕ) (bs : List ℕ) (after : List Word) (n : List ℕ) (names : List (List ℕ))
+    (o : IsOpen (unended before) (codes "$a") (n ∷ names)) (c v t : Bool)
+    → eqb b 36 ≡ false → list_any (λ b. eqb b 36) bs ≡ false
     → is_constant before (word at (b ∷ bs)) ≡ c → is_variable before (word at (b ∷ bs)) ≡ v → is_typed before (word at (b ∷ bs)) ≡ t
     → code_at before (word at (b ∷ bs)) after ≡ cond (not c && not v) (Some 13) (cond (v && not t) (Some 14) None)
 axiom-later before at b bs after n names o true true true e es x y z = rw (o.begun.body_is, o.begun.not_empty, o.begun.not_label, o.no_proof, e, es, o.names_are, x, y, z) refl
@@ -121,7 +138,8 @@ axiom-later before at b bs after n names o false true false e es x y z = rw (o.b
 axiom-later before at b bs after n names o false false t e es x y z = rw (o.begun.body_is, o.begun.not_empty, o.begun.not_label, o.no_proof, e, es, o.names_are, x, y) refl
 
 -- first in `$p`
-pub provable-first : (before : List Word) (at b : ℕ) (bs : List ℕ) (after : List Word) (o : IsOpen (unended before) (codes "$p") []) (c v : Bool) → eqb b 36 ≡ false → list_any (λ b. eqb b 36) bs ≡ false
+pub provable-first : (before : List Word) (at b : ℕ) (bs : List ℕ) (after : List Word) (o : IsOpen (unended before) (codes "$p") []) (c v : Bool)
+    → eqb b 36 ≡ false → list_any (λ b. eqb b 36) bs ≡ false
     → is_constant before (word at (b ∷ bs)) ≡ c → is_variable before (word at (b ∷ bs)) ≡ v
     → code_at before (word at (b ∷ bs)) after ≡ cond (not c && not v) (Some 13) (cond v (Some 16) None)
 provable-first before at b bs after o true true e es x y = rw (o.begun.body_is, o.begun.not_empty, o.begun.not_label, o.no_proof, e, es, o.names_are, x, y) refl
@@ -130,7 +148,9 @@ provable-first before at b bs after o false true e es x y = rw (o.begun.body_is,
 provable-first before at b bs after o false false e es x y = rw (o.begun.body_is, o.begun.not_empty, o.begun.not_label, o.no_proof, e, es, o.names_are, x, y) refl
 
 -- past the first in `$p`
-pub provable-later : (before : List Word) (at b : ℕ) (bs : List ℕ) (after : List Word) (n : List ℕ) (names : List (List ℕ)) (o : IsOpen (unended before) (codes "$p") (n ∷ names)) (c v t : Bool) → eqb b 36 ≡ false → list_any (λ b. eqb b 36) bs ≡ false
+pub provable-later : (before : List Word) (at b : ℕ) (bs : List ℕ) (after : List Word) (n : List ℕ) (names : List (List ℕ))
+    (o : IsOpen (unended before) (codes "$p") (n ∷ names)) (c v t : Bool)
+    → eqb b 36 ≡ false → list_any (λ b. eqb b 36) bs ≡ false
     → is_constant before (word at (b ∷ bs)) ≡ c → is_variable before (word at (b ∷ bs)) ≡ v → is_typed before (word at (b ∷ bs)) ≡ t
     → code_at before (word at (b ∷ bs)) after ≡ cond (not c && not v) (Some 13) (cond (v && not t) (Some 14) None)
 provable-later before at b bs after n names o true true true e es x y z = rw (o.begun.body_is, o.begun.not_empty, o.begun.not_label, o.no_proof, e, es, o.names_are, x, y, z) refl
@@ -141,7 +161,8 @@ provable-later before at b bs after n names o false true false e es x y z = rw (
 provable-later before at b bs after n names o false false t e es x y z = rw (o.begun.body_is, o.begun.not_empty, o.begun.not_label, o.no_proof, e, es, o.names_are, x, y) refl
 
 -- in a proof
-pub proof-word : (before : List Word) (at b : ℕ) (bs : List ℕ) (after : List Word) (names : List (List ℕ)) (o : IsProof (unended before) names) → eqb b 36 ≡ false → list_any (λ b. eqb b 36) bs ≡ false → code_at before (word at (b ∷ bs)) after ≡ None
+pub proof-word : (before : List Word) (at b : ℕ) (bs : List ℕ) (after : List Word) (names : List (List ℕ)) (o : IsProof (unended before) names)
+    → eqb b 36 ≡ false → list_any (λ b. eqb b 36) bs ≡ false → code_at before (word at (b ∷ bs)) after ≡ None
 proof-word before at b bs after names o e es = rw (o.begun.body_is, o.begun.not_empty, o.begun.not_label, o.proof, e, es) refl
 
 -- ---- `$.` and `$=`
@@ -149,61 +170,71 @@ proof-word before at b bs after names o e es = rw (o.begun.body_is, o.begun.not_
 pub constant-end-empty : (before : List Word) (at : ℕ) (after : List Word) → IsOpen (unended before) (codes "$c") [] → code_at before (word at (codes "$.")) after ≡ Some 26
 constant-end-empty before at after o = rw (o.begun.body_is, o.begun.not_empty, o.begun.not_label, o.no_proof, o.names_are) refl
 
-pub constant-end : (before : List Word) (at : ℕ) (after : List Word) (n : List ℕ) (names : List (List ℕ)) → IsOpen (unended before) (codes "$c") (n ∷ names) → code_at before (word at (codes "$.")) after ≡ None
+pub constant-end : (before : List Word) (at : ℕ) (after : List Word) (n : List ℕ) (names : List (List ℕ))
+    → IsOpen (unended before) (codes "$c") (n ∷ names) → code_at before (word at (codes "$.")) after ≡ None
 constant-end before at after n names o = rw (o.begun.body_is, o.begun.not_empty, o.begun.not_label, o.no_proof, o.names_are) refl
 
 pub constant-equals-empty : (before : List Word) (at : ℕ) (after : List Word) → IsOpen (unended before) (codes "$c") [] → code_at before (word at (codes "$=")) after ≡ Some 26
 constant-equals-empty before at after o = rw (o.begun.body_is, o.begun.not_empty, o.begun.not_label, o.no_proof, o.names_are) refl
 
-pub constant-equals : (before : List Word) (at : ℕ) (after : List Word) (n : List ℕ) (names : List (List ℕ)) → IsOpen (unended before) (codes "$c") (n ∷ names) → code_at before (word at (codes "$=")) after ≡ Some 29
+pub constant-equals : (before : List Word) (at : ℕ) (after : List Word) (n : List ℕ) (names : List (List ℕ))
+    → IsOpen (unended before) (codes "$c") (n ∷ names) → code_at before (word at (codes "$=")) after ≡ Some 29
 constant-equals before at after n names o = rw (o.begun.body_is, o.begun.not_empty, o.begun.not_label, o.no_proof, o.names_are) refl
 
 pub variable-end-empty : (before : List Word) (at : ℕ) (after : List Word) → IsOpen (unended before) (codes "$v") [] → code_at before (word at (codes "$.")) after ≡ Some 26
 variable-end-empty before at after o = rw (o.begun.body_is, o.begun.not_empty, o.begun.not_label, o.no_proof, o.names_are) refl
 
-pub variable-end : (before : List Word) (at : ℕ) (after : List Word) (n : List ℕ) (names : List (List ℕ)) → IsOpen (unended before) (codes "$v") (n ∷ names) → code_at before (word at (codes "$.")) after ≡ None
+pub variable-end : (before : List Word) (at : ℕ) (after : List Word) (n : List ℕ) (names : List (List ℕ))
+    → IsOpen (unended before) (codes "$v") (n ∷ names) → code_at before (word at (codes "$.")) after ≡ None
 variable-end before at after n names o = rw (o.begun.body_is, o.begun.not_empty, o.begun.not_label, o.no_proof, o.names_are) refl
 
 pub variable-equals-empty : (before : List Word) (at : ℕ) (after : List Word) → IsOpen (unended before) (codes "$v") [] → code_at before (word at (codes "$=")) after ≡ Some 26
 variable-equals-empty before at after o = rw (o.begun.body_is, o.begun.not_empty, o.begun.not_label, o.no_proof, o.names_are) refl
 
-pub variable-equals : (before : List Word) (at : ℕ) (after : List Word) (n : List ℕ) (names : List (List ℕ)) → IsOpen (unended before) (codes "$v") (n ∷ names) → code_at before (word at (codes "$=")) after ≡ Some 29
+pub variable-equals : (before : List Word) (at : ℕ) (after : List Word) (n : List ℕ) (names : List (List ℕ))
+    → IsOpen (unended before) (codes "$v") (n ∷ names) → code_at before (word at (codes "$=")) after ≡ Some 29
 variable-equals before at after n names o = rw (o.begun.body_is, o.begun.not_empty, o.begun.not_label, o.no_proof, o.names_are) refl
 
 pub essential-end-empty : (before : List Word) (at : ℕ) (after : List Word) → IsOpen (unended before) (codes "$e") [] → code_at before (word at (codes "$.")) after ≡ Some 26
 essential-end-empty before at after o = rw (o.begun.body_is, o.begun.not_empty, o.begun.not_label, o.no_proof, o.names_are) refl
 
-pub essential-end : (before : List Word) (at : ℕ) (after : List Word) (n : List ℕ) (names : List (List ℕ)) → IsOpen (unended before) (codes "$e") (n ∷ names) → code_at before (word at (codes "$.")) after ≡ None
+pub essential-end : (before : List Word) (at : ℕ) (after : List Word) (n : List ℕ) (names : List (List ℕ))
+    → IsOpen (unended before) (codes "$e") (n ∷ names) → code_at before (word at (codes "$.")) after ≡ None
 essential-end before at after n names o = rw (o.begun.body_is, o.begun.not_empty, o.begun.not_label, o.no_proof, o.names_are) refl
 
 pub essential-equals-empty : (before : List Word) (at : ℕ) (after : List Word) → IsOpen (unended before) (codes "$e") [] → code_at before (word at (codes "$=")) after ≡ Some 26
 essential-equals-empty before at after o = rw (o.begun.body_is, o.begun.not_empty, o.begun.not_label, o.no_proof, o.names_are) refl
 
-pub essential-equals : (before : List Word) (at : ℕ) (after : List Word) (n : List ℕ) (names : List (List ℕ)) → IsOpen (unended before) (codes "$e") (n ∷ names) → code_at before (word at (codes "$=")) after ≡ Some 29
+pub essential-equals : (before : List Word) (at : ℕ) (after : List Word) (n : List ℕ) (names : List (List ℕ))
+    → IsOpen (unended before) (codes "$e") (n ∷ names) → code_at before (word at (codes "$=")) after ≡ Some 29
 essential-equals before at after n names o = rw (o.begun.body_is, o.begun.not_empty, o.begun.not_label, o.no_proof, o.names_are) refl
 
 pub axiom-end-empty : (before : List Word) (at : ℕ) (after : List Word) → IsOpen (unended before) (codes "$a") [] → code_at before (word at (codes "$.")) after ≡ Some 26
 axiom-end-empty before at after o = rw (o.begun.body_is, o.begun.not_empty, o.begun.not_label, o.no_proof, o.names_are) refl
 
-pub axiom-end : (before : List Word) (at : ℕ) (after : List Word) (n : List ℕ) (names : List (List ℕ)) → IsOpen (unended before) (codes "$a") (n ∷ names) → code_at before (word at (codes "$.")) after ≡ None
+pub axiom-end : (before : List Word) (at : ℕ) (after : List Word) (n : List ℕ) (names : List (List ℕ))
+    → IsOpen (unended before) (codes "$a") (n ∷ names) → code_at before (word at (codes "$.")) after ≡ None
 axiom-end before at after n names o = rw (o.begun.body_is, o.begun.not_empty, o.begun.not_label, o.no_proof, o.names_are) refl
 
 pub axiom-equals-empty : (before : List Word) (at : ℕ) (after : List Word) → IsOpen (unended before) (codes "$a") [] → code_at before (word at (codes "$=")) after ≡ Some 26
 axiom-equals-empty before at after o = rw (o.begun.body_is, o.begun.not_empty, o.begun.not_label, o.no_proof, o.names_are) refl
 
-pub axiom-equals : (before : List Word) (at : ℕ) (after : List Word) (n : List ℕ) (names : List (List ℕ)) → IsOpen (unended before) (codes "$a") (n ∷ names) → code_at before (word at (codes "$=")) after ≡ Some 29
+pub axiom-equals : (before : List Word) (at : ℕ) (after : List Word) (n : List ℕ) (names : List (List ℕ))
+    → IsOpen (unended before) (codes "$a") (n ∷ names) → code_at before (word at (codes "$=")) after ≡ Some 29
 axiom-equals before at after n names o = rw (o.begun.body_is, o.begun.not_empty, o.begun.not_label, o.no_proof, o.names_are) refl
 
 pub provable-end-empty : (before : List Word) (at : ℕ) (after : List Word) → IsOpen (unended before) (codes "$p") [] → code_at before (word at (codes "$.")) after ≡ Some 26
 provable-end-empty before at after o = rw (o.begun.body_is, o.begun.not_empty, o.begun.not_label, o.no_proof, o.names_are) refl
 
-pub provable-end : (before : List Word) (at : ℕ) (after : List Word) (n : List ℕ) (names : List (List ℕ)) → IsOpen (unended before) (codes "$p") (n ∷ names) → code_at before (word at (codes "$.")) after ≡ Some 28
+pub provable-end : (before : List Word) (at : ℕ) (after : List Word) (n : List ℕ) (names : List (List ℕ))
+    → IsOpen (unended before) (codes "$p") (n ∷ names) → code_at before (word at (codes "$.")) after ≡ Some 28
 provable-end before at after n names o = rw (o.begun.body_is, o.begun.not_empty, o.begun.not_label, o.no_proof, o.names_are) refl
 
 pub provable-equals-empty : (before : List Word) (at : ℕ) (after : List Word) → IsOpen (unended before) (codes "$p") [] → code_at before (word at (codes "$=")) after ≡ Some 26
 provable-equals-empty before at after o = rw (o.begun.body_is, o.begun.not_empty, o.begun.not_label, o.no_proof, o.names_are) refl
 
-pub provable-equals : (before : List Word) (at : ℕ) (after : List Word) (n : List ℕ) (names : List (List ℕ)) → IsOpen (unended before) (codes "$p") (n ∷ names) → code_at before (word at (codes "$=")) after ≡ None
+pub provable-equals : (before : List Word) (at : ℕ) (after : List Word) (n : List ℕ) (names : List (List ℕ))
+    → IsOpen (unended before) (codes "$p") (n ∷ names) → code_at before (word at (codes "$=")) after ≡ None
 provable-equals before at after n names o = rw (o.begun.body_is, o.begun.not_empty, o.begun.not_label, o.no_proof, o.names_are) refl
 
 pub distinct-end-empty : (before : List Word) (at : ℕ) (after : List Word) → IsOpen (unended before) (codes "$d") [] → code_at before (word at (codes "$.")) after ≡ Some 24
@@ -212,7 +243,8 @@ distinct-end-empty before at after o = rw (o.begun.body_is, o.begun.not_empty, o
 pub distinct-end-short : (before : List Word) (at : ℕ) (after : List Word) (n : List ℕ) → IsOpen (unended before) (codes "$d") (n ∷ []) → code_at before (word at (codes "$.")) after ≡ Some 24
 distinct-end-short before at after n o = rw (o.begun.body_is, o.begun.not_empty, o.begun.not_label, o.names_are) refl
 
-pub distinct-end : (before : List Word) (at : ℕ) (after : List Word) (m n : List ℕ) (names : List (List ℕ)) → IsOpen (unended before) (codes "$d") (m ∷ n ∷ names) → code_at before (word at (codes "$.")) after ≡ None
+pub distinct-end : (before : List Word) (at : ℕ) (after : List Word) (m n : List ℕ) (names : List (List ℕ))
+    → IsOpen (unended before) (codes "$d") (m ∷ n ∷ names) → code_at before (word at (codes "$.")) after ≡ None
 distinct-end before at after m n names o = rw (o.begun.body_is, o.begun.not_empty, o.begun.not_label, o.names_are, lt-suc-2 (length names)) refl
 
 pub distinct-equals : (before : List Word) (at : ℕ) (after : List Word) (names : List (List ℕ)) → IsOpen (unended before) (codes "$d") names → code_at before (word at (codes "$=")) after ≡ Some 29
@@ -224,7 +256,8 @@ floating-end-empty before at after o = rw (o.begun.body_is, o.begun.not_empty, o
 pub floating-end-short : (before : List Word) (at : ℕ) (after : List Word) (n : List ℕ) → IsOpen (unended before) (codes "$f") (n ∷ []) → code_at before (word at (codes "$.")) after ≡ Some 27
 floating-end-short before at after n o = rw (o.begun.body_is, o.begun.not_empty, o.begun.not_label, o.names_are) refl
 
-pub floating-end : (before : List Word) (at : ℕ) (after : List Word) (m n : List ℕ) (names : List (List ℕ)) → IsOpen (unended before) (codes "$f") (m ∷ n ∷ names) → code_at before (word at (codes "$.")) after ≡ None
+pub floating-end : (before : List Word) (at : ℕ) (after : List Word) (m n : List ℕ) (names : List (List ℕ))
+    → IsOpen (unended before) (codes "$f") (m ∷ n ∷ names) → code_at before (word at (codes "$.")) after ≡ None
 floating-end before at after m n names o = rw (o.begun.body_is, o.begun.not_empty, o.begun.not_label, o.names_are, lt-suc-2 (length names)) refl
 
 pub floating-equals : (before : List Word) (at : ℕ) (after : List Word) (names : List (List ℕ)) → IsOpen (unended before) (codes "$f") names → code_at before (word at (codes "$=")) after ≡ Some 29
@@ -238,7 +271,8 @@ proof-equals before at after names o = rw (o.begun.body_is, o.begun.not_empty, o
 
 -- ---- the other keywords
 
-pub constants-between : (before : List Word) (at : ℕ) (after : List Word) (outside : Bool) → unended before ≡ [] → is_empty (path (ended before)) ≡ outside → code_at before (word at (codes "$c")) after ≡ cond outside None (Some 11)
+pub constants-between : (before : List Word) (at : ℕ) (after : List Word) (outside : Bool) → unended before ≡ []
+    → is_empty (path (ended before)) ≡ outside → code_at before (word at (codes "$c")) after ≡ cond outside None (Some 11)
 constants-between before at after true o p = rw (o, p) refl
 constants-between before at after false o p = rw (o, p) refl
 
@@ -269,7 +303,8 @@ end-between before at after o = rw (o) refl
 pub open-between : (before : List Word) (at : ℕ) (after : List Word) → unended before ≡ [] → code_at before (word at (codes "${")) after ≡ None
 open-between before at after o = rw (o) refl
 
-pub close-between : (before : List Word) (at : ℕ) (after : List Word) (outside : Bool) → unended before ≡ [] → is_empty (path (ended before)) ≡ outside → code_at before (word at (codes "$}")) after ≡ cond outside (Some 23) None
+pub close-between : (before : List Word) (at : ℕ) (after : List Word) (outside : Bool) → unended before ≡ []
+    → is_empty (path (ended before)) ≡ outside → code_at before (word at (codes "$}")) after ≡ cond outside (Some 23) None
 close-between before at after true o p = rw (o, p) refl
 close-between before at after false o p = rw (o, p) refl
 
@@ -279,7 +314,8 @@ include-between before at after o = refl
 pub close_include-between : (before : List Word) (at : ℕ) (after : List Word) → unended before ≡ [] → code_at before (word at (codes "$]")) after ≡ Some 29
 close_include-between before at after o = rw (o) refl
 
-pub constants-begun : (before : List Word) (at : ℕ) (after : List Word) (k : List ℕ) (outside : Bool) → IsBegun (unended before) k → is_empty (path (ended before)) ≡ outside → code_at before (word at (codes "$c")) after ≡ cond outside (Some 29) (Some 11)
+pub constants-begun : (before : List Word) (at : ℕ) (after : List Word) (k : List ℕ) (outside : Bool) → IsBegun (unended before) k
+    → is_empty (path (ended before)) ≡ outside → code_at before (word at (codes "$c")) after ≡ cond outside (Some 29) (Some 11)
 constants-begun before at after k true o p = rw (o.not_empty, o.not_label, p) refl
 constants-begun before at after k false o p = rw (o.not_empty, o.not_label, p) refl
 
@@ -304,7 +340,8 @@ provable-begun before at after k o = rw (o.not_empty, o.not_label) refl
 pub open-begun : (before : List Word) (at : ℕ) (after : List Word) (k : List ℕ) → IsBegun (unended before) k → code_at before (word at (codes "${")) after ≡ Some 29
 open-begun before at after k o = rw (o.not_empty, o.not_label) refl
 
-pub close-begun : (before : List Word) (at : ℕ) (after : List Word) (k : List ℕ) (outside : Bool) → IsBegun (unended before) k → is_empty (path (ended before)) ≡ outside → code_at before (word at (codes "$}")) after ≡ cond outside (Some 23) (Some 29)
+pub close-begun : (before : List Word) (at : ℕ) (after : List Word) (k : List ℕ) (outside : Bool) → IsBegun (unended before) k
+    → is_empty (path (ended before)) ≡ outside → code_at before (word at (codes "$}")) after ≡ cond outside (Some 23) (Some 29)
 close-begun before at after k true o p = rw (o.not_empty, o.not_label, p) refl
 close-begun before at after k false o p = rw (o.not_empty, o.not_label, p) refl
 

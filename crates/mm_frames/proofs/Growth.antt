@@ -1,5 +1,6 @@
 -- What the reader's lists become as the statement that is not ended grows.
-use Rattle.std.proofs.Common.{flat_map, ◌≡◌, ℕ, zero, suc, ◌<◌, ◌≤◌, Bool, true, false, ◌||◌, eqb, ltb, List, [], ◌∷◌, ◌++◌, length, map, reverse, refl, sym, ap, ◌∙◌, arith, subst, codes, nat_eq, inl, inr, append_assoc, append-nil}
+use Rattle.std.proofs.Common.{flat_map, ◌≡◌, ℕ, zero, suc, ◌<◌, ◌≤◌, Bool, true, false, ◌||◌, eqb, ltb, List, [], ◌∷◌, ◌++◌, length, map, reverse}
+use Rattle.std.proofs.Common.{refl, sym, ap, ◌∙◌, arith, subst, codes, nat_eq, inl, inr, append_assoc, append-nil}
 use Rattle.std.specs.List.{list_any}
 use Rattle.std.specs.Str.{bytes_eq}
 use Rattle.std.proofs.lemmas.Bool.{cases_Bool, or_parts}
@@ -56,18 +57,23 @@ pub record Grows (u v : Statement) (cs vs ts ls : List (List ℕ)) : Type 0 wher
   pub more_labels : map (λ (w : Word). w.bytes) (labels_in v) ≡ ls ++ map (λ (w : Word). w.bytes) (labels_in u)
 
 -- the symbols declared, and the labels, in order
-adds-same : (u v : Statement) (e : List Statement) → added (codes "$c") symbols_in v ≡ added (codes "$c") symbols_in u ++ [] → added (codes "$v") symbols_in v ≡ added (codes "$v") symbols_in u ++ [] → flat_map adds (reverse (u ∷ e)) ≡ flat_map adds (reverse (v ∷ e))
+adds-same : (u v : Statement) (e : List Statement) → added (codes "$c") symbols_in v ≡ added (codes "$c") symbols_in u ++ []
+    → added (codes "$v") symbols_in v ≡ added (codes "$v") symbols_in u ++ [] → flat_map adds (reverse (u ∷ e)) ≡ flat_map adds (reverse (v ∷ e))
 adds-same u v e c h =
     flat-last adds u e
     ∙ ap (λ l. flat_map adds (reverse e) ++ (l ++ added (codes "$v") symbols_in u)) (sym (append-nil (added (codes "$c") symbols_in u)) ∙ sym c)
     ∙ ap (λ l. flat_map adds (reverse e) ++ (added (codes "$c") symbols_in v ++ l)) (sym (append-nil (added (codes "$v") symbols_in u)) ∙ sym h)
     ∙ sym (flat-last adds v e)
 
-ordered-same : (u v : Statement) (e : List Statement) → map (λ (w : Word). w.bytes) (labels_in v) ≡ map (λ (w : Word). w.bytes) (labels_in u) → flat_map label_names (reverse (u ∷ e)) ≡ flat_map label_names (reverse (v ∷ e))
+ordered-same : (u v : Statement) (e : List Statement) → map (λ (w : Word). w.bytes) (labels_in v) ≡ map (λ (w : Word). w.bytes) (labels_in u)
+    → flat_map label_names (reverse (u ∷ e)) ≡ flat_map label_names (reverse (v ∷ e))
 ordered-same u v e h = flat-last label_names u e ∙ ap (λ l. flat_map label_names (reverse e) ++ l) (sym h) ∙ sym (flat-last label_names v e)
 
 -- one more constant, where the statement is no `$v`, and one more variable
-adds-constant : (u v : Statement) (e : List Statement) (n : List ℕ) → added (codes "$v") symbols_in u ≡ [] → added (codes "$c") symbols_in v ≡ added (codes "$c") symbols_in u ++ n ∷ [] → added (codes "$v") symbols_in v ≡ added (codes "$v") symbols_in u ++ [] → flat_map adds (reverse (v ∷ e)) ≡ flat_map adds (reverse (u ∷ e)) ++ n ∷ []
+adds-constant : (u v : Statement) (e : List Statement) (n : List ℕ) → added (codes "$v") symbols_in u ≡ []
+    → added (codes "$c") symbols_in v ≡ added (codes "$c") symbols_in u ++ n ∷ []
+    → added (codes "$v") symbols_in v ≡ added (codes "$v") symbols_in u ++ []
+    → flat_map adds (reverse (v ∷ e)) ≡ flat_map adds (reverse (u ∷ e)) ++ n ∷ []
 adds-constant u v e n none c h =
     let x = flat_map adds (reverse e) in
     let a = added (codes "$c") symbols_in u in
@@ -76,7 +82,9 @@ adds-constant u v e n none c h =
     let was : adds u ≡ a = ap (λ l. a ++ l) none ∙ append-nil a in
     flat-last adds v e ∙ ap (λ l. x ++ l) now ∙ sym (append_assoc x a (n ∷ [])) ∙ ap (λ l. (x ++ l) ++ n ∷ []) (sym was) ∙ ap (λ l. l ++ n ∷ []) (sym (flat-last adds u e))
 
-adds-variable : (u v : Statement) (e : List Statement) (n : List ℕ) → added (codes "$c") symbols_in v ≡ added (codes "$c") symbols_in u ++ [] → added (codes "$v") symbols_in v ≡ added (codes "$v") symbols_in u ++ n ∷ [] → flat_map adds (reverse (v ∷ e)) ≡ flat_map adds (reverse (u ∷ e)) ++ n ∷ []
+adds-variable : (u v : Statement) (e : List Statement) (n : List ℕ) → added (codes "$c") symbols_in v ≡ added (codes "$c") symbols_in u ++ []
+    → added (codes "$v") symbols_in v ≡ added (codes "$v") symbols_in u ++ n ∷ []
+    → flat_map adds (reverse (v ∷ e)) ≡ flat_map adds (reverse (u ∷ e)) ++ n ∷ []
 adds-variable u v e n c h =
     let x = flat_map adds (reverse e) in
     let a = added (codes "$c") symbols_in u in
@@ -84,7 +92,8 @@ adds-variable u v e n c h =
     let now : adds v ≡ (a ++ b) ++ n ∷ [] = ap (λ l. l ++ added (codes "$v") symbols_in v) (c ∙ append-nil a) ∙ ap (λ l. a ++ l) h ∙ sym (append_assoc a b (n ∷ [])) in
     flat-last adds v e ∙ ap (λ l. x ++ l) now ∙ sym (append_assoc x (adds u) (n ∷ [])) ∙ ap (λ l. l ++ n ∷ []) (sym (flat-last adds u e))
 
-kept-grows : (g : Statement → List (List ℕ)) (u v : Statement) (e : List Statement) (xs : List (List ℕ)) → IsPlain u → IsPlain v → g v ≡ g u ++ xs → kept (λ s. reverse (g s)) (v ∷ e) ≡ reverse xs ++ kept (λ s. reverse (g s)) (u ∷ e)
+kept-grows : (g : Statement → List (List ℕ)) (u v : Statement) (e : List Statement) (xs : List (List ℕ)) → IsPlain u → IsPlain v → g v ≡ g u ++ xs
+    → kept (λ s. reverse (g s)) (v ∷ e) ≡ reverse xs ++ kept (λ s. reverse (g s)) (u ∷ e)
 kept-grows g u v e xs p q h =
     let k = kept (λ s. reverse (g s)) e in
     kept-plain (λ s. reverse (g s)) v e q.no_open q.no_close
@@ -165,8 +174,12 @@ constant-more u v e symbols constant variables_ typed_ labels_ vs ts n g absent 
     let long = length-more symbols n in
     let now : constants (v ∷ e) ≡ (a ++ n ∷ []) ++ constants e = constants-cons v e ∙ ap (λ l. l ++ constants e) g.new_constants in
     let was : constants (u ∷ e) ≡ a ++ constants e = constants-cons u e in
-    let ever : variables_ever (v ∷ e) ≡ variables_ever (u ∷ e) = variables_ever-cons v e ∙ ap (λ l. l ++ variables_ever e) (g.more_variables ∙ append-nil (added (codes "$v") symbols_in u)) ∙ sym (variables_ever-cons u e) in
-    let now_is : (m : List ℕ) → contains (constants (v ∷ e)) m ≡ ((contains a m || (bytes_eq m n || false)) || contains (constants e) m) = λ m. ap (λ l. contains l m) now ∙ contains-append (a ++ n ∷ []) (constants e) m ∙ ap (λ b. b || contains (constants e) m) (contains-append a (n ∷ []) m) in
+    let ever : variables_ever (v ∷ e) ≡ variables_ever (u ∷ e) =
+        variables_ever-cons v e ∙ ap (λ l. l ++ variables_ever e) (g.more_variables ∙ append-nil (added (codes "$v") symbols_in u))
+            ∙ sym (variables_ever-cons u e) in
+    let now_is : (m : List ℕ) → contains (constants (v ∷ e)) m ≡ ((contains a m || (bytes_eq m n || false)) || contains (constants e) m) =
+        λ m. ap (λ l. contains l m) now ∙ contains-append (a ++ n ∷ []) (constants e) m
+            ∙ ap (λ b. b || contains (constants e) m) (contains-append a (n ∷ []) m) in
     let was_is : (m : List ℕ) → contains (constants (u ∷ e)) m ≡ (contains a m || contains (constants e) m) = λ m. ap (λ l. contains l m) was ∙ contains-append a (constants e) m in
     record {
       one = injective-more symbols n s.one absent;
@@ -197,16 +210,21 @@ constant-more u v e symbols constant variables_ typed_ labels_ vs ts n g absent 
       apart = λ i h. elim (cases_Bool (ltb i (length constant))) [
         | inl b ↦ let hc : i < length constant = grind (arith, nat_tests) in s.apart i (sym (flag-before constant true i hc) ∙ h)
         | inr b ↦ elim (cases_Bool (eqb i (length constant))) [
-          | inl q ↦ let is : i ≡ length symbols = grind (arith, nat_tests, s.all_known) in ap (λ (k : ℕ). list_any (nat_eq k) variables_) is ∙ within-absent (length symbols) variables_ s.variables_known
+          | inl q ↦ let is : i ≡ length symbols = grind (arith, nat_tests, s.all_known) in
+              ap (λ (k : ℕ). list_any (nat_eq k) variables_) is ∙ within-absent (length symbols) variables_ s.variables_known
           | inr q ↦ let past : length (constant ++ true ∷ []) ≤ i = grind (arith, nat_tests, length-more constant true) in absurd (no_flag (sym (flag-past (constant ++ true ∷ []) i past) ∙ h))
         ]
       ];
-      are_variables = names-more symbols n variables_ s.variables_known ∙ s.are_variables ∙ ap (λ l. reverse l) (sym (kept-grows (added (codes "$v") symbols_in) u v e [] g.plain g.plain_after g.more_variables));
+      are_variables =
+          names-more symbols n variables_ s.variables_known ∙ s.are_variables
+              ∙ ap (λ l. reverse l) (sym (kept-grows (added (codes "$v") symbols_in) u v e [] g.plain g.plain_after g.more_variables));
       are_typed = names-more symbols n typed_ s.typed_known ∙ s.are_typed ∙ ap (λ l. reverse l) (sym (kept-grows (added (codes "$f") types) u v e [] g.plain g.plain_after g.more_types));
       are_labels = s.are_labels ∙ ap (λ l. reverse l) (labels-cons u e ∙ ap (λ l. l ++ labels e) (sym g.more_labels) ∙ sym (labels-cons v e));
       are_v_marks = marks-grows new_variables u v e vs g.plain g.plain_after s.are_v_marks;
       are_t_marks = marks-grows new_types u v e ts g.plain g.plain_after s.are_t_marks;
-      are_symbols = ap (λ l. l ++ n ∷ []) s.are_symbols ∙ repeats-new (flat_map adds (reverse (u ∷ e))) n (ap (λ l. contains l n) (sym s.are_symbols) ∙ absent) ∙ ap (λ l. without_repeats [] l) (sym (adds-constant u v e n no_variables g.new_constants g.more_variables));
+      are_symbols =
+          ap (λ l. l ++ n ∷ []) s.are_symbols ∙ repeats-new (flat_map adds (reverse (u ∷ e))) n (ap (λ l. contains l n) (sym s.are_symbols) ∙ absent)
+              ∙ ap (λ l. without_repeats [] l) (sym (adds-constant u v e n no_variables g.new_constants g.more_variables));
       are_ordered = s.are_ordered ∙ ordered-same u v e g.more_labels;
     }
   where
@@ -232,14 +250,21 @@ variable-more u v e symbols constant variables_ typed_ labels_ vs ts n g absent 
     let same : constants (v ∷ e) ≡ constants (u ∷ e) = constants-cons v e ∙ ap (λ l. l ++ constants e) (g.new_constants ∙ append-nil (added (codes "$c") symbols_in u)) ∙ sym (constants-cons u e) in
     let now : variables_ever (v ∷ e) ≡ (a ++ n ∷ []) ++ variables_ever e = variables_ever-cons v e ∙ ap (λ l. l ++ variables_ever e) g.more_variables in
     let was : variables_ever (u ∷ e) ≡ a ++ variables_ever e = variables_ever-cons u e in
-    let now_is : (m : List ℕ) → contains (variables_ever (v ∷ e)) m ≡ ((contains a m || (bytes_eq m n || false)) || contains (variables_ever e) m) = λ m. ap (λ l. contains l m) now ∙ contains-append (a ++ n ∷ []) (variables_ever e) m ∙ ap (λ b. b || contains (variables_ever e) m) (contains-append a (n ∷ []) m) in
+    let now_is : (m : List ℕ) → contains (variables_ever (v ∷ e)) m ≡ ((contains a m || (bytes_eq m n || false)) || contains (variables_ever e) m) =
+        λ m. ap (λ l. contains l m) now ∙ contains-append (a ++ n ∷ []) (variables_ever e) m
+            ∙ ap (λ b. b || contains (variables_ever e) m) (contains-append a (n ∷ []) m) in
     let was_is : (m : List ℕ) → contains (variables_ever (u ∷ e)) m ≡ (contains a m || contains (variables_ever e) m) = λ m. ap (λ l. contains l m) was ∙ contains-append a (variables_ever e) m in
     let more_names : map (λ i. name_of (symbols ++ n ∷ []) i) (variables_ ++ length symbols ∷ []) ≡ map (λ i. name_of symbols i) variables_ ++ n ∷ [] =
-    map-append (λ i. name_of (symbols ++ n ∷ []) i) variables_ (length symbols ∷ []) ∙ ap (λ l. l ++ name_of (symbols ++ n ∷ []) (length symbols) ∷ []) (names-more symbols n variables_ s.variables_known) ∙ ap (λ m. map (λ i. name_of symbols i) variables_ ++ m ∷ []) (name_of-last symbols n) in
+    map-append (λ i. name_of (symbols ++ n ∷ []) i) variables_ (length symbols ∷ [])
+        ∙ ap (λ l. l ++ name_of (symbols ++ n ∷ []) (length symbols) ∷ []) (names-more symbols n variables_ s.variables_known)
+        ∙ ap (λ m. map (λ i. name_of symbols i) variables_ ++ m ∷ []) (name_of-last symbols n) in
     record {
       one = injective-more symbols n s.one absent;
       all_known = length-more constant false ∙ ap (λ (k : ℕ). suc k) s.all_known ∙ sym long;
-      variables_known = subst (λ (k : ℕ). Within k (variables_ ++ length symbols ∷ [])) (sym long) (within-add (suc (length symbols)) variables_ (length symbols) (within-more (length symbols) variables_ s.variables_known) (omega arith));
+      variables_known =
+          subst (λ (k : ℕ). Within k (variables_ ++ length symbols ∷ [])) (sym long)
+              (within-add (suc (length symbols)) variables_ (length symbols) (within-more (length symbols) variables_ s.variables_known)
+                  (omega arith));
       typed_known = subst (λ (k : ℕ). Within k typed_) (sym long) (within-more (length symbols) typed_ s.typed_known);
       are_constants = λ i h. elim (cases_Bool (ltb i (length symbols))) [
         | inl b ↦
@@ -269,12 +294,16 @@ variable-more u v e symbols constant variables_ typed_ labels_ vs ts n g absent 
           | inr q ↦ let past : length (constant ++ false ∷ []) ≤ i = grind (arith, nat_tests, length-more constant false) in absurd (no_flag (sym (flag-past (constant ++ false ∷ []) i past) ∙ h))
         ]
       ];
-      are_variables = more_names ∙ ap (λ l. l ++ n ∷ []) s.are_variables ∙ sym (reverse-append (n ∷ []) (kept new_variables (u ∷ e))) ∙ ap (λ l. reverse l) (sym (kept-grows (added (codes "$v") symbols_in) u v e (n ∷ []) g.plain g.plain_after g.more_variables));
+      are_variables =
+          more_names ∙ ap (λ l. l ++ n ∷ []) s.are_variables ∙ sym (reverse-append (n ∷ []) (kept new_variables (u ∷ e)))
+              ∙ ap (λ l. reverse l) (sym (kept-grows (added (codes "$v") symbols_in) u v e (n ∷ []) g.plain g.plain_after g.more_variables));
       are_typed = names-more symbols n typed_ s.typed_known ∙ s.are_typed ∙ ap (λ l. reverse l) (sym (kept-grows (added (codes "$f") types) u v e [] g.plain g.plain_after g.more_types));
       are_labels = s.are_labels ∙ ap (λ l. reverse l) (labels-cons u e ∙ ap (λ l. l ++ labels e) (sym g.more_labels) ∙ sym (labels-cons v e));
       are_v_marks = marks-grows new_variables u v e vs g.plain g.plain_after s.are_v_marks;
       are_t_marks = marks-grows new_types u v e ts g.plain g.plain_after s.are_t_marks;
-      are_symbols = ap (λ l. l ++ n ∷ []) s.are_symbols ∙ repeats-new (flat_map adds (reverse (u ∷ e))) n (ap (λ l. contains l n) (sym s.are_symbols) ∙ absent) ∙ ap (λ l. without_repeats [] l) (sym (adds-variable u v e n g.new_constants g.more_variables));
+      are_symbols =
+          ap (λ l. l ++ n ∷ []) s.are_symbols ∙ repeats-new (flat_map adds (reverse (u ∷ e))) n (ap (λ l. contains l n) (sym s.are_symbols) ∙ absent)
+              ∙ ap (λ l. without_repeats [] l) (sym (adds-variable u v e n g.new_constants g.more_variables));
       are_ordered = s.are_ordered ∙ ordered-same u v e g.more_labels;
     }
   where
@@ -292,9 +321,12 @@ variable-again u v e symbols constant variables_ typed_ labels_ vs ts i g hi fla
     let same : constants (v ∷ e) ≡ constants (u ∷ e) = constants-cons v e ∙ ap (λ l. l ++ constants e) (g.new_constants ∙ append-nil (added (codes "$c") symbols_in u)) ∙ sym (constants-cons u e) in
     let now : variables_ever (v ∷ e) ≡ (a ++ n ∷ []) ++ variables_ever e = variables_ever-cons v e ∙ ap (λ l. l ++ variables_ever e) g.more_variables in
     let was : variables_ever (u ∷ e) ≡ a ++ variables_ever e = variables_ever-cons u e in
-    let now_is : (m : List ℕ) → contains (variables_ever (v ∷ e)) m ≡ ((contains a m || (bytes_eq m n || false)) || contains (variables_ever e) m) = λ m. ap (λ l. contains l m) now ∙ contains-append (a ++ n ∷ []) (variables_ever e) m ∙ ap (λ b. b || contains (variables_ever e) m) (contains-append a (n ∷ []) m) in
+    let now_is : (m : List ℕ) → contains (variables_ever (v ∷ e)) m ≡ ((contains a m || (bytes_eq m n || false)) || contains (variables_ever e) m) =
+        λ m. ap (λ l. contains l m) now ∙ contains-append (a ++ n ∷ []) (variables_ever e) m
+            ∙ ap (λ b. b || contains (variables_ever e) m) (contains-append a (n ∷ []) m) in
     let was_is : (m : List ℕ) → contains (variables_ever (u ∷ e)) m ≡ (contains a m || contains (variables_ever e) m) = λ m. ap (λ l. contains l m) was ∙ contains-append a (variables_ever e) m in
-    let before : (m : List ℕ) → list_any (bytes_eq m) symbols ≡ (contains (constants (u ∷ e)) m || (contains a m || contains (variables_ever e) m)) = λ m. s.are_declared m ∙ ap (λ b. contains (constants (u ∷ e)) m || b) (was_is m) in
+    let before : (m : List ℕ) → list_any (bytes_eq m) symbols ≡ (contains (constants (u ∷ e)) m || (contains a m || contains (variables_ever e) m)) =
+        λ m. s.are_declared m ∙ ap (λ b. contains (constants (u ∷ e)) m || b) (was_is m) in
     record {
       one = s.one;
       all_known = s.all_known;
@@ -311,12 +343,19 @@ variable-again u v e symbols constant variables_ typed_ labels_ vs ts i g hi fla
         | inl q ↦ let is : j ≡ i = grind (arith, nat_tests) in absurd (no_flag (sym flag ∙ ap (λ (k : ℕ). is_flagged constant k) (sym is) ∙ h))
         | inr q ↦ let old = s.apart j h in list_any-append (nat_eq j) variables_ (i ∷ []) ∙ rw (old, q) refl
       ];
-      are_variables = map-append (λ k. name_of symbols k) variables_ (i ∷ []) ∙ ap (λ l. l ++ n ∷ []) s.are_variables ∙ sym (reverse-append (n ∷ []) (kept new_variables (u ∷ e))) ∙ ap (λ l. reverse l) (sym (kept-grows (added (codes "$v") symbols_in) u v e (n ∷ []) g.plain g.plain_after g.more_variables));
+      are_variables =
+          map-append (λ k. name_of symbols k) variables_ (i ∷ []) ∙ ap (λ l. l ++ n ∷ []) s.are_variables
+              ∙ sym (reverse-append (n ∷ []) (kept new_variables (u ∷ e)))
+              ∙ ap (λ l. reverse l) (sym (kept-grows (added (codes "$v") symbols_in) u v e (n ∷ []) g.plain g.plain_after g.more_variables));
       are_typed = s.are_typed ∙ ap (λ l. reverse l) (sym (kept-grows (added (codes "$f") types) u v e [] g.plain g.plain_after g.more_types));
       are_labels = s.are_labels ∙ ap (λ l. reverse l) (labels-cons u e ∙ ap (λ l. l ++ labels e) (sym g.more_labels) ∙ sym (labels-cons v e));
       are_v_marks = marks-grows new_variables u v e vs g.plain g.plain_after s.are_v_marks;
       are_t_marks = marks-grows new_types u v e ts g.plain g.plain_after s.are_t_marks;
-      are_symbols = s.are_symbols ∙ repeats-old (flat_map adds (reverse (u ∷ e))) n (ap (λ l. contains l n) (sym s.are_symbols) ∙ stands symbols n i hi ((bytes_eq-Decides n n).1 refl)) ∙ ap (λ l. without_repeats [] l) (sym (adds-variable u v e n g.new_constants g.more_variables));
+      are_symbols =
+          s.are_symbols
+              ∙ repeats-old (flat_map adds (reverse (u ∷ e))) n
+                  (ap (λ l. contains l n) (sym s.are_symbols) ∙ stands symbols n i hi ((bytes_eq-Decides n n).1 refl))
+              ∙ ap (λ l. without_repeats [] l) (sym (adds-variable u v e n g.new_constants g.more_variables));
       are_ordered = s.are_ordered ∙ ordered-same u v e g.more_labels;
     }
   where
@@ -344,7 +383,9 @@ pub typed-more : (u v : Statement) (e : List Statement) (symbols : List (List �
 typed-more u v e symbols constant variables_ typed_ labels_ vs ts i g hi s =
     let n = name_of symbols i in
     let same : constants (v ∷ e) ≡ constants (u ∷ e) = constants-cons v e ∙ ap (λ l. l ++ constants e) (g.new_constants ∙ append-nil (added (codes "$c") symbols_in u)) ∙ sym (constants-cons u e) in
-    let ever : variables_ever (v ∷ e) ≡ variables_ever (u ∷ e) = variables_ever-cons v e ∙ ap (λ l. l ++ variables_ever e) (g.more_variables ∙ append-nil (added (codes "$v") symbols_in u)) ∙ sym (variables_ever-cons u e) in
+    let ever : variables_ever (v ∷ e) ≡ variables_ever (u ∷ e) =
+        variables_ever-cons v e ∙ ap (λ l. l ++ variables_ever e) (g.more_variables ∙ append-nil (added (codes "$v") symbols_in u))
+            ∙ sym (variables_ever-cons u e) in
     record {
       one = s.one;
       all_known = s.all_known;
@@ -354,7 +395,10 @@ typed-more u v e symbols constant variables_ typed_ labels_ vs ts i g hi s =
       are_declared = λ m. s.are_declared m ∙ ap (λ l. contains l m || contains (variables_ever (u ∷ e)) m) (sym same) ∙ ap (λ l. contains (constants (v ∷ e)) m || contains l m) (sym ever);
       apart = s.apart;
       are_variables = s.are_variables ∙ ap (λ l. reverse l) (sym (kept-grows (added (codes "$v") symbols_in) u v e [] g.plain g.plain_after g.more_variables));
-      are_typed = map-append (λ k. name_of symbols k) typed_ (i ∷ []) ∙ ap (λ l. l ++ n ∷ []) s.are_typed ∙ sym (reverse-append (n ∷ []) (kept new_types (u ∷ e))) ∙ ap (λ l. reverse l) (sym (kept-grows (added (codes "$f") types) u v e (n ∷ []) g.plain g.plain_after g.more_types));
+      are_typed =
+          map-append (λ k. name_of symbols k) typed_ (i ∷ []) ∙ ap (λ l. l ++ n ∷ []) s.are_typed
+              ∙ sym (reverse-append (n ∷ []) (kept new_types (u ∷ e)))
+              ∙ ap (λ l. reverse l) (sym (kept-grows (added (codes "$f") types) u v e (n ∷ []) g.plain g.plain_after g.more_types));
       are_labels = s.are_labels ∙ ap (λ l. reverse l) (labels-cons u e ∙ ap (λ l. l ++ labels e) (sym g.more_labels) ∙ sym (labels-cons v e));
       are_v_marks = marks-grows new_variables u v e vs g.plain g.plain_after s.are_v_marks;
       are_t_marks = marks-grows new_types u v e ts g.plain g.plain_after s.are_t_marks;
@@ -369,7 +413,9 @@ pub label-more : (u v : Statement) (e : List Statement) (symbols : List (List �
     → IsState (u ∷ e) symbols constant variables_ typed_ labels_ vs ts → IsState (v ∷ e) symbols constant variables_ typed_ (labels_ ++ n ∷ []) vs ts
 label-more u v e symbols constant variables_ typed_ labels_ vs ts n g no_label s =
     let same : constants (v ∷ e) ≡ constants (u ∷ e) = constants-cons v e ∙ ap (λ l. l ++ constants e) (g.new_constants ∙ append-nil (added (codes "$c") symbols_in u)) ∙ sym (constants-cons u e) in
-    let ever : variables_ever (v ∷ e) ≡ variables_ever (u ∷ e) = variables_ever-cons v e ∙ ap (λ l. l ++ variables_ever e) (g.more_variables ∙ append-nil (added (codes "$v") symbols_in u)) ∙ sym (variables_ever-cons u e) in
+    let ever : variables_ever (v ∷ e) ≡ variables_ever (u ∷ e) =
+        variables_ever-cons v e ∙ ap (λ l. l ++ variables_ever e) (g.more_variables ∙ append-nil (added (codes "$v") symbols_in u))
+            ∙ sym (variables_ever-cons u e) in
     let now : labels (v ∷ e) ≡ n ∷ labels (u ∷ e) = labels-cons v e ∙ ap (λ l. l ++ labels e) g.more_labels ∙ ap (λ l. n ∷ l) (sym (labels-cons u e)) in
     record {
       one = s.one;
@@ -385,5 +431,9 @@ label-more u v e symbols constant variables_ typed_ labels_ vs ts n g no_label s
       are_v_marks = marks-grows new_variables u v e vs g.plain g.plain_after s.are_v_marks;
       are_t_marks = marks-grows new_types u v e ts g.plain g.plain_after s.are_t_marks;
       are_symbols = s.are_symbols ∙ ap (λ l. without_repeats [] l) (adds-same u v e g.new_constants g.more_variables);
-      are_ordered = ap (λ l. l ++ n ∷ []) (s.are_ordered ∙ flat-last label_names u e ∙ ap (λ l. flat_map label_names (reverse e) ++ l) no_label ∙ append-nil (flat_map label_names (reverse e))) ∙ sym (flat-last label_names v e ∙ ap (λ l. flat_map label_names (reverse e) ++ l) (g.more_labels ∙ ap (λ l. n ∷ l) no_label));
+      are_ordered =
+          ap (λ l. l ++ n ∷ [])
+              (s.are_ordered ∙ flat-last label_names u e ∙ ap (λ l. flat_map label_names (reverse e) ++ l) no_label
+                  ∙ append-nil (flat_map label_names (reverse e)))
+              ∙ sym (flat-last label_names v e ∙ ap (λ l. flat_map label_names (reverse e) ++ l) (g.more_labels ∙ ap (λ l. n ∷ l) no_label));
     }

@@ -1,5 +1,7 @@
 -- From token to token: what was read, and that no fault stands before.
-use Rattle.std.proofs.Common.{◌≡◌, ℕ, zero, suc, ◌+◌, ◌<◌, ◌≤◌, ◌^◌, Bool, true, false, cond, not, ◌||◌, List, [], ◌∷◌, ◌++◌, length, take, drop, map, reverse, Option, None, Some, refl, sym, ap, ◌∙◌, subst, arith, option_map, slice_range, slice_get, slice_index_or, position}
+use Rattle.std.proofs.Common.{◌≡◌, ℕ, zero, suc, ◌+◌, ◌<◌, ◌≤◌, ◌^◌, Bool, true, false, cond, not, ◌||◌, List, [], ◌∷◌, ◌++◌, length, take, drop, map}
+use Rattle.std.proofs.Common.{reverse, Option, None, Some, refl, sym, ap, ◌∙◌, subst, arith, option_map, slice_range, slice_get, slice_index_or}
+use Rattle.std.proofs.Common.{position}
 use mathlib.Core.List.{reverse_aux}
 use Rattle.std.specs.List.{list_any}
 use Rattle.std.specs.Str.{bytes_eq}
@@ -23,7 +25,8 @@ use Rattle.mm_frames.specs.declared.reader.Meaning.TheVariants as meant
 use Rattle.mm_frames.specs.declared.scopes.Scope.{Scope}
 use Rattle.mm_frames.specs.Kinds.{wants_label, is_extra}
 use Rattle.mm_frames.specs.Faults.{IsFault}
-use Rattle.mm_frames.specs.Reading.{IsReady, FailsAt, first_reader, noted, noted_at, meaning_of, with_distinct, with_floating, with_symbol, with_variable_at, with_symbol_of, with_word_at, with_close_at, with_token, step_code, last_code, last_code_at}
+use Rattle.mm_frames.specs.Reading.{IsReady, FailsAt, first_reader, noted, noted_at, meaning_of, with_distinct, with_floating, with_symbol}
+use Rattle.mm_frames.specs.Reading.{with_variable_at, with_symbol_of, with_word_at, with_close_at, with_token, step_code, last_code, last_code_at}
 use Rattle.mm_frames.proofs.Names.{length-more, within-absent}
 use Rattle.mm_frames.proofs.Codes.{code_at}
 use Rattle.mm_frames.proofs.SoFar.{IsKind, IsReader, StageIs}
@@ -273,7 +276,8 @@ first-more [] v h = absurd (clash h)
     clash e = cc
 first-more (w ∷ u) v h = refl
 
-begins-noted : (u : Statement) (e : List Statement) (after : List Word) (r : Reader) (w : Word) (s : Stage) → StageIs u after r s → More u e r → first_byte (u ++ w ∷ []) ≡ (noted_at s r w.start).begins
+begins-noted : (u : Statement) (e : List Statement) (after : List Word) (r : Reader) (w : Word) (s : Stage) → StageIs u after r s → More u e r
+    → first_byte (u ++ w ∷ []) ≡ (noted_at s r w.start).begins
 begins-noted u e after r w stage.Between h m = ap (λ (v : Statement). first_byte (v ++ w ∷ [])) h.0
 begins-noted u e after r w stage.Labelled h m = let n : is_empty u ≡ false = ap (λ (v : Statement). is_empty v) h.0.is in first-more u (w ∷ []) n ∙ m.begins_are n
 begins-noted u e after r w (stage.Symbols k) h m = first-more u (w ∷ []) h.begun.not_empty ∙ m.begins_are h.begun.not_empty
@@ -287,7 +291,9 @@ goes-noted text i b r stage.Between q g =
       after = g.after;
       turned = g.turned;
       behind = g.behind;
-      reader = record { state = g.reader.state; stage = stage-noted (unended g.before) g.after r b r.stage g.reader.stage; formula_known = g.reader.formula_known; listed_known = g.reader.listed_known };
+      reader =
+          record { state = g.reader.state; stage = stage-noted (unended g.before) g.after r b r.stage g.reader.stage;
+              formula_known = g.reader.formula_known; listed_known = g.reader.listed_known };
       no_fault = g.no_fault;
       more = more-noted (unended g.before) (ended g.before) r b h.0 q g.more;
       few_symbols = g.few_symbols;
@@ -317,11 +323,13 @@ pub record Next (text : List ℕ) (i : ℕ) (r : Reader) (next : Option TokenKin
   pub within : w.start + length w.bytes ≤ length text
   pub next_is : is_extra next ≡ list_any (λ v. not (is_one_of labelled v)) (take 1 after)
 
-extra-of : (text : List ℕ) (after : List Word) → Each (Stands text) after → Each IsGood after → is_extra (option_map (λ (t : Token). t.kind) (first_token after)) ≡ list_any (λ v. not (is_one_of labelled v)) (take 1 after)
+extra-of : (text : List ℕ) (after : List Word) → Each (Stands text) after → Each IsGood after
+    → is_extra (option_map (λ (t : Token). t.kind) (first_token after)) ≡ list_any (λ v. not (is_one_of labelled v)) (take 1 after)
 extra-of text [] s g = refl
 extra-of text (v ∷ vs) s g = ap (λ (b : Bool). not b) (wants-law (kind_of v) v (token-kind text v s.0 g.0)) ∙ sym (or-none (not (is_one_of labelled v)))
 
-next-token : (text : List ℕ) (i : ℕ) (r : Reader) (next : Option TokenKind) → token_fault text ≡ None → i < length (tokens text) → next ≡ option_map (λ (t : Token). t.kind) (slice_get (map token_of (tokens text)) (i + 1)) → GoesTo text i r → Next text i r next
+next-token : (text : List ℕ) (i : ℕ) (r : Reader) (next : Option TokenKind) → token_fault text ≡ None → i < length (tokens text)
+    → next ≡ option_map (λ (t : Token). t.kind) (slice_get (map token_of (tokens text)) (i + 1)) → GoesTo text i r → Next text i r next
 next-token text i r next good h n g =
     let d = drop-some (tokens text) i h in
     let w = d.0 in
@@ -331,7 +339,10 @@ next-token text i r next good h n g =
     let stand : Each (Stands text) (w ∷ rest) = subst (λ ws. Each (Stands text) ws) d.2 (each-drop (Stands text) (tokens text) i (tokens-stand text)) in
     let goods : Each IsGood (w ∷ rest) = subst (λ ws. Each IsGood ws) d.2 (each-drop IsGood (tokens text) i (tokens-good text good)) in
     let one : i + 1 ≡ suc i = omega arith in
-    let kinds : next ≡ option_map (λ (t : Token). t.kind) (first_token rest) = n ∙ ap (λ (k : ℕ). option_map (λ (t : Token). t.kind) (slice_get (map token_of (tokens text)) k)) one ∙ ap (λ (o : Option Token). option_map (λ (t : Token). t.kind) o) (get-drop (tokens text) (suc i)) ∙ ap (λ ws. option_map (λ (t : Token). t.kind) (first_token ws)) later in
+    let kinds : next ≡ option_map (λ (t : Token). t.kind) (first_token rest) =
+        n ∙ ap (λ (k : ℕ). option_map (λ (t : Token). t.kind) (slice_get (map token_of (tokens text)) k)) one
+            ∙ ap (λ (o : Option Token). option_map (λ (t : Token). t.kind) o) (get-drop (tokens text) (suc i))
+            ∙ ap (λ ws. option_map (λ (t : Token). t.kind) (first_token ws)) later in
     record {
       before = g.before;
       w = w;
@@ -353,7 +364,8 @@ next-token text i r next good h n g =
 abbrev bytes_of : List ℕ → Token → List ℕ
 bytes_of text t = slice_range text t.start t.«end»
 
-later : (before : List Word) (w : Word) (after : List Word) → code_at before w after ≡ None → first_fault_within place token_rules before (w ∷ after) ≡ first_fault_within place token_rules (w ∷ before) after
+later : (before : List Word) (w : Word) (after : List Word) → code_at before w after ≡ None
+    → first_fault_within place token_rules before (w ∷ after) ≡ first_fault_within place token_rules (w ∷ before) after
 later before w after h = ap (λ (o : Option ℕ). or_else (option_map (λ code. fault w.start code) o) (first_fault_within place token_rules (w ∷ before) after)) h
 
 here : (before : List Word) (w : Word) (after : List Word) (c : ℕ) → code_at before w after ≡ Some c → first_fault_within place token_rules before (w ∷ after) ≡ Some (fault w.start c)
@@ -365,18 +377,26 @@ noted-twice p b stage.Labelled h = ap (λ (t : Stage). noted_at t p b) (sym h)
 noted-twice p b (stage.Symbols k) h = ap (λ (t : Stage). noted_at t p b) (sym h)
 noted-twice p b (stage.Proof from) h = ap (λ (t : Stage). noted_at t p b) (sym h)
 
-pub goes-to : (text : List ℕ) (i : ℕ) (p r q : Reader) (t d : Token) (next : Option TokenKind) → token_fault text ≡ None → i < length (tokens text) → next ≡ option_map (λ (t : Token). t.kind) (slice_get (map token_of (tokens text)) (i + 1)) → GoesTo text i r → r ≡ noted p t.start
+pub goes-to : (text : List ℕ) (i : ℕ) (p r q : Reader) (t d : Token) (next : Option TokenKind) → token_fault text ≡ None → i < length (tokens text)
+    → next ≡ option_map (λ (t : Token). t.kind) (slice_get (map token_of (tokens text)) (i + 1)) → GoesTo text i r → r ≡ noted p t.start
     → t ≡ slice_index_or (map token_of (tokens text)) i d → step_code r t.kind (bytes_of text t) next ≡ None → q ≡ with_token r t.kind (bytes_of text t) t.start t.«end» → GoesTo text (i + 1) q
 goes-to text i p r q t d next good h n g was is none then =
     let x = next-token text i r next good h n g in
     let w = x.w in
     let same : t ≡ token_of w = is ∙ x.is_token d in
-    let code : step_code r (kind_of w) w.bytes next ≡ None = ap (λ l. step_code r (kind_of w) l next) (sym x.bytes_are) ∙ ap (λ (u : Token). step_code r u.kind (bytes_of text u) next) (sym same) ∙ none in
-    let now : q ≡ with_token r (kind_of w) w.bytes w.start (token_of w).«end» = then ∙ ap (λ (u : Token). with_token r u.kind (bytes_of text u) u.start u.«end») same ∙ ap (λ l. with_token r (kind_of w) l w.start (token_of w).«end») x.bytes_are in
+    let code : step_code r (kind_of w) w.bytes next ≡ None =
+        ap (λ l. step_code r (kind_of w) l next) (sym x.bytes_are) ∙ ap (λ (u : Token). step_code r u.kind (bytes_of text u) next) (sym same)
+            ∙ none in
+    let now : q ≡ with_token r (kind_of w) w.bytes w.start (token_of w).«end» =
+        then ∙ ap (λ (u : Token). with_token r u.kind (bytes_of text u) u.start u.«end») same
+            ∙ ap (λ l. with_token r (kind_of w) l w.start (token_of w).«end») x.bytes_are in
     let reads = goes x.before x.after r w (kind_of w) next w.start (token_of w).«end» x.reader x.is_kind x.next_is code in
     let no_code : code_at x.before w x.after ≡ None = agrees x.before x.after r w (kind_of w) next x.reader x.is_kind x.next_is ∙ code in
-    let kept : noted r w.start ≡ r = ap (λ (v : Reader). noted v w.start) (was ∙ ap (λ (u : Token). noted p u.start) same) ∙ noted-twice p w.start p.stage refl ∙ sym (was ∙ ap (λ (u : Token). noted p u.start) same) in
-    let begun : first_byte (unended x.before ++ w ∷ []) ≡ r.begins = begins-noted (unended x.before) (ended x.before) (w ∷ x.after) r w r.stage x.reader.stage x.more ∙ ap (λ (v : Reader). v.begins) kept in
+    let kept : noted r w.start ≡ r =
+        ap (λ (v : Reader). noted v w.start) (was ∙ ap (λ (u : Token). noted p u.start) same) ∙ noted-twice p w.start p.stage refl
+            ∙ sym (was ∙ ap (λ (u : Token). noted p u.start) same) in
+    let begun : first_byte (unended x.before ++ w ∷ []) ≡ r.begins =
+        begins-noted (unended x.before) (ended x.before) (w ∷ x.after) r w r.stage x.reader.stage x.more ∙ ap (λ (v : Reader). v.begins) kept in
     let all = more-goes x.before x.after r w (kind_of w) next x.reader x.more begun x.is_kind code in
     let f = few r (kind_of w) w.bytes w.start (token_of w).«end» in
     let one : i + 1 ≡ suc i = omega arith in
@@ -394,15 +414,21 @@ goes-to text i p r q t d next good h n g was is none then =
     } in
     subst (λ (p : Reader). GoesTo text (i + 1) p) (sym now) (subst (λ (k : ℕ). GoesTo text k (with_token r (kind_of w) w.bytes w.start (token_of w).«end»)) (sym one) end_)
 
-pub fails-at : (text : List ℕ) (i : ℕ) (r : Reader) (t d : Token) (next : Option TokenKind) (e : ReadFault) → token_fault text ≡ None → i < length (tokens text) → next ≡ option_map (λ (t : Token). t.kind) (slice_get (map token_of (tokens text)) (i + 1)) → GoesTo text i r
+pub fails-at : (text : List ℕ) (i : ℕ) (r : Reader) (t d : Token) (next : Option TokenKind) (e : ReadFault) → token_fault text ≡ None
+    → i < length (tokens text) → next ≡ option_map (λ (t : Token). t.kind) (slice_get (map token_of (tokens text)) (i + 1)) → GoesTo text i r
     → t ≡ slice_index_or (map token_of (tokens text)) i d → FailsAt e t.start (step_code r t.kind (bytes_of text t) next) → IsFault e (statement_fault text)
 fails-at text i r t d next e good h n g is fails =
     let x = next-token text i r next good h n g in
     let w = x.w in
     let same : t ≡ token_of w = is ∙ x.is_token d in
-    let code : step_code r t.kind (bytes_of text t) next ≡ code_at x.before w x.after = ap (λ (u : Token). step_code r u.kind (bytes_of text u) next) same ∙ ap (λ l. step_code r (kind_of w) l next) x.bytes_are ∙ sym (agrees x.before x.after r w (kind_of w) next x.reader x.is_kind x.next_is) in
-    let there : FailsAt e w.start (code_at x.before w x.after) = subst (λ (o : Option ℕ). FailsAt e w.start o) code (subst (λ (u : Token). FailsAt e u.start (step_code r t.kind (bytes_of text t) next)) same fails) in
-    fault-at e w.start (code_at x.before w x.after) (statement_fault text) there (λ c k. ap (λ (o : Option Fault). or_else o (end_fault (length text) (reverse (tokens text)))) (x.no_fault ∙ here x.before w x.after c k))
+    let code : step_code r t.kind (bytes_of text t) next ≡ code_at x.before w x.after =
+        ap (λ (u : Token). step_code r u.kind (bytes_of text u) next) same ∙ ap (λ l. step_code r (kind_of w) l next) x.bytes_are
+            ∙ sym (agrees x.before x.after r w (kind_of w) next x.reader x.is_kind x.next_is) in
+    let there : FailsAt e w.start (code_at x.before w x.after) =
+        subst (λ (o : Option ℕ). FailsAt e w.start o) code
+            (subst (λ (u : Token). FailsAt e u.start (step_code r t.kind (bytes_of text t) next)) same fails) in
+    fault-at e w.start (code_at x.before w x.after) (statement_fault text) there
+        (λ c k. ap (λ (o : Option Fault). or_else o (end_fault (length text) (reverse (tokens text)))) (x.no_fault ∙ here x.before w x.after c k))
 
 -- ---- what a step asks for
 
@@ -416,7 +442,8 @@ ready text i r small h g =
       next_is_new = within-absent (length r.symbols) r.variables g.reader.state.variables_known;
     }
 
-pub order : (text : List ℕ) (i : ℕ) (r : Reader) (t d : Token) → token_fault text ≡ None → i < length (tokens text) → GoesTo text i r → t ≡ slice_index_or (map token_of (tokens text)) i d → (t.start ≤ t.«end») × (t.«end» ≤ length text)
+pub order : (text : List ℕ) (i : ℕ) (r : Reader) (t d : Token) → token_fault text ≡ None → i < length (tokens text) → GoesTo text i r
+    → t ≡ slice_index_or (map token_of (tokens text)) i d → (t.start ≤ t.«end») × (t.«end» ≤ length text)
 order text i r t d good h g is =
     let x = next-token text i r (option_map (λ (t : Token). t.kind) (slice_get (map token_of (tokens text)) (i + 1))) good h refl g in
     let both : ((token_of x.w).start ≤ (token_of x.w).«end») × ((token_of x.w).«end» ≤ length text) = (omega arith, x.within) in
@@ -424,7 +451,8 @@ order text i r t d good h g is =
 
 -- ---- the end
 
-end-agrees : (len : ℕ) (before : List Word) (r : Reader) (s : Stage) → StageIs (unended before) [] r s → is_empty (path (ended before)) ≡ is_empty r.scopes → end_fault len before ≡ option_map (λ c. fault len c) (last_code_at s r)
+end-agrees : (len : ℕ) (before : List Word) (r : Reader) (s : Stage) → StageIs (unended before) [] r s
+    → is_empty (path (ended before)) ≡ is_empty r.scopes → end_fault len before ≡ option_map (λ c. fault len c) (last_code_at s r)
 end-agrees len before r stage.Between h o = let e = h.0 in rw (e, o) (by_scopes (is_empty r.scopes))
   where
     by_scopes : (b : Bool) → cond (not b) (Some (fault len 22)) None ≡ option_map (λ c. fault len c) (cond b None (Some 22))
@@ -453,4 +481,6 @@ pub ends-well : (text : List ℕ) (i : ℕ) (r : Reader) → length (tokens text
 ends-well text i r h g none = last-fault text i r h g ∙ ap (λ (o : Option ℕ). option_map (λ c. fault (length text) c) o) none
 
 pub ends-badly : (text : List ℕ) (i : ℕ) (r : Reader) (e : ReadFault) → length (tokens text) ≤ i → GoesTo text i r → FailsAt e (length text) (last_code r) → IsFault e (statement_fault text)
-ends-badly text i r e h g fails = fault-at e (length text) (last_code r) (statement_fault text) fails (λ c k. last-fault text i r h g ∙ ap (λ (o : Option ℕ). option_map (λ c. fault (length text) c) o) k)
+ends-badly text i r e h g fails =
+    fault-at e (length text) (last_code r) (statement_fault text) fails
+        (λ c k. last-fault text i r h g ∙ ap (λ (o : Option ℕ). option_map (λ c. fault (length text) c) o) k)

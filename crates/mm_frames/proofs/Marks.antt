@@ -15,7 +15,8 @@ pub listed-is : (k : List ℕ) (f : Statement → List (List ℕ)) (ss : List St
 listed-is k f [] = refl
 listed-is k f (s ∷ ss) = listed-cons k f s ss ∙ ap (λ l. added k f s ++ l) (listed-is k f ss)
 
-pub kept-plain : {X : Type 0} (g : Statement → List X) (s : Statement) (e : List Statement) → has_keyword (codes "${") s ≡ false → has_keyword (codes "$}") s ≡ false → kept g (s ∷ e) ≡ g s ++ kept g e
+pub kept-plain : {X : Type 0} (g : Statement → List X) (s : Statement) (e : List Statement) → has_keyword (codes "${") s ≡ false
+    → has_keyword (codes "$}") s ≡ false → kept g (s ∷ e) ≡ g s ++ kept g e
 kept-plain g s e o c = ap (λ ss. flat_map g ss) (active-plain s e o c)
 
 pub kept-open : {X : Type 0} (g : Statement → List X) (s : Statement) (e : List Statement) → has_keyword (codes "${") s ≡ true → kept g (s ∷ e) ≡ g s ++ kept g e
@@ -27,20 +28,26 @@ Marks g e k [] = length (path e) ≡ k
 Marks g e k (m ∷ ms) = (k < length (path e)) × (m ≡ length (flat_map g (active_on (drop (suc k) (path e)) e))) × Marks g e (suc k) ms
 
 -- a statement that opens and closes no block leaves the marks
-pub marks-plain : {X : Type 0} (g : Statement → List X) (s : Statement) (e : List Statement) (k : ℕ) (ms : List ℕ) → has_keyword (codes "${") s ≡ false → has_keyword (codes "$}") s ≡ false → Marks g e k ms → Marks g (s ∷ e) k ms
+pub marks-plain : {X : Type 0} (g : Statement → List X) (s : Statement) (e : List Statement) (k : ℕ) (ms : List ℕ)
+    → has_keyword (codes "${") s ≡ false → has_keyword (codes "$}") s ≡ false → Marks g e k ms → Marks g (s ∷ e) k ms
 marks-plain g s e k [] o c h = ap (λ (p : List ℕ). length p) (path-plain s e o c) ∙ h
 marks-plain g s e k (m ∷ ms) o c h =
     let there : 0 < length (path e) = omega (arith, h.0) in
     let deep : k < length (path (s ∷ e)) = subst (λ (p : List ℕ). k < length p) (sym (path-plain s e o c)) h.0 in
-    let same : active_on (drop (suc k) (path (s ∷ e))) (s ∷ e) ≡ active_on (drop (suc k) (path e)) e = ap (λ (p : List ℕ). active_on (drop (suc k) p) (s ∷ e)) (path-plain s e o c) ∙ active_on-skip (drop (suc k) (path e)) s e (length-drop-lt k (path e) there) in
+    let same : active_on (drop (suc k) (path (s ∷ e))) (s ∷ e) ≡ active_on (drop (suc k) (path e)) e =
+        ap (λ (p : List ℕ). active_on (drop (suc k) p) (s ∷ e)) (path-plain s e o c)
+            ∙ active_on-skip (drop (suc k) (path e)) s e (length-drop-lt k (path e) there) in
     (deep, h.1 ∙ ap (λ (ss : List Statement). length (flat_map g ss)) (sym same), marks-plain g s e (suc k) ms o c h.2)
 
-pub marks-back : {X : Type 0} (g : Statement → List X) (s : Statement) (e : List Statement) (k : ℕ) (ms : List ℕ) → has_keyword (codes "${") s ≡ false → has_keyword (codes "$}") s ≡ false → Marks g (s ∷ e) k ms → Marks g e k ms
+pub marks-back : {X : Type 0} (g : Statement → List X) (s : Statement) (e : List Statement) (k : ℕ) (ms : List ℕ) → has_keyword (codes "${") s ≡ false
+    → has_keyword (codes "$}") s ≡ false → Marks g (s ∷ e) k ms → Marks g e k ms
 marks-back g s e k [] o c h = sym (ap (λ (p : List ℕ). length p) (path-plain s e o c)) ∙ h
 marks-back g s e k (m ∷ ms) o c h =
     let deep : k < length (path e) = subst (λ (p : List ℕ). k < length p) (path-plain s e o c) h.0 in
     let there : 0 < length (path e) = omega (arith, deep) in
-    let same : active_on (drop (suc k) (path (s ∷ e))) (s ∷ e) ≡ active_on (drop (suc k) (path e)) e = ap (λ (p : List ℕ). active_on (drop (suc k) p) (s ∷ e)) (path-plain s e o c) ∙ active_on-skip (drop (suc k) (path e)) s e (length-drop-lt k (path e) there) in
+    let same : active_on (drop (suc k) (path (s ∷ e))) (s ∷ e) ≡ active_on (drop (suc k) (path e)) e =
+        ap (λ (p : List ℕ). active_on (drop (suc k) p) (s ∷ e)) (path-plain s e o c)
+            ∙ active_on-skip (drop (suc k) (path e)) s e (length-drop-lt k (path e) there) in
     (deep, h.1 ∙ ap (λ (ss : List Statement). length (flat_map g ss)) same, marks-back g s e (suc k) ms o c h.2)
 
 -- `${` notes the length that is there
@@ -50,10 +57,13 @@ marks-under g s e k (m ∷ ms) o h =
     let there : 0 < length (path e) = omega (arith, h.0) in
     let more : suc k < length (length e ∷ path e) = omega (arith, h.0) in
     let deep : suc k < length (path (s ∷ e)) = subst (λ (p : List ℕ). suc k < length p) (sym (path-open s e o)) more in
-    let same : active_on (drop (suc (suc k)) (path (s ∷ e))) (s ∷ e) ≡ active_on (drop (suc k) (path e)) e = ap (λ (p : List ℕ). active_on (drop (suc (suc k)) p) (s ∷ e)) (path-open s e o) ∙ active_on-skip (drop (suc k) (path e)) s e (length-drop-lt k (path e) there) in
+    let same : active_on (drop (suc (suc k)) (path (s ∷ e))) (s ∷ e) ≡ active_on (drop (suc k) (path e)) e =
+        ap (λ (p : List ℕ). active_on (drop (suc (suc k)) p) (s ∷ e)) (path-open s e o)
+            ∙ active_on-skip (drop (suc k) (path e)) s e (length-drop-lt k (path e) there) in
     (deep, h.1 ∙ ap (λ (ss : List Statement). length (flat_map g ss)) (sym same), marks-under g s e (suc k) ms o h.2)
 
-pub marks-open : {X : Type 0} (g : Statement → List X) (s : Statement) (e : List Statement) (m : ℕ) (ms : List ℕ) → has_keyword (codes "${") s ≡ true → g s ≡ [] → m ≡ length (kept g e) → Marks g e 0 ms → Marks g (s ∷ e) 0 (m ∷ ms)
+pub marks-open : {X : Type 0} (g : Statement → List X) (s : Statement) (e : List Statement) (m : ℕ) (ms : List ℕ) → has_keyword (codes "${") s ≡ true
+    → g s ≡ [] → m ≡ length (kept g e) → Marks g e 0 ms → Marks g (s ∷ e) 0 (m ∷ ms)
 marks-open g s e m ms o none h marks =
     let first : 0 < length (length e ∷ path e) = omega arith in
     let deep : 0 < length (path (s ∷ e)) = subst (λ (p : List ℕ). 0 < length p) (sym (path-open s e o)) first in
@@ -62,7 +72,8 @@ marks-open g s e m ms o none h marks =
     (deep, h ∙ ap (λ l. length l) (sym same), marks-under g s e 0 ms o marks)
 
 -- `$}` takes the innermost mark off
-marks-over : {X : Type 0} (g : Statement → List X) (s : Statement) (e : List Statement) (k : ℕ) (ms : List ℕ) → has_keyword (codes "${") s ≡ false → has_keyword (codes "$}") s ≡ true → 0 < length (path e) → Marks g e (suc k) ms → Marks g (s ∷ e) k ms
+marks-over : {X : Type 0} (g : Statement → List X) (s : Statement) (e : List Statement) (k : ℕ) (ms : List ℕ) → has_keyword (codes "${") s ≡ false
+    → has_keyword (codes "$}") s ≡ true → 0 < length (path e) → Marks g e (suc k) ms → Marks g (s ∷ e) k ms
 marks-over g s e k [] o c there h = ap (λ (p : List ℕ). length p) (path-close s e o c) ∙ shorter (path e) k h
   where
     shorter : (p : List ℕ) (k : ℕ) → length p ≡ suc k → length (drop 1 p) ≡ k
@@ -72,14 +83,17 @@ marks-over g s e k (m ∷ ms) o c there h =
     let less : k < length (drop 1 (path e)) = within (path e) k h.0 in
     let deep : k < length (path (s ∷ e)) = subst (λ (p : List ℕ). k < length p) (sym (path-close s e o c)) less in
     let same : active_on (drop (suc k) (path (s ∷ e))) (s ∷ e) ≡ active_on (drop (suc (suc k)) (path e)) e =
-    ap (λ (p : List ℕ). active_on (drop (suc k) p) (s ∷ e)) (path-close s e o c) ∙ ap (λ (p : List ℕ). active_on p (s ∷ e)) (drop-tail (suc k) (path e)) ∙ active_on-skip (drop (suc (suc k)) (path e)) s e (length-drop-lt (suc k) (path e) there) in
+    ap (λ (p : List ℕ). active_on (drop (suc k) p) (s ∷ e)) (path-close s e o c)
+        ∙ ap (λ (p : List ℕ). active_on p (s ∷ e)) (drop-tail (suc k) (path e))
+        ∙ active_on-skip (drop (suc (suc k)) (path e)) s e (length-drop-lt (suc k) (path e) there) in
     (deep, h.1 ∙ ap (λ (ss : List Statement). length (flat_map g ss)) (sym same), marks-over g s e (suc k) ms o c there h.2)
   where
     within : (p : List ℕ) (k : ℕ) → suc k < length p → k < length (drop 1 p)
     within [] k h = let bad : ⊥ = omega arith in absurd bad
     within (n ∷ p) k h = omega arith
 
-pub marks-close : {X : Type 0} (g : Statement → List X) (s : Statement) (e : List Statement) (m : ℕ) (ms : List ℕ) → has_keyword (codes "${") s ≡ false → has_keyword (codes "$}") s ≡ true → Marks g e 0 (m ∷ ms) → Marks g (s ∷ e) 0 ms
+pub marks-close : {X : Type 0} (g : Statement → List X) (s : Statement) (e : List Statement) (m : ℕ) (ms : List ℕ)
+    → has_keyword (codes "${") s ≡ false → has_keyword (codes "$}") s ≡ true → Marks g e 0 (m ∷ ms) → Marks g (s ∷ e) 0 ms
 marks-close g s e m ms o c marks = marks-over g s e 0 ms o c marks.0 marks.2
 
 -- `$}` cuts a list that the reader keeps back to the innermost mark
@@ -87,7 +101,8 @@ take-front : {X : Type 0} (xs ys : List X) → take (length xs) (xs ++ ys) ≡ x
 take-front [] ys = refl
 take-front (x ∷ xs) ys = ap (λ l. x ∷ l) (take-front xs ys)
 
-pub kept-close : {X : Type 0} (g : Statement → List X) (s : Statement) (e : List Statement) (m : ℕ) (ms : List ℕ) → has_keyword (codes "${") s ≡ false → has_keyword (codes "$}") s ≡ true → Marks g e 0 (m ∷ ms) → take m (reverse (kept g e)) ≡ reverse (kept g (s ∷ e))
+pub kept-close : {X : Type 0} (g : Statement → List X) (s : Statement) (e : List Statement) (m : ℕ) (ms : List ℕ) → has_keyword (codes "${") s ≡ false
+    → has_keyword (codes "$}") s ≡ true → Marks g e 0 (m ∷ ms) → take m (reverse (kept g e)) ≡ reverse (kept g (s ∷ e))
 kept-close g s e m ms o c marks =
     let i = nested e 0 marks.0 in
     let outer = flat_map g (active_on (drop 1 (path e)) e) in

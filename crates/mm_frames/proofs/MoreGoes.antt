@@ -1,5 +1,6 @@
 -- What a token adds to the statements that the reader keeps.
-use Rattle.std.proofs.Common.{◌⊎◌, eqb, ◌≡◌, ℕ, suc, ◌+◌, Bool, true, false, cond, not, List, [], ◌∷◌, ◌++◌, length, map, reverse, Option, None, Some, refl, sym, ap, ◌∙◌, subst, codes, find, position, arith, inl, inr, append-nil}
+use Rattle.std.proofs.Common.{◌⊎◌, eqb, ◌≡◌, ℕ, suc, ◌+◌, Bool, true, false, cond, not, List, [], ◌∷◌, ◌++◌, length, map, reverse, Option, None, Some}
+use Rattle.std.proofs.Common.{refl, sym, ap, ◌∙◌, subst, codes, find, position, arith, inl, inr, append-nil}
 use Rattle.std.specs.List.{list_any}
 use Rattle.std.specs.Str.{bytes_eq}
 use Rattle.std.proofs.lemmas.List.{map-append, length-map, reverse-append}
@@ -21,14 +22,17 @@ use Rattle.mm_frames.specs.declared.reader.Meaning.{Meaning}
 use Rattle.mm_frames.specs.declared.reader.Meaning.TheVariants as meant
 use Rattle.mm_frames.specs.declared.scopes.Scope.{Scope}
 use Rattle.frame_lists.specs.Entries.{kind_in, first_byte, proof_of}
-use Rattle.mm_frames.specs.Reading.{meaning_of, with_distinct, with_floating, with_symbol, with_variable_at, with_symbol_of, with_word_at, with_stage, with_proof, with_end, with_open, with_close_at, with_token, step_code, word_code_at, between_code_at, labelled_code_at, equals_code_at, end_code_at, close_code_at, ended_entry_at, entry_of}
+use Rattle.mm_frames.specs.Reading.{meaning_of, with_distinct, with_floating, with_symbol, with_variable_at, with_symbol_of, with_word_at, with_stage}
+use Rattle.mm_frames.specs.Reading.{with_proof, with_end, with_open, with_close_at, with_token, step_code, word_code_at, between_code_at}
+use Rattle.mm_frames.specs.Reading.{labelled_code_at, equals_code_at, end_code_at, close_code_at, ended_entry_at, entry_of}
 use Rattle.mm_model.proofs.Scopes.{cond_then, cond_else}
 use Rattle.mm_frames.proofs.Numbers.{name_of, Within}
 use Rattle.mm_frames.proofs.Names.{length-more}
 use Rattle.mm_model.proofs.Lists.{ended-on, unended-on}
 use Rattle.mm_frames.proofs.Shapes.{IsBegun, IsOpen, IsProof, begun-more, labels-more, symbols-of, symbols-same, keyword-is}
 use Rattle.mm_frames.proofs.SoFar.{keyword, IsKind, formula_names, names_for, IsClear, StageIs, IsReader}
-use Rattle.mm_frames.proofs.More.{Described, described, shown, Known, ProofIs, Doubled, More, shown-more, known-more, known-end, positions-of, positions-same, positions-empty, find-last, find-more, no-ends}
+use Rattle.mm_frames.proofs.More.{Described, described, shown, Known, ProofIs, Doubled, More, shown-more, known-more, known-end, positions-of}
+use Rattle.mm_frames.proofs.More.{positions-same, positions-empty, find-last, find-more, no-ends}
 
 -- the statements that are ended stay, and so do the labels' places
 pub record Same (r q : Reader) : Type 0 where
@@ -85,17 +89,23 @@ doubled-symbol-of r n kind.Provable h = tt
 
 -- ---- a token that ends no statement
 
-entries-on : (ds : List Described) (r q : Reader) → Same r q → map (shown r.symbols) r.entries ≡ ds → Known (length r.symbols) r.entries → (map (shown q.symbols) q.entries ≡ ds) × Known (length q.symbols) q.entries
+entries-on : (ds : List Described) (r q : Reader) → Same r q → map (shown r.symbols) r.entries ≡ ds → Known (length r.symbols) r.entries
+    → (map (shown q.symbols) q.entries ≡ ds) × Known (length q.symbols) q.entries
 entries-on ds r q s a k = elim s.symbols [
-  | inl e ↦ (ap (λ xs. map (shown q.symbols) xs) s.entries ∙ ap (λ l. map (shown l) r.entries) e ∙ a, subst (λ xs. Known (length q.symbols) xs) (sym s.entries) (subst (λ l. Known (length l) r.entries) (sym e) k))
+  | inl e ↦
+      (ap (λ xs. map (shown q.symbols) xs) s.entries ∙ ap (λ l. map (shown l) r.entries) e ∙ a,
+          subst (λ xs. Known (length q.symbols) xs) (sym s.entries) (subst (λ l. Known (length l) r.entries) (sym e) k))
   | inr e ↦
       let n : List ℕ = e.0 in
       let longer : length (r.symbols ++ n ∷ []) ≡ suc (length r.symbols) = length-more r.symbols n in
       let known : Known (length (r.symbols ++ n ∷ [])) r.entries = subst (λ (len : ℕ). Known len r.entries) (sym longer) (known-more (length r.symbols) r.entries k) in
-      (ap (λ xs. map (shown q.symbols) xs) s.entries ∙ ap (λ l. map (shown l) r.entries) e.1 ∙ shown-more r.symbols n r.entries k ∙ a, subst (λ xs. Known (length q.symbols) xs) (sym s.entries) (subst (λ l. Known (length l) r.entries) (sym e.1) known))
+      (ap (λ xs. map (shown q.symbols) xs) s.entries ∙ ap (λ l. map (shown l) r.entries) e.1 ∙ shown-more r.symbols n r.entries k ∙ a,
+          subst (λ xs. Known (length q.symbols) xs) (sym s.entries) (subst (λ l. Known (length l) r.entries) (sym e.1) known))
 ]
 
-more-on : (u v : Statement) (e : List Statement) (r q : Reader) → More u e r → (map (shown q.symbols) q.entries ≡ map described (reverse e)) × Known (length q.symbols) q.entries → q.positions ≡ r.positions → q.begins ≡ r.begins → labels_in v ≡ labels_in u → first_byte v ≡ r.begins → ProofIs v q.stage → Doubled q q.stage → More v e q
+more-on : (u v : Statement) (e : List Statement) (r q : Reader) → More u e r
+    → (map (shown q.symbols) q.entries ≡ map described (reverse e)) × Known (length q.symbols) q.entries → q.positions ≡ r.positions
+    → q.begins ≡ r.begins → labels_in v ≡ labels_in u → first_byte v ≡ r.begins → ProofIs v q.stage → Doubled q q.stage → More v e q
 more-on u v e r q m x p b l f h d = record {
   positions_are = p ∙ m.positions_are ∙ positions-same u v e l;
   entries_are = x.0;
@@ -115,13 +125,18 @@ two-codes : (b : Bool) (c d : ℕ) → cond b (Some c) (Some d) ≡ None → ⊥
 two-codes true c d h = some-none c h
 two-codes false c d h = some-none d h
 
-label-more : (at b : ℕ) (bs : List ℕ) (e : List Statement) (r : Reader) → eqb b 36 ≡ false → list_any (λ b. eqb b 36) bs ≡ false → More [] e r → at ≡ r.begins → More (word at (b ∷ bs) ∷ []) e (with_word_at stage.Between r (b ∷ bs))
+label-more : (at b : ℕ) (bs : List ℕ) (e : List Statement) (r : Reader) → eqb b 36 ≡ false → list_any (λ b. eqb b 36) bs ≡ false → More [] e r
+    → at ≡ r.begins → More (word at (b ∷ bs) ∷ []) e (with_word_at stage.Between r (b ∷ bs))
 label-more at b bs e r d ds m f =
     let w = word at (b ∷ bs) in
     let one : labels_in (w ∷ []) ≡ w ∷ [] = rw (d, ds) refl in
-    let count : length r.entries ≡ 0 + length (reverse e) = sym (length-map r.entries (shown r.symbols)) ∙ ap (λ l. length l) m.entries_are ∙ length-map (reverse e) described ∙ (let zero_ : length (reverse e) ≡ 0 + length (reverse e) = omega arith in zero_) in
+    let count : length r.entries ≡ 0 + length (reverse e) =
+        sym (length-map r.entries (shown r.symbols)) ∙ ap (λ l. length l) m.entries_are ∙ length-map (reverse e) described
+            ∙ (let zero_ : length (reverse e) ≡ 0 + length (reverse e) = omega arith in zero_) in
     record {
-      positions_are = ap (λ l. l ++ length r.entries ∷ []) (m.positions_are ∙ positions-empty e) ∙ ap (λ (n : ℕ). positions_from 0 (reverse e) ++ n ∷ []) count ∙ ap (λ ws. positions_from 0 (reverse e) ++ map (λ (w : Word). 0 + length (reverse e)) ws) (sym one) ∙ sym (positions-of (w ∷ []) e);
+      positions_are =
+          ap (λ l. l ++ length r.entries ∷ []) (m.positions_are ∙ positions-empty e) ∙ ap (λ (n : ℕ). positions_from 0 (reverse e) ++ n ∷ []) count
+              ∙ ap (λ ws. positions_from 0 (reverse e) ++ map (λ (w : Word). 0 + length (reverse e)) ws) (sym one) ∙ sym (positions-of (w ∷ []) e);
       entries_are = m.entries_are;
       known = m.known;
       begins_are = λ n. f;
@@ -129,8 +144,10 @@ label-more at b bs e r d ds m f =
       doubled = tt;
     }
 
-pub word-more : (u : Statement) (e : List Statement) (after : List Word) (r : Reader) (at b : ℕ) (bs : List ℕ) (next : Option TokenKind) (s : Stage) → s ≡ r.stage → eqb b 36 ≡ false → list_any (λ b. eqb b 36) bs ≡ false
-    → StageIs u after r s → More u e r → first_byte (u ++ word at (b ∷ bs) ∷ []) ≡ r.begins → word_code_at s r (b ∷ bs) next ≡ None → More (u ++ word at (b ∷ bs) ∷ []) e (with_word_at s r (b ∷ bs))
+pub word-more : (u : Statement) (e : List Statement) (after : List Word) (r : Reader) (at b : ℕ) (bs : List ℕ) (next : Option TokenKind) (s : Stage)
+    → s ≡ r.stage → eqb b 36 ≡ false → list_any (λ b. eqb b 36) bs ≡ false
+    → StageIs u after r s → More u e r → first_byte (u ++ word at (b ∷ bs) ∷ []) ≡ r.begins → word_code_at s r (b ∷ bs) next ≡ None
+        → More (u ++ word at (b ∷ bs) ∷ []) e (with_word_at s r (b ∷ bs))
 word-more u e after r at b bs next stage.Between i d ds h m f none =
     let first : More [] e r = subst (λ (v : Statement). More v e r) h.0 m in
     let starts : at ≡ r.begins = ap (λ (v : Statement). first_byte (v ++ word at (b ∷ bs) ∷ [])) (sym h.0) ∙ f in
@@ -142,7 +159,8 @@ word-more u e after r at b bs next (stage.Symbols k) i d ds h m f none =
     let s = same-symbol-of r n k in
     let q = with_symbol_of r k n in
     let stage_is : stage.Symbols k ≡ q.stage = i ∙ sym s.stage in
-    more-on u (u ++ w ∷ []) e r q m (entries-on (map described (reverse e)) r q s m.entries_are m.known) s.positions s.begins (labels-more u (w ∷ []) (word h.begun.at (keyword k)) h.begun.rest h.begun.body_is) f
+    more-on u (u ++ w ∷ []) e r q m (entries-on (map described (reverse e)) r q s m.entries_are m.known) s.positions s.begins
+        (labels-more u (w ∷ []) (word h.begun.at (keyword k)) h.begun.rest h.begun.body_is) f
     (subst (λ (t : Stage). ProofIs (u ++ w ∷ []) t) stage_is (no-proof (u ++ w ∷ []) k))
     (subst (λ (t : Stage). Doubled q t) stage_is (doubled-symbol-of r n k (subst (λ (t : Stage). Doubled r t) (sym i) m.doubled)))
 word-more u e after r at b bs next (stage.Proof from) i d ds h m f none =
@@ -166,25 +184,39 @@ clear-doubled r kind.Provable c = tt
 stage-more : (u v : Statement) (e : List Statement) (r : Reader) (k : StatementKind) → IsClear r → More u e r → labels_in v ≡ labels_in u → first_byte v ≡ r.begins → More v e (with_stage r k)
 stage-more u v e r k c m l f = more-on u v e r (with_stage r k) m (m.entries_are, m.known) refl refl l f tt (clear-doubled r k c)
 
-constants-more : (u : Statement) (e : List Statement) (after : List Word) (r : Reader) (at : ℕ) (s : Stage) → StageIs u after r s → More u e r → first_byte (u ++ word at (codes "$c") ∷ []) ≡ r.begins → between_code_at s r ≡ None → More (u ++ word at (codes "$c") ∷ []) e (with_stage r kind.Constants)
-constants-more u e after r at stage.Between h m f none = stage-more u (u ++ word at (codes "$c") ∷ []) e r kind.Constants h.1 m (ap (λ (v : Statement). labels_in (v ++ word at (codes "$c") ∷ [])) h.0 ∙ ap (λ (v : Statement). labels_in v) (sym h.0)) f
+constants-more : (u : Statement) (e : List Statement) (after : List Word) (r : Reader) (at : ℕ) (s : Stage) → StageIs u after r s → More u e r
+    → first_byte (u ++ word at (codes "$c") ∷ []) ≡ r.begins → between_code_at s r ≡ None
+    → More (u ++ word at (codes "$c") ∷ []) e (with_stage r kind.Constants)
+constants-more u e after r at stage.Between h m f none =
+    stage-more u (u ++ word at (codes "$c") ∷ []) e r kind.Constants h.1 m
+        (ap (λ (v : Statement). labels_in (v ++ word at (codes "$c") ∷ [])) h.0 ∙ ap (λ (v : Statement). labels_in v) (sym h.0)) f
 constants-more u e after r at stage.Labelled h m f none = absurd (some-none 29 none)
 constants-more u e after r at (stage.Symbols k) h m f none = absurd (some-none 29 none)
 constants-more u e after r at (stage.Proof from) h m f none = absurd (some-none 29 none)
 
-variables-more : (u : Statement) (e : List Statement) (after : List Word) (r : Reader) (at : ℕ) (s : Stage) → StageIs u after r s → More u e r → first_byte (u ++ word at (codes "$v") ∷ []) ≡ r.begins → between_code_at s r ≡ None → More (u ++ word at (codes "$v") ∷ []) e (with_stage r kind.Variables)
-variables-more u e after r at stage.Between h m f none = stage-more u (u ++ word at (codes "$v") ∷ []) e r kind.Variables h.1 m (ap (λ (v : Statement). labels_in (v ++ word at (codes "$v") ∷ [])) h.0 ∙ ap (λ (v : Statement). labels_in v) (sym h.0)) f
+variables-more : (u : Statement) (e : List Statement) (after : List Word) (r : Reader) (at : ℕ) (s : Stage) → StageIs u after r s → More u e r
+    → first_byte (u ++ word at (codes "$v") ∷ []) ≡ r.begins → between_code_at s r ≡ None
+    → More (u ++ word at (codes "$v") ∷ []) e (with_stage r kind.Variables)
+variables-more u e after r at stage.Between h m f none =
+    stage-more u (u ++ word at (codes "$v") ∷ []) e r kind.Variables h.1 m
+        (ap (λ (v : Statement). labels_in (v ++ word at (codes "$v") ∷ [])) h.0 ∙ ap (λ (v : Statement). labels_in v) (sym h.0)) f
 variables-more u e after r at stage.Labelled h m f none = absurd (some-none 29 none)
 variables-more u e after r at (stage.Symbols k) h m f none = absurd (some-none 29 none)
 variables-more u e after r at (stage.Proof from) h m f none = absurd (some-none 29 none)
 
-distinct-more : (u : Statement) (e : List Statement) (after : List Word) (r : Reader) (at : ℕ) (s : Stage) → StageIs u after r s → More u e r → first_byte (u ++ word at (codes "$d") ∷ []) ≡ r.begins → between_code_at s r ≡ None → More (u ++ word at (codes "$d") ∷ []) e (with_stage r kind.Distinct)
-distinct-more u e after r at stage.Between h m f none = stage-more u (u ++ word at (codes "$d") ∷ []) e r kind.Distinct h.1 m (ap (λ (v : Statement). labels_in (v ++ word at (codes "$d") ∷ [])) h.0 ∙ ap (λ (v : Statement). labels_in v) (sym h.0)) f
+distinct-more : (u : Statement) (e : List Statement) (after : List Word) (r : Reader) (at : ℕ) (s : Stage) → StageIs u after r s → More u e r
+    → first_byte (u ++ word at (codes "$d") ∷ []) ≡ r.begins → between_code_at s r ≡ None
+    → More (u ++ word at (codes "$d") ∷ []) e (with_stage r kind.Distinct)
+distinct-more u e after r at stage.Between h m f none =
+    stage-more u (u ++ word at (codes "$d") ∷ []) e r kind.Distinct h.1 m
+        (ap (λ (v : Statement). labels_in (v ++ word at (codes "$d") ∷ [])) h.0 ∙ ap (λ (v : Statement). labels_in v) (sym h.0)) f
 distinct-more u e after r at stage.Labelled h m f none = absurd (some-none 29 none)
 distinct-more u e after r at (stage.Symbols k) h m f none = absurd (some-none 29 none)
 distinct-more u e after r at (stage.Proof from) h m f none = absurd (some-none 29 none)
 
-floating-more : (u : Statement) (e : List Statement) (after : List Word) (r : Reader) (at : ℕ) (s : Stage) → StageIs u after r s → More u e r → first_byte (u ++ word at (codes "$f") ∷ []) ≡ r.begins → labelled_code_at s r ≡ None → More (u ++ word at (codes "$f") ∷ []) e (with_stage r kind.Floating)
+floating-more : (u : Statement) (e : List Statement) (after : List Word) (r : Reader) (at : ℕ) (s : Stage) → StageIs u after r s → More u e r
+    → first_byte (u ++ word at (codes "$f") ∷ []) ≡ r.begins → labelled_code_at s r ≡ None
+    → More (u ++ word at (codes "$f") ∷ []) e (with_stage r kind.Floating)
 floating-more u e after r at stage.Labelled h m f none =
     let x : Word = h.0.label in
     let i : is_word x ≡ true = h.0.is_name in
@@ -195,7 +227,9 @@ floating-more u e after r at stage.Between h m f none = absurd (some-none 18 non
 floating-more u e after r at (stage.Symbols k) h m f none = absurd (some-none 18 none)
 floating-more u e after r at (stage.Proof from) h m f none = absurd (some-none 18 none)
 
-essential-more : (u : Statement) (e : List Statement) (after : List Word) (r : Reader) (at : ℕ) (s : Stage) → StageIs u after r s → More u e r → first_byte (u ++ word at (codes "$e") ∷ []) ≡ r.begins → labelled_code_at s r ≡ None → More (u ++ word at (codes "$e") ∷ []) e (with_stage r kind.Essential)
+essential-more : (u : Statement) (e : List Statement) (after : List Word) (r : Reader) (at : ℕ) (s : Stage) → StageIs u after r s → More u e r
+    → first_byte (u ++ word at (codes "$e") ∷ []) ≡ r.begins → labelled_code_at s r ≡ None
+    → More (u ++ word at (codes "$e") ∷ []) e (with_stage r kind.Essential)
 essential-more u e after r at stage.Labelled h m f none =
     let x : Word = h.0.label in
     let i : is_word x ≡ true = h.0.is_name in
@@ -206,7 +240,9 @@ essential-more u e after r at stage.Between h m f none = absurd (some-none 18 no
 essential-more u e after r at (stage.Symbols k) h m f none = absurd (some-none 18 none)
 essential-more u e after r at (stage.Proof from) h m f none = absurd (some-none 18 none)
 
-axiom-more : (u : Statement) (e : List Statement) (after : List Word) (r : Reader) (at : ℕ) (s : Stage) → StageIs u after r s → More u e r → first_byte (u ++ word at (codes "$a") ∷ []) ≡ r.begins → labelled_code_at s r ≡ None → More (u ++ word at (codes "$a") ∷ []) e (with_stage r kind.Axiom)
+axiom-more : (u : Statement) (e : List Statement) (after : List Word) (r : Reader) (at : ℕ) (s : Stage) → StageIs u after r s → More u e r
+    → first_byte (u ++ word at (codes "$a") ∷ []) ≡ r.begins → labelled_code_at s r ≡ None
+    → More (u ++ word at (codes "$a") ∷ []) e (with_stage r kind.Axiom)
 axiom-more u e after r at stage.Labelled h m f none =
     let x : Word = h.0.label in
     let i : is_word x ≡ true = h.0.is_name in
@@ -217,7 +253,9 @@ axiom-more u e after r at stage.Between h m f none = absurd (some-none 18 none)
 axiom-more u e after r at (stage.Symbols k) h m f none = absurd (some-none 18 none)
 axiom-more u e after r at (stage.Proof from) h m f none = absurd (some-none 18 none)
 
-provable-more : (u : Statement) (e : List Statement) (after : List Word) (r : Reader) (at : ℕ) (s : Stage) → StageIs u after r s → More u e r → first_byte (u ++ word at (codes "$p") ∷ []) ≡ r.begins → labelled_code_at s r ≡ None → More (u ++ word at (codes "$p") ∷ []) e (with_stage r kind.Provable)
+provable-more : (u : Statement) (e : List Statement) (after : List Word) (r : Reader) (at : ℕ) (s : Stage) → StageIs u after r s → More u e r
+    → first_byte (u ++ word at (codes "$p") ∷ []) ≡ r.begins → labelled_code_at s r ≡ None
+    → More (u ++ word at (codes "$p") ∷ []) e (with_stage r kind.Provable)
 provable-more u e after r at stage.Labelled h m f none =
     let x : Word = h.0.label in
     let i : is_word x ≡ true = h.0.is_name in
@@ -229,13 +267,16 @@ provable-more u e after r at (stage.Symbols k) h m f none = absurd (some-none 18
 provable-more u e after r at (stage.Proof from) h m f none = absurd (some-none 18 none)
 
 -- `$=`
-proof-more : (u : Statement) (e : List Statement) (r : Reader) (at : ℕ) → IsOpen u (codes "$p") (formula_names r) → More u e r → first_byte (u ++ word at (codes "$=") ∷ []) ≡ r.begins → More (u ++ word at (codes "$=") ∷ []) e (with_proof r (at + 2))
+proof-more : (u : Statement) (e : List Statement) (r : Reader) (at : ℕ) → IsOpen u (codes "$p") (formula_names r) → More u e r
+    → first_byte (u ++ word at (codes "$=") ∷ []) ≡ r.begins → More (u ++ word at (codes "$=") ∷ []) e (with_proof r (at + 2))
 proof-more u e r at o m f =
     let w : Word = word at (codes "$=") in
     more-on u (u ++ w ∷ []) e r (with_proof r (at + 2)) m (m.entries_are, m.known) refl refl (labels-more u (w ∷ []) (word o.begun.at (codes "$p")) o.begun.rest o.begun.body_is) f
     (w, find-last (is (codes "$=")) u w o.no_proof refl, refl) tt
 
-equals-more : (u : Statement) (e : List Statement) (after : List Word) (r : Reader) (at : ℕ) (s : Stage) → StageIs u after r s → More u e r → first_byte (u ++ word at (codes "$=") ∷ []) ≡ r.begins → equals_code_at s r ≡ None → More (u ++ word at (codes "$=") ∷ []) e (with_proof r (at + 2))
+equals-more : (u : Statement) (e : List Statement) (after : List Word) (r : Reader) (at : ℕ) (s : Stage) → StageIs u after r s → More u e r
+    → first_byte (u ++ word at (codes "$=") ∷ []) ≡ r.begins → equals_code_at s r ≡ None
+    → More (u ++ word at (codes "$=") ∷ []) e (with_proof r (at + 2))
 equals-more u e after r at stage.Between h m f none = absurd (some-none 29 none)
 equals-more u e after r at stage.Labelled h m f none = absurd (some-none 29 none)
 equals-more u e after r at (stage.Symbols kind.Constants) h m f none = absurd (two-codes (is_empty r.formula) 26 29 none)
@@ -261,16 +302,24 @@ kind-of v kind.Provable o = rw o.body_is refl
 no-proof-in : (v : Statement) (k : List ℕ) → IsBegun v k → bytes_eq k (codes "$p") ≡ false → proof_of v ≡ None
 no-proof-in v k o h = let e : has_keyword (codes "$p") v ≡ false = keyword-is v k (codes "$p") o ∙ rw h refl in cond_else (has_keyword (codes "$p") v) (proof_in v) None e
 
-all-entries : (v : Statement) (e : List Statement) (r : Reader) (x : Entry) (q : Reader) → map (shown r.symbols) r.entries ≡ map described (reverse e) → shown r.symbols x ≡ described v → q.symbols ≡ r.symbols → q.entries ≡ r.entries ++ x ∷ [] → map (shown q.symbols) q.entries ≡ map described (reverse (v ∷ e))
+all-entries : (v : Statement) (e : List Statement) (r : Reader) (x : Entry) (q : Reader) → map (shown r.symbols) r.entries ≡ map described (reverse e)
+    → shown r.symbols x ≡ described v → q.symbols ≡ r.symbols → q.entries ≡ r.entries ++ x ∷ []
+    → map (shown q.symbols) q.entries ≡ map described (reverse (v ∷ e))
 all-entries v e r x q a h qs qe =
     ap (λ xs. map (shown q.symbols) xs) qe ∙ ap (λ l. map (shown l) (r.entries ++ x ∷ [])) qs ∙ map-append (shown r.symbols) r.entries (x ∷ [])
     ∙ ap (λ l. l ++ shown r.symbols x ∷ []) a ∙ ap (λ d. map described (reverse e) ++ d ∷ []) h
     ∙ sym (map-append described (reverse e) (v ∷ [])) ∙ ap (λ ss. map described ss) (sym (reverse-append (v ∷ []) e))
 
 -- a block's statement
-entry-more : (v : Statement) (e : List Statement) (r : Reader) (x : Entry) (start : ℕ) → More [] e r → shown r.symbols x ≡ described v → labels_in v ≡ [] → Within (length r.symbols) (map (λ (s : Sym). s.0) x.symbols) → (q : Reader) → q.symbols ≡ r.symbols → q.entries ≡ r.entries ++ x ∷ [] → q.positions ≡ r.positions → q.stage ≡ stage.Between → More [] (v ∷ e) q
+entry-more : (v : Statement) (e : List Statement) (r : Reader) (x : Entry) (start : ℕ) → More [] e r → shown r.symbols x ≡ described v
+    → labels_in v ≡ [] → Within (length r.symbols) (map (λ (s : Sym). s.0) x.symbols) → (q : Reader) → q.symbols ≡ r.symbols
+    → q.entries ≡ r.entries ++ x ∷ [] → q.positions ≡ r.positions → q.stage ≡ stage.Between → More [] (v ∷ e) q
 entry-more v e r x start m h l w q qs qe qp qt = record {
-  positions_are = qp ∙ m.positions_are ∙ positions-empty e ∙ sym (positions-empty (v ∷ e) ∙ positions-of v e ∙ ap (λ ws. positions_from 0 (reverse e) ++ map (λ (w : Word). 0 + length (reverse e)) ws) l ∙ append-nil (positions_from 0 (reverse e)));
+  positions_are =
+      qp ∙ m.positions_are ∙ positions-empty e
+          ∙ sym
+              (positions-empty (v ∷ e) ∙ positions-of v e ∙ ap (λ ws. positions_from 0 (reverse e) ++ map (λ (w : Word). 0 + length (reverse e)) ws) l
+                  ∙ append-nil (positions_from 0 (reverse e)));
   entries_are = all-entries v e r x q m.entries_are h qs qe;
   known = subst (λ l. Known (length l) q.entries) (sym qs) (subst (λ xs. Known (length r.symbols) xs) (sym qe) (known-end (length r.symbols) r.entries x m.known w));
   begins_are = λ n. absurd (clash n);
@@ -281,13 +330,18 @@ entry-more v e r x start m h l w q qs qe qp qt = record {
     clash : true ≡ false → ⊥
     clash e = cc
 
-block-more : (v : Statement) (e : List Statement) (r : Reader) (k : EntryKind) → More [] e r → described v ≡ record { kind = k; start = r.begins; names = []; proof = None } → labels_in v ≡ [] → (q : Reader) → q.symbols ≡ r.symbols → q.entries ≡ r.entries ++ (record { kind = k; start = r.begins; symbols = []; proof = None }) ∷ [] → q.positions ≡ r.positions → q.stage ≡ stage.Between → More [] (v ∷ e) q
+block-more : (v : Statement) (e : List Statement) (r : Reader) (k : EntryKind) → More [] e r
+    → described v ≡ record { kind = k; start = r.begins; names = []; proof = None } → labels_in v ≡ [] → (q : Reader) → q.symbols ≡ r.symbols
+    → q.entries ≡ r.entries ++ (record { kind = k; start = r.begins; symbols = []; proof = None }) ∷ [] → q.positions ≡ r.positions
+    → q.stage ≡ stage.Between → More [] (v ∷ e) q
 block-more v e r k m h l q qs qe qp qt = entry-more v e r (record { kind = k; start = r.begins; symbols = []; proof = None }) 0 m (sym h) l tt q qs qe qp qt
 
 abbrev a_block : EntryKind → ℕ → Described
 a_block k b = record { kind = k; start = b; names = []; proof = None }
 
-open-more : (u : Statement) (e : List Statement) (after : List Word) (r : Reader) (at : ℕ) (s : Stage) → s ≡ r.stage → StageIs u after r s → More u e r → first_byte (u ++ word at (codes "${") ∷ []) ≡ r.begins → between_code_at s r ≡ None → More [] ((u ++ word at (codes "${") ∷ []) ∷ e) (with_open r)
+open-more : (u : Statement) (e : List Statement) (after : List Word) (r : Reader) (at : ℕ) (s : Stage) → s ≡ r.stage → StageIs u after r s
+    → More u e r → first_byte (u ++ word at (codes "${") ∷ []) ≡ r.begins → between_code_at s r ≡ None
+    → More [] ((u ++ word at (codes "${") ∷ []) ∷ e) (with_open r)
 open-more u e after r at stage.Between i h m f none =
     let w : Word = word at (codes "${") in
     let first : More [] e r = subst (λ (v : Statement). More v e r) h.0 m in
@@ -298,7 +352,9 @@ open-more u e after r at stage.Labelled i h m f none = absurd (some-none 29 none
 open-more u e after r at (stage.Symbols k) i h m f none = absurd (some-none 29 none)
 open-more u e after r at (stage.Proof from) i h m f none = absurd (some-none 29 none)
 
-close-more : (u : Statement) (e : List Statement) (after : List Word) (r : Reader) (at : ℕ) (s : Stage) (ss : List Scope) → s ≡ r.stage → StageIs u after r s → More u e r → first_byte (u ++ word at (codes "$}") ∷ []) ≡ r.begins → close_code_at ss r ≡ None → More [] ((u ++ word at (codes "$}") ∷ []) ∷ e) (with_close_at ss r)
+close-more : (u : Statement) (e : List Statement) (after : List Word) (r : Reader) (at : ℕ) (s : Stage) (ss : List Scope) → s ≡ r.stage
+    → StageIs u after r s → More u e r → first_byte (u ++ word at (codes "$}") ∷ []) ≡ r.begins → close_code_at ss r ≡ None
+    → More [] ((u ++ word at (codes "$}") ∷ []) ∷ e) (with_close_at ss r)
 close-more u e after r at s [] i h m f none = absurd (some-none 23 none)
 close-more u e after r at stage.Between (c ∷ cs) i h m f none =
     let w : Word = word at (codes "$}") in
@@ -314,14 +370,17 @@ abbrev a_statement : EntryKind → ℕ → List (List ℕ) → Option (ℕ × �
 a_statement k b names proof = record { kind = k; start = b; names = names; proof = proof }
 
 -- `$.`
-end-entry : (v : Statement) (k : StatementKind) (r : Reader) (proof : Option (ℕ × ℕ)) → IsBegun v (keyword k) → first_byte v ≡ r.begins → formula_names r ≡ symbols_in v → proof_of v ≡ proof → shown r.symbols (entry_of r k proof) ≡ described v
+end-entry : (v : Statement) (k : StatementKind) (r : Reader) (proof : Option (ℕ × ℕ)) → IsBegun v (keyword k) → first_byte v ≡ r.begins
+    → formula_names r ≡ symbols_in v → proof_of v ≡ proof → shown r.symbols (entry_of r k proof) ≡ described v
 end-entry v k r proof o f n p =
     ap (λ (b : ℕ). a_statement (entry.Statement k) b (formula_names r) proof) (sym f)
     ∙ ap (λ l. a_statement (entry.Statement k) (first_byte v) l proof) n
     ∙ ap (λ (q : Option (ℕ × ℕ)). a_statement (entry.Statement k) (first_byte v) (symbols_in v) q) (sym p)
     ∙ ap (λ (t : EntryKind). a_statement t (first_byte v) (symbols_in v) (proof_of v)) (sym (kind-of v k o))
 
-ended-more : (u v : Statement) (e : List Statement) (r : Reader) (x : Entry) (start : ℕ) → More u e r → labels_in v ≡ labels_in u → shown r.symbols x ≡ described v → Within (length r.symbols) (map (λ (s : Sym). s.0) x.symbols) → ended_entry_at r.stage r start ≡ x → More [] (v ∷ e) (with_end r start)
+ended-more : (u v : Statement) (e : List Statement) (r : Reader) (x : Entry) (start : ℕ) → More u e r → labels_in v ≡ labels_in u
+    → shown r.symbols x ≡ described v → Within (length r.symbols) (map (λ (s : Sym). s.0) x.symbols) → ended_entry_at r.stage r start ≡ x
+    → More [] (v ∷ e) (with_end r start)
 ended-more u v e r x start m l h w is = record {
   positions_are = m.positions_are ∙ positions-same u v e l ∙ sym (positions-empty (v ∷ e));
   entries_are = all-entries v e r x (with_end r start) m.entries_are h refl (ap (λ (y : Entry). r.entries ++ y ∷ []) is);
@@ -354,7 +413,9 @@ formula-is u r kind.Essential o d = sym (symbols-of u (codes "$e") o.begun ∙ o
 formula-is u r kind.Axiom o d = sym (symbols-of u (codes "$a") o.begun ∙ o.names_are)
 formula-is u r kind.Provable o d = sym (symbols-of u (codes "$p") o.begun ∙ o.names_are)
 
-symbols-ended : (u : Statement) (e : List Statement) (r : Reader) (at : ℕ) (k : StatementKind) → bytes_eq (keyword k) (codes "$p") ≡ false → stage.Symbols k ≡ r.stage → IsOpen u (keyword k) (names_for r k) → More u e r → first_byte (u ++ word at (codes "$.") ∷ []) ≡ r.begins → Within (length r.symbols) (map (λ (s : Sym). s.0) r.formula) → More [] ((u ++ word at (codes "$.") ∷ []) ∷ e) (with_end r at)
+symbols-ended : (u : Statement) (e : List Statement) (r : Reader) (at : ℕ) (k : StatementKind) → bytes_eq (keyword k) (codes "$p") ≡ false
+    → stage.Symbols k ≡ r.stage → IsOpen u (keyword k) (names_for r k) → More u e r → first_byte (u ++ word at (codes "$.") ∷ []) ≡ r.begins
+    → Within (length r.symbols) (map (λ (s : Sym). s.0) r.formula) → More [] ((u ++ word at (codes "$.") ∷ []) ∷ e) (with_end r at)
 symbols-ended u e r at k p i o m f w =
     let v = u ++ word at (codes "$.") ∷ [] in
     let b = begun-more u (keyword k) (word at (codes "$.")) o.begun in
@@ -365,7 +426,9 @@ symbols-ended u e r at k p i o m f w =
 proof-found : (v : Statement) (x y : Word) → find (is (codes "$=")) v ≡ Some x → find (is (codes "$.")) v ≡ Some y → proof_in v ≡ Some (x.start + 2, y.start)
 proof-found v x y a b = rw (a, b) refl
 
-proof-ended : (u : Statement) (e : List Statement) (r : Reader) (at from : ℕ) → list_any (is (codes "$.")) u ≡ false → stage.Proof from ≡ r.stage → IsProof u (formula_names r) → More u e r → first_byte (u ++ word at (codes "$.") ∷ []) ≡ r.begins → Within (length r.symbols) (map (λ (s : Sym). s.0) r.formula) → More [] ((u ++ word at (codes "$.") ∷ []) ∷ e) (with_end r at)
+proof-ended : (u : Statement) (e : List Statement) (r : Reader) (at from : ℕ) → list_any (is (codes "$.")) u ≡ false → stage.Proof from ≡ r.stage
+    → IsProof u (formula_names r) → More u e r → first_byte (u ++ word at (codes "$.") ∷ []) ≡ r.begins
+    → Within (length r.symbols) (map (λ (s : Sym). s.0) r.formula) → More [] ((u ++ word at (codes "$.") ∷ []) ∷ e) (with_end r at)
 proof-ended u e r at from no_end i o m f w =
     let z = word at (codes "$.") in
     let v = u ++ z ∷ [] in
@@ -381,7 +444,10 @@ proof-ended u e r at from no_end i o m f w =
     ended-more u v e r (entry_of r kind.Provable (Some (from, at))) at m (labels-more u (z ∷ []) (word o.begun.at (codes "$p")) o.begun.rest o.begun.body_is)
     (end-entry v kind.Provable r (Some (from, at)) b f names proof) w (ap (λ (t : Stage). ended_entry_at t r at) (sym i))
 
-end-more : (u : Statement) (e : List Statement) (after : List Word) (r : Reader) (at : ℕ) (s : Stage) → list_any (is (codes "$.")) u ≡ false → s ≡ r.stage → StageIs u after r s → More u e r → first_byte (u ++ word at (codes "$.") ∷ []) ≡ r.begins → Within (length r.symbols) (map (λ (s : Sym). s.0) r.formula) → end_code_at s r ≡ None → More [] ((u ++ word at (codes "$.") ∷ []) ∷ e) (with_end r at)
+end-more : (u : Statement) (e : List Statement) (after : List Word) (r : Reader) (at : ℕ) (s : Stage) → list_any (is (codes "$.")) u ≡ false
+    → s ≡ r.stage → StageIs u after r s → More u e r → first_byte (u ++ word at (codes "$.") ∷ []) ≡ r.begins
+    → Within (length r.symbols) (map (λ (s : Sym). s.0) r.formula) → end_code_at s r ≡ None
+    → More [] ((u ++ word at (codes "$.") ∷ []) ∷ e) (with_end r at)
 end-more u e after r at stage.Between no_end i h m f w none = absurd (some-none 29 none)
 end-more u e after r at stage.Labelled no_end i h m f w none = absurd (some-none 29 none)
 end-more u e after r at (stage.Symbols kind.Constants) no_end i h m f w none = symbols-ended u e r at kind.Constants refl i h m f w
@@ -404,7 +470,8 @@ more-here before w q h m =
     let first : More (unended (w ∷ before)) (ended before) q = subst (λ (u : Statement). More u (ended before) q) (sym (unended-on w before h)) m in
     subst (λ (e : List Statement). More (unended (w ∷ before)) e q) (sym (ended-on w before h)) first
 
-pub more-goes : (before after : List Word) (r : Reader) (w : Word) (k : TokenKind) (next : Option TokenKind) → IsReader before (w ∷ after) r → More (unended before) (ended before) r → first_byte (unended before ++ w ∷ []) ≡ r.begins → IsKind k w.bytes → step_code r k w.bytes next ≡ None
+pub more-goes : (before after : List Word) (r : Reader) (w : Word) (k : TokenKind) (next : Option TokenKind) → IsReader before (w ∷ after) r
+    → More (unended before) (ended before) r → first_byte (unended before ++ w ∷ []) ≡ r.begins → IsKind k w.bytes → step_code r k w.bytes next ≡ None
     → More (unended (w ∷ before)) (ended (w ∷ before)) (with_token r k w.bytes w.start (w.start + length w.bytes))
 more-goes before after r w token.Word next o m f is none =
     let n = is.first ∷ is.rest in
@@ -413,52 +480,92 @@ more-goes before after r w token.Word next o m f is none =
     let none_n : word_code_at r.stage r n next ≡ None = ap (λ (x : List ℕ). word_code_at r.stage r x next) (sym is.eq) ∙ none in
     let d = is.no_dollar in
     let no_end : ends_statement (word w.start n) ≡ false = rw d refl in
-    let there = more-here before (word w.start n) (with_word_at r.stage r n) no_end (word-more (unended before) (ended before) (word w.start n ∷ after) r w.start is.first is.rest next r.stage refl is.no_dollar is.none_behind st m begins none_n) in
+    let there =
+        more-here before (word w.start n) (with_word_at r.stage r n) no_end
+            (word-more (unended before) (ended before)
+                (word w.start n ∷ after) r w.start is.first is.rest next r.stage refl is.no_dollar is.none_behind st m begins none_n) in
     subst (λ (x : List ℕ). More (unended (word w.start x ∷ before)) (ended (word w.start x ∷ before)) (with_word_at r.stage r x)) (sym is.eq) there
 more-goes before after r w token.Constants next o m f is none =
     let h : StageIs (unended before) (word w.start (codes "$c") ∷ after) r r.stage = subst (λ (n : List ℕ). StageIs (unended before) (word w.start n ∷ after) r r.stage) is o.stage in
     let begins : first_byte (unended before ++ word w.start (codes "$c") ∷ []) ≡ r.begins = ap (λ (n : List ℕ). first_byte (unended before ++ word w.start n ∷ [])) (sym is) ∙ f in
-    subst (λ (n : List ℕ). More (unended (word w.start n ∷ before)) (ended (word w.start n ∷ before)) (with_token r token.Constants n w.start (w.start + length n))) (sym is) (constants-more (unended before) (ended before) (word w.start (codes "$c") ∷ after) r w.start r.stage h m begins (none-below (not (is_empty r.scopes)) 11 (between_code_at r.stage r) none))
+    subst
+        (λ (n : List ℕ). More (unended (word w.start n ∷ before)) (ended (word w.start n ∷ before))
+            (with_token r token.Constants n w.start (w.start + length n)))
+        (sym is)
+        (constants-more (unended before) (ended before) (word w.start (codes "$c") ∷ after) r w.start r.stage h m begins
+            (none-below (not (is_empty r.scopes)) 11 (between_code_at r.stage r) none))
 more-goes before after r w token.Variables next o m f is none =
     let h : StageIs (unended before) (word w.start (codes "$v") ∷ after) r r.stage = subst (λ (n : List ℕ). StageIs (unended before) (word w.start n ∷ after) r r.stage) is o.stage in
     let begins : first_byte (unended before ++ word w.start (codes "$v") ∷ []) ≡ r.begins = ap (λ (n : List ℕ). first_byte (unended before ++ word w.start n ∷ [])) (sym is) ∙ f in
-    subst (λ (n : List ℕ). More (unended (word w.start n ∷ before)) (ended (word w.start n ∷ before)) (with_token r token.Variables n w.start (w.start + length n))) (sym is) (variables-more (unended before) (ended before) (word w.start (codes "$v") ∷ after) r w.start r.stage h m begins none)
+    subst
+        (λ (n : List ℕ). More (unended (word w.start n ∷ before)) (ended (word w.start n ∷ before))
+            (with_token r token.Variables n w.start (w.start + length n)))
+        (sym is) (variables-more (unended before) (ended before) (word w.start (codes "$v") ∷ after) r w.start r.stage h m begins none)
 more-goes before after r w token.Distinct next o m f is none =
     let h : StageIs (unended before) (word w.start (codes "$d") ∷ after) r r.stage = subst (λ (n : List ℕ). StageIs (unended before) (word w.start n ∷ after) r r.stage) is o.stage in
     let begins : first_byte (unended before ++ word w.start (codes "$d") ∷ []) ≡ r.begins = ap (λ (n : List ℕ). first_byte (unended before ++ word w.start n ∷ [])) (sym is) ∙ f in
-    subst (λ (n : List ℕ). More (unended (word w.start n ∷ before)) (ended (word w.start n ∷ before)) (with_token r token.Distinct n w.start (w.start + length n))) (sym is) (distinct-more (unended before) (ended before) (word w.start (codes "$d") ∷ after) r w.start r.stage h m begins none)
+    subst
+        (λ (n : List ℕ). More (unended (word w.start n ∷ before)) (ended (word w.start n ∷ before))
+            (with_token r token.Distinct n w.start (w.start + length n)))
+        (sym is) (distinct-more (unended before) (ended before) (word w.start (codes "$d") ∷ after) r w.start r.stage h m begins none)
 more-goes before after r w token.Floating next o m f is none =
     let h : StageIs (unended before) (word w.start (codes "$f") ∷ after) r r.stage = subst (λ (n : List ℕ). StageIs (unended before) (word w.start n ∷ after) r r.stage) is o.stage in
     let begins : first_byte (unended before ++ word w.start (codes "$f") ∷ []) ≡ r.begins = ap (λ (n : List ℕ). first_byte (unended before ++ word w.start n ∷ [])) (sym is) ∙ f in
-    subst (λ (n : List ℕ). More (unended (word w.start n ∷ before)) (ended (word w.start n ∷ before)) (with_token r token.Floating n w.start (w.start + length n))) (sym is) (floating-more (unended before) (ended before) (word w.start (codes "$f") ∷ after) r w.start r.stage h m begins none)
+    subst
+        (λ (n : List ℕ). More (unended (word w.start n ∷ before)) (ended (word w.start n ∷ before))
+            (with_token r token.Floating n w.start (w.start + length n)))
+        (sym is) (floating-more (unended before) (ended before) (word w.start (codes "$f") ∷ after) r w.start r.stage h m begins none)
 more-goes before after r w token.Essential next o m f is none =
     let h : StageIs (unended before) (word w.start (codes "$e") ∷ after) r r.stage = subst (λ (n : List ℕ). StageIs (unended before) (word w.start n ∷ after) r r.stage) is o.stage in
     let begins : first_byte (unended before ++ word w.start (codes "$e") ∷ []) ≡ r.begins = ap (λ (n : List ℕ). first_byte (unended before ++ word w.start n ∷ [])) (sym is) ∙ f in
-    subst (λ (n : List ℕ). More (unended (word w.start n ∷ before)) (ended (word w.start n ∷ before)) (with_token r token.Essential n w.start (w.start + length n))) (sym is) (essential-more (unended before) (ended before) (word w.start (codes "$e") ∷ after) r w.start r.stage h m begins none)
+    subst
+        (λ (n : List ℕ). More (unended (word w.start n ∷ before)) (ended (word w.start n ∷ before))
+            (with_token r token.Essential n w.start (w.start + length n)))
+        (sym is) (essential-more (unended before) (ended before) (word w.start (codes "$e") ∷ after) r w.start r.stage h m begins none)
 more-goes before after r w token.Axiom next o m f is none =
     let h : StageIs (unended before) (word w.start (codes "$a") ∷ after) r r.stage = subst (λ (n : List ℕ). StageIs (unended before) (word w.start n ∷ after) r r.stage) is o.stage in
     let begins : first_byte (unended before ++ word w.start (codes "$a") ∷ []) ≡ r.begins = ap (λ (n : List ℕ). first_byte (unended before ++ word w.start n ∷ [])) (sym is) ∙ f in
-    subst (λ (n : List ℕ). More (unended (word w.start n ∷ before)) (ended (word w.start n ∷ before)) (with_token r token.Axiom n w.start (w.start + length n))) (sym is) (axiom-more (unended before) (ended before) (word w.start (codes "$a") ∷ after) r w.start r.stage h m begins none)
+    subst
+        (λ (n : List ℕ). More (unended (word w.start n ∷ before)) (ended (word w.start n ∷ before))
+            (with_token r token.Axiom n w.start (w.start + length n)))
+        (sym is) (axiom-more (unended before) (ended before) (word w.start (codes "$a") ∷ after) r w.start r.stage h m begins none)
 more-goes before after r w token.Provable next o m f is none =
     let h : StageIs (unended before) (word w.start (codes "$p") ∷ after) r r.stage = subst (λ (n : List ℕ). StageIs (unended before) (word w.start n ∷ after) r r.stage) is o.stage in
     let begins : first_byte (unended before ++ word w.start (codes "$p") ∷ []) ≡ r.begins = ap (λ (n : List ℕ). first_byte (unended before ++ word w.start n ∷ [])) (sym is) ∙ f in
-    subst (λ (n : List ℕ). More (unended (word w.start n ∷ before)) (ended (word w.start n ∷ before)) (with_token r token.Provable n w.start (w.start + length n))) (sym is) (provable-more (unended before) (ended before) (word w.start (codes "$p") ∷ after) r w.start r.stage h m begins none)
+    subst
+        (λ (n : List ℕ). More (unended (word w.start n ∷ before)) (ended (word w.start n ∷ before))
+            (with_token r token.Provable n w.start (w.start + length n)))
+        (sym is) (provable-more (unended before) (ended before) (word w.start (codes "$p") ∷ after) r w.start r.stage h m begins none)
 more-goes before after r w token.Equals next o m f is none =
     let h : StageIs (unended before) (word w.start (codes "$=") ∷ after) r r.stage = subst (λ (n : List ℕ). StageIs (unended before) (word w.start n ∷ after) r r.stage) is o.stage in
     let begins : first_byte (unended before ++ word w.start (codes "$=") ∷ []) ≡ r.begins = ap (λ (n : List ℕ). first_byte (unended before ++ word w.start n ∷ [])) (sym is) ∙ f in
-    subst (λ (n : List ℕ). More (unended (word w.start n ∷ before)) (ended (word w.start n ∷ before)) (with_token r token.Equals n w.start (w.start + length n))) (sym is) (equals-more (unended before) (ended before) (word w.start (codes "$=") ∷ after) r w.start r.stage h m begins none)
+    subst
+        (λ (n : List ℕ). More (unended (word w.start n ∷ before)) (ended (word w.start n ∷ before))
+            (with_token r token.Equals n w.start (w.start + length n)))
+        (sym is) (equals-more (unended before) (ended before) (word w.start (codes "$=") ∷ after) r w.start r.stage h m begins none)
 more-goes before after r w token.End next o m f is none =
     let h : StageIs (unended before) (word w.start (codes "$.") ∷ after) r r.stage = subst (λ (n : List ℕ). StageIs (unended before) (word w.start n ∷ after) r r.stage) is o.stage in
     let begins : first_byte (unended before ++ word w.start (codes "$.") ∷ []) ≡ r.begins = ap (λ (n : List ℕ). first_byte (unended before ++ word w.start n ∷ [])) (sym is) ∙ f in
-    subst (λ (n : List ℕ). More (unended (word w.start n ∷ before)) (ended (word w.start n ∷ before)) (with_token r token.End n w.start (w.start + length n))) (sym is) (end-more (unended before) (ended before) (word w.start (codes "$.") ∷ after) r w.start r.stage (no-ends before) refl h m begins o.formula_known none)
+    subst
+        (λ (n : List ℕ). More (unended (word w.start n ∷ before)) (ended (word w.start n ∷ before))
+            (with_token r token.End n w.start (w.start + length n)))
+        (sym is)
+        (end-more (unended before) (ended before) (word w.start (codes "$.") ∷ after) r w.start r.stage
+            (no-ends before) refl h m begins o.formula_known none)
 more-goes before after r w token.OpenBlock next o m f is none =
     let h : StageIs (unended before) (word w.start (codes "${") ∷ after) r r.stage = subst (λ (n : List ℕ). StageIs (unended before) (word w.start n ∷ after) r r.stage) is o.stage in
     let begins : first_byte (unended before ++ word w.start (codes "${") ∷ []) ≡ r.begins = ap (λ (n : List ℕ). first_byte (unended before ++ word w.start n ∷ [])) (sym is) ∙ f in
-    subst (λ (n : List ℕ). More (unended (word w.start n ∷ before)) (ended (word w.start n ∷ before)) (with_token r token.OpenBlock n w.start (w.start + length n))) (sym is) (open-more (unended before) (ended before) (word w.start (codes "${") ∷ after) r w.start r.stage refl h m begins none)
+    subst
+        (λ (n : List ℕ). More (unended (word w.start n ∷ before)) (ended (word w.start n ∷ before))
+            (with_token r token.OpenBlock n w.start (w.start + length n)))
+        (sym is) (open-more (unended before) (ended before) (word w.start (codes "${") ∷ after) r w.start r.stage refl h m begins none)
 more-goes before after r w token.CloseBlock next o m f is none =
     let h : StageIs (unended before) (word w.start (codes "$}") ∷ after) r r.stage = subst (λ (n : List ℕ). StageIs (unended before) (word w.start n ∷ after) r r.stage) is o.stage in
     let begins : first_byte (unended before ++ word w.start (codes "$}") ∷ []) ≡ r.begins = ap (λ (n : List ℕ). first_byte (unended before ++ word w.start n ∷ [])) (sym is) ∙ f in
-    subst (λ (n : List ℕ). More (unended (word w.start n ∷ before)) (ended (word w.start n ∷ before)) (with_token r token.CloseBlock n w.start (w.start + length n))) (sym is) (close-more (unended before) (ended before) (word w.start (codes "$}") ∷ after) r w.start r.stage r.scopes refl h m begins none)
+    subst
+        (λ (n : List ℕ). More (unended (word w.start n ∷ before)) (ended (word w.start n ∷ before))
+            (with_token r token.CloseBlock n w.start (w.start + length n)))
+        (sym is) (close-more (unended before) (ended before) (word w.start (codes "$}") ∷ after) r w.start r.stage r.scopes refl h m begins none)
 more-goes before after r w token.OpenInclude next o m f is none = absurd (some-none 10 none)
 more-goes before after r w token.CloseInclude next o m f is none = absurd (some-none 29 none)
 more-goes before after r w token.OpenComment next o m f is none = absurd is

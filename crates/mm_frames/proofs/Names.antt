@@ -1,5 +1,6 @@
 -- Names and their numbers: a search for a name, and what a new name leaves.
-use Rattle.std.proofs.Common.{◌≡◌, ℕ, zero, suc, ◌<◌, Bool, true, false, List, [], ◌∷◌, ◌++◌, length, map, Option, Some, None, option_map, position, refl, sym, ap, ◌∙◌, arith, subst, inl, inr, nat_eq, ltb}
+use Rattle.std.proofs.Common.{◌≡◌, ℕ, zero, suc, ◌<◌, Bool, true, false, List, [], ◌∷◌, ◌++◌, length, map, Option, Some, None, option_map, position}
+use Rattle.std.proofs.Common.{refl, sym, ap, ◌∙◌, arith, subst, inl, inr, nat_eq, ltb}
 use Rattle.std.specs.List.{list_any}
 use Rattle.std.specs.Str.{bytes_eq}
 use Rattle.std.proofs.lemmas.Bool.{cases_Bool, or_parts}
@@ -17,7 +18,9 @@ none-absent p [] e = refl
 none-absent p (x ∷ xs) e =
     elim (cases_Bool (p x)) [
       | inl h ↦ absurd (clash 0 (sym (cond_then (p x) (Some 0) (option_map (λ (n : ℕ). suc n) (position p xs)) h) ∙ sym (position-cons p x xs) ∙ e))
-      | inr h ↦ let rest : option_map (λ (n : ℕ). suc n) (position p xs) ≡ None = sym (cond_else (p x) (Some 0) (option_map (λ (n : ℕ). suc n) (position p xs)) h) ∙ sym (position-cons p x xs) ∙ e in rw h (none-absent p xs (no_map (position p xs) rest))
+      | inr h ↦ let rest : option_map (λ (n : ℕ). suc n) (position p xs) ≡ None =
+          sym (cond_else (p x) (Some 0) (option_map (λ (n : ℕ). suc n) (position p xs)) h) ∙ sym (position-cons p x xs) ∙ e in
+          rw h (none-absent p xs (no_map (position p xs) rest))
     ]
   where
     no_map : (o : Option ℕ) → option_map (λ (n : ℕ). suc n) o ≡ None → o ≡ None
@@ -39,11 +42,14 @@ found-is (s ∷ symbols) n i e =
           let here : s ≡ n = sym ((bytes_eq-Decides n s).0 h) in
           subst (λ (k : ℕ). Found (s ∷ symbols) n k) is (record { within = omega arith; name = here })
       | inr h ↦
-          let rest : option_map (λ (n : ℕ). suc n) (position (bytes_eq n) symbols) ≡ Some i = sym (cond_else (bytes_eq n s) (Some 0) (option_map (λ (n : ℕ). suc n) (position (bytes_eq n) symbols)) h) ∙ sym (position-cons (bytes_eq n) s symbols) ∙ e in
+          let rest : option_map (λ (n : ℕ). suc n) (position (bytes_eq n) symbols) ≡ Some i =
+              sym (cond_else (bytes_eq n s) (Some 0) (option_map (λ (n : ℕ). suc n) (position (bytes_eq n) symbols)) h)
+                  ∙ sym (position-cons (bytes_eq n) s symbols) ∙ e in
           deeper s symbols n i (position (bytes_eq n) symbols) rest (λ k q. found-is symbols n k q)
     ]
   where
-    deeper : (s : List ℕ) (symbols : List (List ℕ)) (n : List ℕ) (i : ℕ) (o : Option ℕ) → option_map (λ (n : ℕ). suc n) o ≡ Some i → ((k : ℕ) → o ≡ Some k → Found symbols n k) → Found (s ∷ symbols) n i
+    deeper : (s : List ℕ) (symbols : List (List ℕ)) (n : List ℕ) (i : ℕ) (o : Option ℕ) → option_map (λ (n : ℕ). suc n) o ≡ Some i
+        → ((k : ℕ) → o ≡ Some k → Found symbols n k) → Found (s ∷ symbols) n i
     deeper s symbols n i None e f = absurd cc
     deeper s symbols n i (Some k) e f = let is : suc k ≡ i = cc in let g = f k refl in subst (λ (j : ℕ). Found (s ∷ symbols) n j) is (record { within = omega (arith, g.within); name = g.name })
 

@@ -138,7 +138,9 @@ means-known e r i s hi =
     let t = typed_is e r.symbols r.constants r.variables r.typed r.labels (variable_marks r.scopes) (typed_marks r.scopes) i s hi in
     go (is_flagged r.constants i) (list_any (nat_eq i) r.variables) refl refl v t
   where
-    go : (c v : Bool) → is_flagged r.constants i ≡ c → list_any (nat_eq i) r.variables ≡ v → contains (variables e) (name_of r.symbols i) ≡ list_any (nat_eq i) r.variables → contains (typed e) (name_of r.symbols i) ≡ list_any (nat_eq i) r.typed
+    go : (c v : Bool) → is_flagged r.constants i ≡ c → list_any (nat_eq i) r.variables ≡ v
+        → contains (variables e) (name_of r.symbols i) ≡ list_any (nat_eq i) r.variables
+        → contains (typed e) (name_of r.symbols i) ≡ list_any (nat_eq i) r.typed
         → Means e r (name_of r.symbols i) (cond c (meant.Constant (record { 0 = i })) (cond v (meant.Variable (record { 0 = i })) meant.Nothing))
     go true v hc hv ve te = record { a_constant = sym (s.are_constants i hi) ∙ hc; no_variable = ve ∙ s.apart i hc; known = hi; name = refl }
     go false true hc hv ve te = record { no_constant = sym (s.are_constants i hi) ∙ hc; a_variable = ve ∙ hv; known = hi; name = refl; typed = te }
@@ -150,7 +152,8 @@ means e r n s = go (position (bytes_eq n) r.symbols) refl
     go : (o : Option ℕ) → position (bytes_eq n) r.symbols ≡ o → Means e r n (meaning_of_at o r n)
     go None h =
         let absent = none-absent (bytes_eq n) r.symbols h in
-        (or_left (contains (constants e) n) (contains (variables_ever e) n) (sym (s.are_declared n) ∙ absent), variable_none e r.symbols r.constants r.variables r.typed r.labels (variable_marks r.scopes) (typed_marks r.scopes) n s absent)
+        (or_left (contains (constants e) n) (contains (variables_ever e) n) (sym (s.are_declared n) ∙ absent),
+            variable_none e r.symbols r.constants r.variables r.typed r.labels (variable_marks r.scopes) (typed_marks r.scopes) n s absent)
     go (Some i) h =
         let f = found-is r.symbols n i h in
         subst (λ (m : List ℕ). Means e r m (meaning_of_at (Some i) r m)) f.name (means-known e r i s f.within)

@@ -1,5 +1,6 @@
 -- The lists that the reader keeps, tied to the statements so far.
-use Rattle.std.proofs.Common.{◌≡◌, ℕ, zero, suc, ◌<◌, Bool, true, false, ◌||◌, List, [], ◌∷◌, ◌++◌, append-nil, length, take, map, reverse, refl, sym, ap, ◌∙◌, codes, nat_eq, flat_map, slice_get, unwrap_or, inl, inr}
+use Rattle.std.proofs.Common.{◌≡◌, ℕ, zero, suc, ◌<◌, Bool, true, false, ◌||◌, List, [], ◌∷◌, ◌++◌, append-nil, length, take, map, reverse, refl, sym}
+use Rattle.std.proofs.Common.{ap, ◌∙◌, codes, nat_eq, flat_map, slice_get, unwrap_or, inl, inr}
 use Rattle.std.specs.List.{list_any}
 use Rattle.std.specs.Str.{bytes_eq}
 use Rattle.std.proofs.lemmas.Bool.{cases_Bool}
@@ -67,7 +68,9 @@ pub record Alike (e f : List Statement) : Type 0 where
   pub v_marks : (ms : List ℕ) → Marks new_variables e 0 ms → Marks new_variables f 0 ms
   pub t_marks : (ms : List ℕ) → Marks new_types e 0 ms → Marks new_types f 0 ms
 
-pub state-alike : (e f : List Statement) (symbols : List (List ℕ)) (constant : List Bool) (variables typed : List ℕ) (labels_ : List (List ℕ)) (vs ts : List ℕ) → Alike e f → IsState e symbols constant variables typed labels_ vs ts → IsState f symbols constant variables typed labels_ vs ts
+pub state-alike : (e f : List Statement) (symbols : List (List ℕ)) (constant : List Bool) (variables typed : List ℕ) (labels_ : List (List ℕ))
+    (vs ts : List ℕ)
+    → Alike e f → IsState e symbols constant variables typed labels_ vs ts → IsState f symbols constant variables typed labels_ vs ts
 state-alike e f symbols constant variables typed labels_ vs ts a s = record {
   one = s.one;
   all_known = s.all_known;
@@ -189,11 +192,14 @@ list_any-turned p g (s ∷ ss) =
     ∙ ap (λ b. list_any p (g s) || b) (list_any-turned p g ss)
     ∙ sym (list_any-append p (g s) (flat_map g ss))
 
-contains-kept : (names : List (List ℕ)) (symbols : List (List ℕ)) (numbers : List ℕ) (i : ℕ) → Injective symbols → i < length symbols → Within (length symbols) numbers → map (λ k. name_of symbols k) numbers ≡ reverse names → contains names (name_of symbols i) ≡ list_any (nat_eq i) numbers
+contains-kept : (names : List (List ℕ)) (symbols : List (List ℕ)) (numbers : List ℕ) (i : ℕ) → Injective symbols → i < length symbols
+    → Within (length symbols) numbers → map (λ k. name_of symbols k) numbers ≡ reverse names
+    → contains names (name_of symbols i) ≡ list_any (nat_eq i) numbers
 contains-kept names symbols numbers i one hi hs are =
     sym (list_any-reverse (bytes_eq (name_of symbols i)) names) ∙ ap (λ l. list_any (bytes_eq (name_of symbols i)) l) (sym are) ∙ bridge symbols i numbers one hi hs
 
-contains-none : (names : List (List ℕ)) (symbols : List (List ℕ)) (numbers : List ℕ) (n : List ℕ) → list_any (bytes_eq n) symbols ≡ false → Within (length symbols) numbers → map (λ k. name_of symbols k) numbers ≡ reverse names → contains names n ≡ false
+contains-none : (names : List (List ℕ)) (symbols : List (List ℕ)) (numbers : List ℕ) (n : List ℕ) → list_any (bytes_eq n) symbols ≡ false
+    → Within (length symbols) numbers → map (λ k. name_of symbols k) numbers ≡ reverse names → contains names n ≡ false
 contains-none names symbols numbers n absent hs are =
     sym (list_any-reverse (bytes_eq n) names) ∙ ap (λ l. list_any (bytes_eq n) l) (sym are) ∙ bridge_none symbols n numbers (λ v h. absent-at symbols n v absent h) hs
 
@@ -203,11 +209,20 @@ variables-kept e n = ap (λ l. contains l n) (listed-is (codes "$v") symbols_in 
 pub typed-kept : (e : List Statement) (n : List ℕ) → contains (typed e) n ≡ contains (kept new_types e) n
 typed-kept e n = ap (λ l. contains l n) (listed-is (codes "$f") types (active e)) ∙ sym (list_any-turned (bytes_eq n) (added (codes "$f") types) (active e))
 
-pub variable_is : (e : List Statement) (symbols : List (List ℕ)) (constant : List Bool) (variables_ typed_ : List ℕ) (labels_ : List (List ℕ)) (vs ts : List ℕ) (i : ℕ) → IsState e symbols constant variables_ typed_ labels_ vs ts → i < length symbols → contains (variables e) (name_of symbols i) ≡ list_any (nat_eq i) variables_
-variable_is e symbols constant variables_ typed_ labels_ vs ts i s hi = variables-kept e (name_of symbols i) ∙ contains-kept (kept new_variables e) symbols variables_ i s.one hi s.variables_known s.are_variables
+pub variable_is : (e : List Statement) (symbols : List (List ℕ)) (constant : List Bool) (variables_ typed_ : List ℕ) (labels_ : List (List ℕ))
+    (vs ts : List ℕ) (i : ℕ)
+    → IsState e symbols constant variables_ typed_ labels_ vs ts → i < length symbols
+    → contains (variables e) (name_of symbols i) ≡ list_any (nat_eq i) variables_
+variable_is e symbols constant variables_ typed_ labels_ vs ts i s hi =
+    variables-kept e (name_of symbols i) ∙ contains-kept (kept new_variables e) symbols variables_ i s.one hi s.variables_known s.are_variables
 
-pub variable_none : (e : List Statement) (symbols : List (List ℕ)) (constant : List Bool) (variables_ typed_ : List ℕ) (labels_ : List (List ℕ)) (vs ts : List ℕ) (n : List ℕ) → IsState e symbols constant variables_ typed_ labels_ vs ts → list_any (bytes_eq n) symbols ≡ false → contains (variables e) n ≡ false
+pub variable_none : (e : List Statement) (symbols : List (List ℕ)) (constant : List Bool) (variables_ typed_ : List ℕ) (labels_ : List (List ℕ))
+    (vs ts : List ℕ) (n : List ℕ)
+    → IsState e symbols constant variables_ typed_ labels_ vs ts → list_any (bytes_eq n) symbols ≡ false → contains (variables e) n ≡ false
 variable_none e symbols constant variables_ typed_ labels_ vs ts n s h = variables-kept e n ∙ contains-none (kept new_variables e) symbols variables_ n h s.variables_known s.are_variables
 
-pub typed_is : (e : List Statement) (symbols : List (List ℕ)) (constant : List Bool) (variables_ typed_ : List ℕ) (labels_ : List (List ℕ)) (vs ts : List ℕ) (i : ℕ) → IsState e symbols constant variables_ typed_ labels_ vs ts → i < length symbols → contains (typed e) (name_of symbols i) ≡ list_any (nat_eq i) typed_
+pub typed_is : (e : List Statement) (symbols : List (List ℕ)) (constant : List Bool) (variables_ typed_ : List ℕ) (labels_ : List (List ℕ))
+    (vs ts : List ℕ) (i : ℕ)
+    → IsState e symbols constant variables_ typed_ labels_ vs ts → i < length symbols
+    → contains (typed e) (name_of symbols i) ≡ list_any (nat_eq i) typed_
 typed_is e symbols constant variables_ typed_ labels_ vs ts i s hi = typed-kept e (name_of symbols i) ∙ contains-kept (kept new_types e) symbols typed_ i s.one hi s.typed_known s.are_typed

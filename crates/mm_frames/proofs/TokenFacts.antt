@@ -1,5 +1,6 @@
 -- The tokens of a text without a fault: their kinds, and where they stand.
-use Rattle.std.proofs.Common.{◌≡◌, ℕ, suc, ◌+◌, ◌-◌, ◌≤◌, Bool, true, false, cond, not, ◌||◌, ◌&&◌, eqb, List, [], ◌∷◌, ◌++◌, length, take, drop, Option, None, Some, refl, sym, ap, ◌∙◌, subst, codes, arith, inl, inr, append_assoc, option_map, slice_range, unwrap_or}
+use Rattle.std.proofs.Common.{◌≡◌, ℕ, suc, ◌+◌, ◌-◌, ◌≤◌, Bool, true, false, cond, not, ◌||◌, ◌&&◌, eqb, List, [], ◌∷◌, ◌++◌, length, take, drop}
+use Rattle.std.proofs.Common.{Option, None, Some, refl, sym, ap, ◌∙◌, subst, codes, arith, inl, inr, append_assoc, option_map, slice_range, unwrap_or}
 use Rattle.std.specs.List.{list_any}
 use Rattle.std.specs.Str.{bytes_eq}
 use Rattle.std.proofs.lemmas.Bool.{cases_Bool, or_parts}
@@ -7,7 +8,8 @@ use Rattle.std.proofs.lemmas.Bool.Decides.{nat_tests}
 use Rattle.std.proofs.lemmas.Slice.Eq.{bytes_eq-Decides}
 use Rattle.mm_model.specs.Faults.{Fault, fault, or_else, earlier, first_code, first_fault}
 use Rattle.mm_model.specs.Words.{Word, word, words, words_from, put_before, is_white}
-use Rattle.mm_model.specs.Tokens.{keywords, is_open_comment, is_close_comment, is_bad_keyword, in_comment, word_rules, bad_keyword, comment_in_comment, tokens_where, tokens, bad_byte, words_fault, token_fault}
+use Rattle.mm_model.specs.Tokens.{keywords, is_open_comment, is_close_comment, is_bad_keyword, in_comment, word_rules, bad_keyword}
+use Rattle.mm_model.specs.Tokens.{comment_in_comment, tokens_where, tokens, bad_byte, words_fault, token_fault}
 use Rattle.mm_tokens.specs.declared.token.TokenKind.TheVariants as token
 use Rattle.mm_tokens.specs.Kinds.{keyword_kind}
 use Rattle.mm_model.proofs.Scopes.{cond_then, cond_else}
@@ -52,7 +54,9 @@ put-stands text front bs b (w ∷ ws) e h =
           let at : length s.front ≡ length (front ++ b ∷ []) = grind (arith, nat_tests, s.starts, length-end front b) in
           let both : s.front ++ (w.bytes ++ s.behind) ≡ (front ++ b ∷ []) ++ bs = sym s.split ∙ e ∙ sym (append_assoc front (b ∷ []) bs) in
           let same = front-same s.front (w.bytes ++ s.behind) (front ++ b ∷ []) bs at both in
-          let there : Stands text (word (length front) (b ∷ w.bytes)) = record { front = front; behind = s.behind; split = e ∙ ap (λ l. front ++ b ∷ l) (sym same.1); starts = refl; first = b; rest = w.bytes; not_empty = refl } in
+          let there : Stands text (word (length front) (b ∷ w.bytes)) =
+              record { front = front; behind = s.behind; split = e ∙ ap (λ l. front ++ b ∷ l) (sym same.1); starts = refl; first = b; rest = w.bytes;
+                  not_empty = refl } in
           let all : Each (Stands text) (word (length front) (b ∷ w.bytes) ∷ ws) = (there, h.1) in
           subst (λ l. Each (Stands text) l) (sym (cond_then (eqb w.start (suc (length front))) (word (length front) (b ∷ w.bytes) ∷ ws) (word (length front) (b ∷ []) ∷ w ∷ ws) q)) all
       | inr q ↦
@@ -68,7 +72,9 @@ words-stand text front (b ∷ bs) e =
     let later : Each (Stands text) (words_from (suc (length front)) bs) = subst (λ (n : ℕ). Each (Stands text) (words_from n bs)) (length-end front b) (words-stand text (front ++ b ∷ []) bs there) in
     elim (cases_Bool (is_white b)) [
       | inl q ↦ subst (λ l. Each (Stands text) l) (sym (cond_then (is_white b) (words_from (suc (length front)) bs) (put_before (length front) b (words_from (suc (length front)) bs)) q)) later
-      | inr q ↦ subst (λ l. Each (Stands text) l) (sym (cond_else (is_white b) (words_from (suc (length front)) bs) (put_before (length front) b (words_from (suc (length front)) bs)) q)) (put-stands text front bs b (words_from (suc (length front)) bs) e later)
+      | inr q ↦ subst (λ l. Each (Stands text) l)
+          (sym (cond_else (is_white b) (words_from (suc (length front)) bs) (put_before (length front) b (words_from (suc (length front)) bs)) q))
+          (put-stands text front bs b (words_from (suc (length front)) bs) e later)
     ]
 
 -- how long it reaches, and its bytes
@@ -114,14 +120,19 @@ tokens-stand text = tokens-where (Stands text) false (words text) (words-stand t
 -- no more tokens than bytes
 put-length : (at b : ℕ) (ws : List Word) → length (put_before at b ws) ≤ suc (length ws)
 put-length at b [] = omega arith
-put-length at b (w ∷ ws) = elim (eqb w.start (suc at)) as (λ t. length (cond t (word at (b ∷ w.bytes) ∷ ws) (word at (b ∷ []) ∷ w ∷ ws)) ≤ suc (suc (length ws))) [ true ↦ omega arith | false ↦ omega arith ]
+put-length at b (w ∷ ws) =
+    elim (eqb w.start (suc at)) as
+        (λ t. length (cond t (word at (b ∷ w.bytes) ∷ ws) (word at (b ∷ []) ∷ w ∷ ws))
+            ≤ suc (suc (length ws))) [ true ↦ omega arith | false ↦ omega arith ]
 
 words-length : (at : ℕ) (bs : List ℕ) → length (words_from at bs) ≤ length bs
 words-length at [] = omega arith
 words-length at (b ∷ bs) =
     let later = words-length (suc at) bs in
     let put = put-length at b (words_from (suc at) bs) in
-    elim (is_white b) as (λ t. length (cond t (words_from (suc at) bs) (put_before at b (words_from (suc at) bs))) ≤ suc (length bs)) [ true ↦ omega (arith, later) | false ↦ omega (arith, later, put) ]
+    elim (is_white b) as
+        (λ t. length (cond t (words_from (suc at) bs) (put_before at b (words_from (suc at) bs)))
+            ≤ suc (length bs)) [ true ↦ omega (arith, later) | false ↦ omega (arith, later, put) ]
 
 where-length : (c : Bool) (ws : List Word) → length (tokens_where c ws) ≤ length ws
 where-length c [] = omega arith
@@ -152,7 +163,11 @@ none-left (Some f) b h = absurd (clash h)
 rules-none : (before : List Word) (w : Word) → option_map (λ code. fault w.start code) (first_code word_rules before w) ≡ None → (comment_in_comment before w ≡ false) × (bad_keyword before w ≡ false)
 rules-none before w h = go (comment_in_comment before w) (bad_keyword before w) h
   where
-    go : (a b : Bool) → option_map (λ code. fault w.start code) (option_map (λ (r : ℕ × (List Word → Word → Bool)). r.0) (cond a (Some (3, comment_in_comment)) (cond b (Some (4, bad_keyword)) None))) ≡ None → (a ≡ false) × (b ≡ false)
+    go : (a b : Bool)
+        → option_map (λ code. fault w.start code)
+            (option_map (λ (r : ℕ × (List Word → Word → Bool)). r.0) (cond a (Some (3, comment_in_comment)) (cond b (Some (4, bad_keyword)) None)))
+            ≡ None
+        → (a ≡ false) × (b ≡ false)
     go true b h = absurd (clash h)
       where
         clash : Some (fault w.start 3) ≡ None → ⊥
@@ -179,9 +194,12 @@ good-tokens false before (w ∷ ws) i h =
     let bad : (is_close_comment w || is_bad_keyword w) ≡ false = rw i at rules.1 in
     let both = or_parts (is_close_comment w) (is_bad_keyword w) bad in
     elim (cases_Bool (is_open_comment w)) [
-      | inl q ↦ subst (λ l. Each IsGood l) (sym (cond_then (is_open_comment w) (tokens_where true ws) (w ∷ tokens_where false ws) q)) (good-tokens true (w ∷ before) ws (cond_then (is_open_comment w) true (cond (is_close_comment w) false (in_comment before)) q) parts.1)
+      | inl q ↦ subst (λ l. Each IsGood l) (sym (cond_then (is_open_comment w) (tokens_where true ws) (w ∷ tokens_where false ws) q))
+          (good-tokens true (w ∷ before) ws (cond_then (is_open_comment w) true (cond (is_close_comment w) false (in_comment before)) q) parts.1)
       | inr q ↦
-          let outside : in_comment (w ∷ before) ≡ false = cond_else (is_open_comment w) true (cond (is_close_comment w) false (in_comment before)) q ∙ cond_else (is_close_comment w) false (in_comment before) both.0 ∙ i in
+          let outside : in_comment (w ∷ before) ≡ false =
+              cond_else (is_open_comment w) true (cond (is_close_comment w) false (in_comment before)) q
+                  ∙ cond_else (is_close_comment w) false (in_comment before) both.0 ∙ i in
           let good : IsGood w = record { no_open = q; no_close = both.0; no_bad = both.1 } in
           let all : Each IsGood (w ∷ tokens_where false ws) = (good, good-tokens false (w ∷ before) ws outside parts.1) in
           subst (λ l. Each IsGood l) (sym (cond_else (is_open_comment w) (tokens_where true ws) (w ∷ tokens_where false ws) q)) all
@@ -197,7 +215,10 @@ no-words-fault (Some f) (Some g) h = absurd (go (Rattle.mm_model.specs.Faults.co
     go false e = cc
 
 pub tokens-good : (text : List ℕ) → token_fault text ≡ None → Each IsGood (tokens text)
-tokens-good text h = good-tokens false [] (words text) refl (none-left (first_fault (λ before w. w.start) word_rules [] (words text)) (Rattle.mm_model.specs.Tokens.open_comment text) (no-words-fault (bad_byte text) (words_fault text) h)).0
+tokens-good text h =
+    good-tokens false [] (words text) refl
+        (none-left (first_fault (λ before w. w.start) word_rules [] (words text)) (Rattle.mm_model.specs.Tokens.open_comment text)
+            (no-words-fault (bad_byte text) (words_fault text) h)).0
 
 and-left : (a : Bool) → (a && true) ≡ false → a ≡ false
 and-left true h = absurd (clash h)
@@ -207,7 +228,8 @@ and-left true h = absurd (clash h)
 and-left false h = refl
 
 -- the kind of a word's bytes
-kind-is : (n : List ℕ) (first : ℕ) (rest : List ℕ) → n ≡ first ∷ rest → bytes_eq n (codes "$(") ≡ false → bytes_eq n (codes "$)") ≡ false → (list_any (λ b. eqb b 36) n && not (list_any (bytes_eq n) keywords)) ≡ false → IsKind (unwrap_or (keyword_kind n) token.Word) n
+kind-is : (n : List ℕ) (first : ℕ) (rest : List ℕ) → n ≡ first ∷ rest → bytes_eq n (codes "$(") ≡ false → bytes_eq n (codes "$)") ≡ false
+    → (list_any (λ b. eqb b 36) n && not (list_any (bytes_eq n) keywords)) ≡ false → IsKind (unwrap_or (keyword_kind n) token.Word) n
 kind-is n first rest e o c bad =
     elim (cases_Bool (bytes_eq n (codes "$c"))) [
       | inl q ↦ rw (q) ((bytes_eq-Decides n (codes "$c")).0 q)
@@ -248,7 +270,10 @@ kind-is n first rest e o c bad =
                                                                             elim (cases_Bool (bytes_eq n (codes "$]"))) [
                                                                               | inl q ↦ rw (h0, h1, h2, h3, h4, h5, h6, h7, h8, h9, h10, o, c, h13, q) ((bytes_eq-Decides n (codes "$]")).0 q)
                                                                               | inr h14 ↦
-                                                                                  let none : list_any (λ b. eqb b 36) n ≡ false = and-left (list_any (λ b. eqb b 36) n) (rw (h0, h1, h2, h3, h4, h5, h6, h7, h8, h9, h10, o, c, h13, h14) at bad) in
+                                                                                  let none : list_any (λ b. eqb b 36) n ≡ false =
+                                                                                      and-left (list_any (λ b. eqb b 36) n)
+                                                                                          (rw (h0, h1, h2, h3, h4, h5, h6, h7, h8, h9, h10, o, c, h13,
+                                                                                              h14) at bad) in
                                                                                   let here : list_any (λ b. eqb b 36) (first ∷ rest) ≡ false = ap (λ l. list_any (λ b. eqb b 36) l) (sym e) ∙ none in
                                                                                   let parts = or_parts (eqb first 36) (list_any (λ b. eqb b 36) rest) here in
                                                                                   let name : IsName n = record { first = first; rest = rest; eq = e; no_dollar = parts.0; none_behind = parts.1 } in

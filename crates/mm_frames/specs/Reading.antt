@@ -1,5 +1,6 @@
 -- What the reader does with a token: the code of its fault, and what the reader keeps where it has none.
-use Rattle.std.specs.Prelude.{◌≡◌, ℕ, ◌+◌, ◌<◌, ◌^◌, Bool, true, false, not, ◌&&◌, List, [], ◌∷◌, ◌++◌, length, take, Option, None, Some, if◌then◌else◌, nat_eq, nat_lt, position, slice_get, unwrap_or}
+use Rattle.std.specs.Prelude.{◌≡◌, ℕ, ◌+◌, ◌<◌, ◌^◌, Bool, true, false, not, ◌&&◌, List, [], ◌∷◌, ◌++◌, length, take, Option, None, Some}
+use Rattle.std.specs.Prelude.{if◌then◌else◌, nat_eq, nat_lt, position, slice_get, unwrap_or}
 use Rattle.std.specs.List.{list_any, list_all}
 use Rattle.std.specs.Str.{bytes_eq}
 use Rattle.mm_model.specs.Names.{Name, sym}
@@ -23,7 +24,9 @@ use Rattle.frame_lists.specs.declared.entry.StatementKind.TheVariants as kind
 use Rattle.mm_frames.specs.Kinds.{is_extra}
 
 abbrev pub first_reader : Reader
-first_reader = record { symbols = []; constants = []; labels = []; variables = []; typed = []; scopes = []; stage = stage.Between; formula = []; listed = []; begins = 0; entries = []; positions = [] }
+first_reader =
+    record { symbols = []; constants = []; labels = []; variables = []; typed = []; scopes = []; stage = stage.Between; formula = []; listed = [];
+        begins = 0; entries = []; positions = [] }
 
 -- where a statement begins, its byte is kept
 abbrev pub noted_at : Stage → Reader → ℕ → Reader
@@ -112,7 +115,9 @@ abbrev pub variable_code : Reader → Name → Option ℕ
 variable_code r n = variable_code_at ((position (bytes_eq n) r.symbols)) r n
 
 abbrev pub with_variable_at : Option ℕ → Reader → Name → Reader
-with_variable_at None r n = record r { symbols = r.symbols ++ n ∷ []; constants = r.constants ++ false ∷ []; variables = r.variables ++ length r.symbols ∷ []; formula = r.formula ++ sym (length r.symbols) ∷ [] }
+with_variable_at None r n =
+    record r { symbols = r.symbols ++ n ∷ []; constants = r.constants ++ false ∷ []; variables = r.variables ++ length r.symbols ∷ [];
+        formula = r.formula ++ sym (length r.symbols) ∷ [] }
 with_variable_at (Some i) r n = record r { variables = r.variables ++ i ∷ []; formula = r.formula ++ sym i ∷ [] }
 
 abbrev pub with_variable : Reader → Name → Reader

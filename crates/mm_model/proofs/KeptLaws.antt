@@ -72,7 +72,8 @@ taken older rest r h open' = record {
   acyclic = (h.acyclic, open');
 }
 
-keep_if : (older rest : List Production) (r : Production) (from : Typecode) (b : Bool) → chain_from r ≡ Some from → leads older r.gives from ≡ b → AreKept older (r ∷ rest) → AreKept (cond b older (r ∷ older)) rest
+keep_if : (older rest : List Production) (r : Production) (from : Typecode) (b : Bool) → chain_from r ≡ Some from → leads older r.gives from ≡ b
+    → AreKept older (r ∷ rest) → AreKept (cond b older (r ∷ older)) rest
 keep_if older rest r from true is l h = dropped older rest r h
 keep_if older rest r from false is l h = taken older rest r h (subst (λ o. OnChain o (λ c. leads older r.gives c ≡ false)) (sym is) l)
 

@@ -2,7 +2,8 @@
 use Rattle.std.proofs.Common.{◌≡◌, ℕ, suc, ◌<◌, true, false, cond, List, [], ◌∷◌, ◌++◌, length, drop, map, refl, sym, ap, ◌∙◌, codes, flat_map, append_assoc}
 use Rattle.std.proofs.lemmas.List.{map-append}
 use Rattle.mm_model.specs.Words.{Word}
-use Rattle.mm_model.specs.Statements.{Statement, ends_statement, ended, unended, has_keyword, with_keyword, symbols_in, labels_in, second, path, active_on, active, constants, variables_ever, variables, typed, labels}
+use Rattle.mm_model.specs.Statements.{Statement, ends_statement, ended, unended, has_keyword, with_keyword, symbols_in, labels_in, second, path}
+use Rattle.mm_model.specs.Statements.{active_on, active, constants, variables_ever, variables, typed, labels}
 use Rattle.mm_model.proofs.Scopes.{cond_then, cond_else, active-open, active-plain, active-close, nested}
 
 -- ---- tokens
@@ -33,7 +34,9 @@ listed-cons k f s ss = elim (has_keyword k s) as (λ t. flat_map f (cond t (s �
 
 pub listed-append : (k : List ℕ) (f : Statement → List (List ℕ)) (xs ys : List Statement) → listed k f (xs ++ ys) ≡ listed k f xs ++ listed k f ys
 listed-append k f [] ys = refl
-listed-append k f (x ∷ xs) ys = listed-cons k f x (xs ++ ys) ∙ ap (λ l. added k f x ++ l) (listed-append k f xs ys) ∙ sym (append_assoc (added k f x) (listed k f xs) (listed k f ys)) ∙ ap (λ l. l ++ listed k f ys) (sym (listed-cons k f x xs))
+listed-append k f (x ∷ xs) ys =
+    listed-cons k f x (xs ++ ys) ∙ ap (λ l. added k f x ++ l) (listed-append k f xs ys)
+        ∙ sym (append_assoc (added k f x) (listed k f xs) (listed k f ys)) ∙ ap (λ l. l ++ listed k f ys) (sym (listed-cons k f x xs))
 
 pub constants-cons : (s : Statement) (e : List Statement) → constants (s ∷ e) ≡ added (codes "$c") symbols_in s ++ constants e
 constants-cons s e = listed-cons (codes "$c") symbols_in s e
@@ -45,23 +48,28 @@ abbrev pub types : Statement → List (List ℕ)
 types s = second (symbols_in s)
 
 -- any list over what is active: `$v` with symbols_in, `$f` with types
-pub listed-plain : (k : List ℕ) (f : Statement → List (List ℕ)) (s : Statement) (e : List Statement) → has_keyword (codes "${") s ≡ false → has_keyword (codes "$}") s ≡ false → listed k f (active (s ∷ e)) ≡ added k f s ++ listed k f (active e)
+pub listed-plain : (k : List ℕ) (f : Statement → List (List ℕ)) (s : Statement) (e : List Statement) → has_keyword (codes "${") s ≡ false
+    → has_keyword (codes "$}") s ≡ false → listed k f (active (s ∷ e)) ≡ added k f s ++ listed k f (active e)
 listed-plain k f s e o c = ap (λ ss. listed k f ss) (active-plain s e o c) ∙ listed-cons k f s (active e)
 
-pub listed-open : (k : List ℕ) (f : Statement → List (List ℕ)) (s : Statement) (e : List Statement) → has_keyword (codes "${") s ≡ true → listed k f (active (s ∷ e)) ≡ added k f s ++ listed k f (active e)
+pub listed-open : (k : List ℕ) (f : Statement → List (List ℕ)) (s : Statement) (e : List Statement) → has_keyword (codes "${") s ≡ true
+    → listed k f (active (s ∷ e)) ≡ added k f s ++ listed k f (active e)
 listed-open k f s e o = ap (λ ss. listed k f ss) (active-open s e o) ∙ listed-cons k f s (active e)
 
-pub variables-plain : (s : Statement) (e : List Statement) → has_keyword (codes "${") s ≡ false → has_keyword (codes "$}") s ≡ false → variables (s ∷ e) ≡ added (codes "$v") symbols_in s ++ variables e
+pub variables-plain : (s : Statement) (e : List Statement) → has_keyword (codes "${") s ≡ false → has_keyword (codes "$}") s ≡ false
+    → variables (s ∷ e) ≡ added (codes "$v") symbols_in s ++ variables e
 variables-plain s e o c = listed-plain (codes "$v") symbols_in s e o c
 
 pub typed-plain : (s : Statement) (e : List Statement) → has_keyword (codes "${") s ≡ false → has_keyword (codes "$}") s ≡ false → typed (s ∷ e) ≡ added (codes "$f") types s ++ typed e
 typed-plain s e o c = listed-plain (codes "$f") types s e o c
 
 -- `$}` leaves the list that stood where the block began, which is the end of the list that stood before it
-pub listed-close : (k : List ℕ) (f : Statement → List (List ℕ)) (s : Statement) (e : List Statement) → has_keyword (codes "${") s ≡ false → has_keyword (codes "$}") s ≡ true → 0 < length (path e) → listed k f (active (s ∷ e)) ≡ listed k f (active_on (drop 1 (path e)) e)
+pub listed-close : (k : List ℕ) (f : Statement → List (List ℕ)) (s : Statement) (e : List Statement) → has_keyword (codes "${") s ≡ false
+    → has_keyword (codes "$}") s ≡ true → 0 < length (path e) → listed k f (active (s ∷ e)) ≡ listed k f (active_on (drop 1 (path e)) e)
 listed-close k f s e o c open_ = ap (λ ss. listed k f ss) (active-close s e o c open_)
 
-pub listed-nested : (k : List ℕ) (f : Statement → List (List ℕ)) (e : List Statement) (depth : ℕ) (h : depth < length (path e)) → listed k f (active_on (drop depth (path e)) e) ≡ listed k f (nested e depth h).front ++ listed k f (active_on (drop (suc depth) (path e)) e)
+pub listed-nested : (k : List ℕ) (f : Statement → List (List ℕ)) (e : List Statement) (depth : ℕ) (h : depth < length (path e))
+    → listed k f (active_on (drop depth (path e)) e) ≡ listed k f (nested e depth h).front ++ listed k f (active_on (drop (suc depth) (path e)) e)
 listed-nested k f e depth h = ap (λ ss. listed k f ss) (nested e depth h).eq ∙ listed-append k f (nested e depth h).front (active_on (drop (suc depth) (path e)) e)
 
 pub labels-cons : (s : Statement) (e : List Statement) → labels (s ∷ e) ≡ map (λ w. w.bytes) (labels_in s) ++ labels e

@@ -1,6 +1,7 @@
 -- What a database without a fault has: symbols and labels by number, what is active at a place, and frames
 -- (Metamath book, section 4.2). Statements are numbered from 0; place p stands before statement p.
-use Rattle.std.specs.Prelude.{ℕ, suc, ◌+◌, ◌-◌, Bool, ◌&&◌, ◌||◌, List, [], ◌∷◌, ◌++◌, length, take, Option, Some, None, if◌then◌else◌, map, reverse, flat_map, filter, find, option_map, option_and_then, slice_get, slice_index_or, unwrap_or, codes}
+use Rattle.std.specs.Prelude.{ℕ, suc, ◌+◌, ◌-◌, Bool, ◌&&◌, ◌||◌, List, [], ◌∷◌, ◌++◌, length, take, Option, Some, None, if◌then◌else◌, map, reverse}
+use Rattle.std.specs.Prelude.{flat_map, filter, find, option_map, option_and_then, slice_get, slice_index_or, unwrap_or, codes}
 use Rattle.std.specs.List.{list_any, position_or_len, range_with_len}
 use Rattle.std.specs.Str.{bytes_eq}
 use Rattle.mm_base.specs.declared.symbols.Sym.{Sym}

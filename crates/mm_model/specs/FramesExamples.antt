@@ -22,7 +22,8 @@ pair a b = record { a = sym a; b = sym b }
 -- ---- implication and modus ponens
 
 abbrev pub P : List ℕ
-P = codes "$c ( ) -> -. wff |- $. $v ph ps ch $. wph $f wff ph $. wps $f wff ps $. wch $f wff ch $. wn $a wff -. ph $. wi $a wff ( ph -> ps ) $. ${ min $e |- ph $. maj $e |- ( ph -> ps ) $. ax-mp $a |- ps $. $} ax-1 $a |- ( ph -> ( ps -> ph ) ) $. ax-2 $a |- ( ( ph -> ( ps -> ch ) ) -> ( ( ph -> ps ) -> ( ph -> ch ) ) ) $."
+P = codes
+    "$c ( ) -> -. wff |- $. $v ph ps ch $. wph $f wff ph $. wps $f wff ps $. wch $f wff ch $. wn $a wff -. ph $. wi $a wff ( ph -> ps ) $. ${ min $e |- ph $. maj $e |- ( ph -> ps ) $. ax-mp $a |- ps $. $} ax-1 $a |- ( ph -> ( ps -> ph ) ) $. ax-2 $a |- ( ( ph -> ( ps -> ch ) ) -> ( ( ph -> ps ) -> ( ph -> ch ) ) ) $."
 
 abbrev S : List Statement
 S = statements P
@@ -63,7 +64,10 @@ P_frame_wn = refl
 pub P_frame_ax-mp : frame_of S (label 7) ≡ Some (record { label = label 7; is_axiom = true; at = 10; formula = syms (5 ∷ 7 ∷ []); hyps = wph ∷ wps ∷ min ∷ maj ∷ []; pairs = [] })
 P_frame_ax-mp = refl
 
-pub P_frame_ax-1 : frame_of S (label 8) ≡ Some (record { label = label 8; is_axiom = true; at = 12; formula = syms (5 ∷ 0 ∷ 6 ∷ 2 ∷ 0 ∷ 7 ∷ 2 ∷ 6 ∷ 1 ∷ 1 ∷ []); hyps = wph ∷ wps ∷ []; pairs = [] })
+pub P_frame_ax-1 : frame_of S (label 8)
+    ≡ Some
+        (record { label = label 8; is_axiom = true; at = 12; formula = syms (5 ∷ 0 ∷ 6 ∷ 2 ∷ 0 ∷ 7 ∷ 2 ∷ 6 ∷ 1 ∷ 1 ∷ []); hyps = wph ∷ wps ∷ [];
+            pairs = [] })
 P_frame_ax-1 = refl
 
 -- a `$f` and a `$e` have no frame, nor has a number that is no label's
@@ -115,7 +119,9 @@ P_float_codes = refl
 -- ---- nested blocks, a local variable, distinct variables, and a proof
 
 abbrev nested : List ℕ
-nested = codes "$c |- w s E $. $v p x $. wp $f w p $. sx $f s x $. ${ $v y $. sy $f s y $. $d y x p $. all $a w E x p $. ${ $d p x $. one $e |- p $. two $p |- E x p $= one all $. three $a |- E y p $. $} four $a |- p $. $}"
+nested =
+    codes
+        "$c |- w s E $. $v p x $. wp $f w p $. sx $f s x $. ${ $v y $. sy $f s y $. $d y x p $. all $a w E x p $. ${ $d p x $. one $e |- p $. two $p |- E x p $= one all $. three $a |- E y p $. $} four $a |- p $. $}"
 
 abbrev N : List Statement
 N = statements nested

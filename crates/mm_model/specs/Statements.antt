@@ -1,5 +1,6 @@
 -- The statements of a database as a flat list, what is active, and the faults 10 to 30 (Metamath book, section 4.2).
-use Rattle.std.specs.Prelude.{ℕ, ◌^◌, Bool, true, false, not, ◌&&◌, ◌||◌, ◌==◌, List, [], ◌∷◌, ◌++◌, length, take, drop, nat_lt, nat_le, nat_eq, Option, Some, None, if◌then◌else◌, map, reverse, flat_map, filter, take_while, codes}
+use Rattle.std.specs.Prelude.{ℕ, ◌^◌, Bool, true, false, not, ◌&&◌, ◌||◌, ◌==◌, List, [], ◌∷◌, ◌++◌, length, take, drop, nat_lt, nat_le, nat_eq}
+use Rattle.std.specs.Prelude.{Option, Some, None, if◌then◌else◌, map, reverse, flat_map, filter, take_while, codes}
 use Rattle.std.specs.List.{list_any, list_all, ends_with, prefix_len}
 use Rattle.std.specs.Str.{bytes_eq}
 use Rattle.mm_model.specs.Faults.{Fault, fault, or_else, first_fault_within}

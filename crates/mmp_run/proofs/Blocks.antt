@@ -31,6 +31,7 @@ pub found_here : (a : ℕ) (word text : List ℕ) (whole : Option ℕ) → a < 1
 found_here a word text whole h e is same =
     sym (e ∙ next a word h ∙ ap (λ (b : Bool). cond b (Some a) (number_from (a + 1) (1001 - (a + 1)) word)) (ap (λ (t : List ℕ). bytes_eq t word) (sym is) ∙ sym same))
 
-pub not_here : (a : ℕ) (word text : List ℕ) (whole : Option ℕ) → a < 1001 → whole ≡ number_from a (1001 - a) word → text ≡ decimal a → false ≡ bytes_eq text word → whole ≡ number_from (a + 1) (1001 - (a + 1)) word
+pub not_here : (a : ℕ) (word text : List ℕ) (whole : Option ℕ) → a < 1001 → whole ≡ number_from a (1001 - a) word → text ≡ decimal a
+    → false ≡ bytes_eq text word → whole ≡ number_from (a + 1) (1001 - (a + 1)) word
 not_here a word text whole h e is other =
     e ∙ next a word h ∙ ap (λ (b : Bool). cond b (Some a) (number_from (a + 1) (1001 - (a + 1)) word)) (ap (λ (t : List ℕ). bytes_eq t word) (sym is) ∙ sym other)

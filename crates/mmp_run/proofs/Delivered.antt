@@ -1,5 +1,6 @@
 -- What the status of a call and its texts say, from the ending that was delivered.
-use Rattle.std.proofs.Common.{◌≡◌, ◌≢◌, ◌≤◌, ◌⊎◌, ℕ, Bool, cond, List, [], Option, Some, None, option_map, MatchOption, IfSome, IsSomeAnd, IsNone, IsSome, option_and_then, true, false, refl, sym, ◌∙◌, ap, subst, inl, inr, arith}
+use Rattle.std.proofs.Common.{◌≡◌, ◌≢◌, ◌≤◌, ◌⊎◌, ℕ, Bool, cond, List, [], Option, Some, None, option_map, MatchOption, IfSome, IsSomeAnd, IsNone}
+use Rattle.std.proofs.Common.{IsSome, option_and_then, true, false, refl, sym, ◌∙◌, ap, subst, inl, inr, arith}
 use Rattle.std.specs.Borrow.{Bor}
 use Rattle.std.specs.Option.{option_copied}
 use Rattle.call_answers.specs.declared.ending.Ending.{Ending}
@@ -109,8 +110,11 @@ module _ (files : Option Files) (before mid : Name → ℕ) (end : Ending) where
 later : (before mid now : ℕ) → mid ≤ now → Rose before mid → Rose before now
 later before mid now fell rose = omega arith
 
-fault_later : (command : Command) (files : Option Files) (before mid now : Name → ℕ) (end : Ending) → NoneFell mid now → IsReadFault command files before mid end → IsReadFault command files before now end
-fault_later command files before mid now end fell f = record { name = f.name; named = f.named; in_turn = f.in_turn; rose = later (before f.name) (mid f.name) (now f.name) (fell f.name) f.rose; says = f.says }
+fault_later : (command : Command) (files : Option Files) (before mid now : Name → ℕ) (end : Ending) → NoneFell mid now
+    → IsReadFault command files before mid end → IsReadFault command files before now end
+fault_later command files before mid now end fell f =
+    record { name = f.name; named = f.named; in_turn = f.in_turn; rose = later (before f.name) (mid f.name) (now f.name) (fell f.name) f.rose;
+        says = f.says }
 
 by_words : (files : Option Files) (before mid now : Name → ℕ) (end : Ending) (o : Option Command) → NoneFell mid now → MayEndFor o files before mid end
     → MatchOption (option_and_then database_of o) (CallAnswer no_files o end)
@@ -195,13 +199,15 @@ module _ (words : List Name) (files : Option Files) (before mid now : Name → �
     part = subst (λ (p : Option Name). GivesPart p end old new) d.place_is (d.part e);
   }
 
-  for_both : (o : Option Command) (t : Option Files) (P : Command → Files → Type 0) → ((command : Command) (f : Files) → o ≡ Some command → t ≡ Some f → P command f) → IfSome o (λ command. IfSome t (λ f. P command f))
+  for_both : (o : Option Command) (t : Option Files) (P : Command → Files → Type 0)
+      → ((command : Command) (f : Files) → o ≡ Some command → t ≡ Some f → P command f) → IfSome o (λ command. IfSome t (λ f. P command f))
   for_both None t P each = tt
   for_both (Some command) None P each = tt
   for_both (Some command) (Some f) P each = each command f refl refl
 
   -- where nothing failed
-  pub is_complete : Done → (OutRose LogRose : Type 0) (FileRose : Name → Type 0) → (s ≡ Write → OutRose ⊎ (LogRose ⊎ IsSomeAnd place FileRose)) → ((name : Name) → place ≡ Some name → in_place_of (command_of words) ≡ Some name)
+  pub is_complete : Done → (OutRose LogRose : Type 0) (FileRose : Name → Type 0) → (s ≡ Write → OutRose ⊎ (LogRose ⊎ IsSomeAnd place FileRose))
+      → ((name : Name) → place ≡ Some name → in_place_of (command_of words) ≡ Some name)
       → IfSome (command_of words) (λ command. IfSome files (λ f.
       NoReadFault command before now → IfSome (in_place_of (Some command)) (λ name. ¬ FileRose name) → ¬ OutRose → ¬ LogRose → (s ≡ Memory) ⊎ IsGiven words f s old new))
   is_complete d OutRose LogRose FileRose cause placed =
@@ -221,7 +227,8 @@ module _ (words : List Name) (files : Option Files) (before mid now : Name → �
         | inr (inr (inr is)) ↦ inl is
       ])
     where
-      in_no_file : (command : Command) (p : Option Name) → ((name : Name) → p ≡ Some name → in_place_of (Some command) ≡ Some name) → IfSome (in_place_of (Some command)) (λ name. ¬ FileRose name) → IsSomeAnd p FileRose → ⊥
+      in_no_file : (command : Command) (p : Option Name) → ((name : Name) → p ≡ Some name → in_place_of (Some command) ≡ Some name)
+          → IfSome (in_place_of (Some command)) (λ name. ¬ FileRose name) → IsSomeAnd p FileRose → ⊥
       in_no_file command None at still rose = rose
       in_no_file command (Some name) at still rose = let there = at name refl in (rw there at still) rose
 
@@ -288,7 +295,8 @@ status_written : (s t : Status) → s ≡ t → is_written t ≡ false → is_wr
 status_written s t e is = ap is_written e ∙ is
 
 -- no file changes where nothing is written
-pub files_kept : (old mid new : Option Files) (place : Option Name) (end : Ending) (s : Status) (o : Option Command) (before after : Told) → mid ≡ old → (s ≢ Write → s ≢ Memory → GivesWhole place end s before after)
+pub files_kept : (old mid new : Option Files) (place : Option Name) (end : Ending) (s : Status) (o : Option Command) (before after : Told) → mid ≡ old
+    → (s ≢ Write → s ≢ Memory → GivesWhole place end s before after)
     → place ≡ target o end.status → before.files ≡ old → after.files ≡ new → (s ≡ Memory → new ≡ mid) → is_written s ≡ false → s ≢ Write → new ≡ old
 files_kept old mid new place end s o before after same whole e was now memory not other = elim (is_memory_or_not s) [
   | inl is ↦ memory is ∙ same
@@ -315,7 +323,8 @@ since_start A B place before mid now fell (inr (inl b)) = inr (inl b)
 since_start A B None before mid now fell (inr (inr rose)) = absurd rose
 since_start A B (Some name) before mid now fell (inr (inr rose)) = inr (inr (rose_since (before name) (mid name) (now name) (fell name) rose))
 
-pub in_its_place : (A B : Type 0) (place : Option Name) (o : Option Command) (s : Status) (before mid now : Name → ℕ) → place ≡ target o s → NoneFell before mid → A ⊎ (B ⊎ IsSomeAnd place (λ n. Rose (mid n) (now n)))
+pub in_its_place : (A B : Type 0) (place : Option Name) (o : Option Command) (s : Status) (before mid now : Name → ℕ) → place ≡ target o s
+    → NoneFell before mid → A ⊎ (B ⊎ IsSomeAnd place (λ n. Rose (mid n) (now n)))
     → A ⊎ (B ⊎ IsSomeAnd (in_place_of o) (λ n. Rose (before n) (now n)))
 in_its_place A B place o s before mid now e fell (inl a) = inl a
 in_its_place A B place o s before mid now e fell (inr (inl b)) = inr (inl b)

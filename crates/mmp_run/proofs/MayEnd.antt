@@ -1,5 +1,6 @@
 -- How a call may end, from what was found under the names of its files and what the texts gave.
-use Rattle.std.proofs.Common.{◌≡◌, ◌≢◌, ◌⊎◌, ◌≤◌, ℕ, Bool, true, false, List, Option, Some, None, Result, Ok, Err, IfSome, IsSomeAnd, IsNone, IfOk, refl, sym, ◌∙◌, ap, subst, inl, inr, arith}
+use Rattle.std.proofs.Common.{◌≡◌, ◌≢◌, ◌⊎◌, ◌≤◌, ℕ, Bool, true, false, List, Option, Some, None, Result, Ok, Err, IfSome, IsSomeAnd, IsNone, IfOk}
+use Rattle.std.proofs.Common.{refl, sym, ◌∙◌, ap, subst, inl, inr, arith}
 use Rattle.std.specs.Option.{option_and_then}
 use Rattle.call_answers.specs.declared.ending.Ending.{Ending}
 use Rattle.call_answers.specs.CallAnswers.{CallAnswer, bad_database, bad_worksheet, unified, verdict, tried, HasDatabase, database_of, no_files}
@@ -64,7 +65,8 @@ module _ (command : Command) (told : Option Files) (before now : Name → ℕ) w
     silent = is.silent;
   }
 
-  may_not_read : (name : Name) (end : Ending) → ReadsFile command name → (database_of command ≡ Some name) ⊎ IfSome told (HasSoundDatabase command) → Rose (before name) (now name) → end ≡ read_fault name
+  may_not_read : (name : Name) (end : Ending) → ReadsFile command name → (database_of command ≡ Some name) ⊎ IfSome told (HasSoundDatabase command)
+      → Rose (before name) (now name) → end ≡ read_fault name
       → MayEnd command told before now end
   may_not_read name end named in_turn rose says =
       let is_read : end.status ≡ Read = ap (λ (x : Ending). x.status) says in
@@ -92,7 +94,8 @@ due_refused_at : (command : Command) (files : Files) (name : Name) (end : Ending
 due_refused_at command files name end None e named h = absurd h
 due_refused_at command files name end (Some text) e named h = bad_database {database = text} {f = h.fault} (has_database command files name text named e) h.stands h.refuses
 
-due_refused : (command : Command) (told : Option Files) (name : Name) (end : Ending) → database_of command ≡ Some name → IfSome told (λ files. IsSomeAnd (files name) (λ text. IsDatabaseRefusal text end))
+due_refused : (command : Command) (told : Option Files) (name : Name) (end : Ending) → database_of command ≡ Some name
+    → IfSome told (λ files. IsSomeAnd (files name) (λ text. IsDatabaseRefusal text end))
     → IfSome told (λ files. CallAnswer files (Some command) end)
 due_refused command None name end named h = tt
 due_refused command (Some files) name end named h = due_refused_at command files name end (files name) refl named h
@@ -130,7 +133,8 @@ module _ (command : SheetCommand) (is_in_place : Bool) (database : List ℕ) whe
       may_from_due (unify command is_in_place) told before now end (record { status = subst IsTextStatus (sym is.status) tt; silent = λ _. is.out }) (due_sheet_refused told end opened is.due)
       (λ none. absurd (some_not_none command.database none))
   may_refuse_sheet told before mid now end opened fell (inr is) =
-      may_not_read (unify command is_in_place) told before now command.sheet end (inr refl) (inr (sound told opened)) (rose_since (before command.sheet) (mid command.sheet) (now command.sheet) (fell command.sheet) is.rose) is.says
+      may_not_read (unify command is_in_place) told before now command.sheet end (inr refl) (inr (sound told opened))
+          (rose_since (before command.sheet) (mid command.sheet) (now command.sheet) (fell command.sheet) is.rose) is.says
 
   due_unified : (told : Option Files) (text : List ℕ) (end : Ending) → IsOpen told command.database database → Has told command.sheet text → IsUnified command.options database text end
       → IfSome told (λ files. CallAnswer files (Some (unify command is_in_place)) end)
@@ -138,7 +142,8 @@ module _ (command : SheetCommand) (is_in_place : Bool) (database : List ℕ) whe
   due_unified (Some files) text end opened has is = unified {database = database} {sheet = text} {db = is.db} opened.has opened.accepted.no_fault has is.is_database is.unifies
 
   -- the worksheet is unified
-  pub may_unify : (told : Option Files) (before now : Name → ℕ) (sheet : sheets.Sheet) (end : Result Ending memory.Memory) → IsOpen told command.database database → IsOpenSheet told command.sheet sheet
+  pub may_unify : (told : Option Files) (before now : Name → ℕ) (sheet : sheets.Sheet) (end : Result Ending memory.Memory)
+      → IsOpen told command.database database → IsOpenSheet told command.sheet sheet
       → ((text : List ℕ) → SaysSheet text sheet → IfOk end (IsUnified command.options database text)) → IfOk end IsTextEnding
       → IfOk end (MayEnd (unify command is_in_place) told before now)
   may_unify told before now sheet (Err e) opened read is st = tt

@@ -1,5 +1,6 @@
 -- The words of a command line, from the words as they are kept.
-use Rattle.std.proofs.Common.{◌≡◌, ◌<◌, ◌≤◌, ℕ, suc, ◌+◌, Bool, true, false, cond, List, [], ◌∷◌, length, take, drop, get_or, map, Option, Some, None, refl, sym, ◌∙◌, ap, subst, arith, add-one, drop-cons}
+use Rattle.std.proofs.Common.{◌≡◌, ◌<◌, ◌≤◌, ℕ, suc, ◌+◌, Bool, true, false, cond, List, [], ◌∷◌, length, take, drop, get_or, map, Option, Some, None}
+use Rattle.std.proofs.Common.{refl, sym, ◌∙◌, ap, subst, arith, add-one, drop-cons}
 use Rattle.std.specs.List.{prefix_len}
 use Rattle.std.specs.Option.{option_and_then}
 use Rattle.std.proofs.lemmas.List.{take-map, drop-map}
@@ -8,12 +9,15 @@ use Rattle.mm_model.specs.Names.{Name, contains}
 use Rattle.written_model.specs.declared.options.Options.{Options}
 
 -- the options in front, from a place on
-count_at : {K : Type 0} (f : K → Name) (words : List K) (i : ℕ) (d : K) → i < length words → prefix_len is_option (map f (drop i words)) ≡ cond (is_option (f (get_or words i d))) (1 + prefix_len is_option (map f (drop (i + 1) words))) 0
+count_at : {K : Type 0} (f : K → Name) (words : List K) (i : ℕ) (d : K) → i < length words
+    → prefix_len is_option (map f (drop i words)) ≡ cond (is_option (f (get_or words i d))) (1 + prefix_len is_option (map f (drop (i + 1) words))) 0
 count_at f words i d h = rw (add-one, drop-cons words i d) refl
 
 pub count_past : {K : Type 0} (f : K → Name) (words : List K) (i n : ℕ) (d : K) → i < length words → n ≡ i + prefix_len is_option (map f (drop i words)) → is_option (f (get_or words i d)) ≡ true
     → n ≡ (i + 1) + prefix_len is_option (map f (drop (i + 1) words))
-count_past f words i n d h e is = let at = count_at f words i d h in let more : prefix_len is_option (map f (drop i words)) ≡ 1 + prefix_len is_option (map f (drop (i + 1) words)) = rw is at at in omega (arith, e, more)
+count_past f words i n d h e is = let at = count_at f words i d h in
+    let more : prefix_len is_option (map f (drop i words)) ≡ 1 + prefix_len is_option (map f (drop (i + 1) words)) = rw is at at in
+    omega (arith, e, more)
 
 pub count_here : {K : Type 0} (f : K → Name) (words : List K) (i n : ℕ) (d : K) → i < length words → n ≡ i + prefix_len is_option (map f (drop i words)) → is_option (f (get_or words i d)) ≡ false
     → i ≡ n

@@ -1,5 +1,6 @@
 -- Refusals of the files that a command names, from what was found under their names.
-use Rattle.std.proofs.Common.{◌≡◌, ◌≢◌, ◌⊎◌, ◌≤◌, ◌<◌, ◌^◌, ℕ, List, length, nat_lt, Option, Some, None, option_map, Result, Ok, Err, IfSome, IsSomeAnd, IfOk, true, false, refl, sym, ◌∙◌, ap, subst, inl, inr, arith}
+use Rattle.std.proofs.Common.{◌≡◌, ◌≢◌, ◌⊎◌, ◌≤◌, ◌<◌, ◌^◌, ℕ, List, length, nat_lt, Option, Some, None, option_map, Result, Ok, Err, IfSome}
+use Rattle.std.proofs.Common.{IsSomeAnd, IfOk, true, false, refl, sym, ◌∙◌, ap, subst, inl, inr, arith}
 use Rattle.std.proofs.lemmas.Bool.Decides.{nat_tests}
 use Rattle.std.proofs.lemmas.Option.{none-some, same_Some}
 use Rattle.call_answers.specs.declared.ending.Ending.{Ending}
@@ -35,7 +36,8 @@ refuses end s line e = record { out = ap (λ (x : Ending). x.out) e; log = ap (�
 -- ---- databases
 
 -- the line that tells the first fault of a database
-refused_with : (database : List ℕ) (end : Ending) (first : Option Fault) (text : List ℕ) → database_fault database ≡ first → option_map database_line first ≡ Some text → end ≡ refusal Database text → IsDatabaseRefusal database end
+refused_with : (database : List ℕ) (end : Ending) (first : Option Fault) (text : List ℕ) → database_fault database ≡ first
+    → option_map database_line first ≡ Some text → end ≡ refusal Database text → IsDatabaseRefusal database end
 refused_with database end None text is line says = absurd (none-some text line)
 refused_with database end (Some f) text is line says =
     record { fault = f; stands = is; refuses = refuses end Database (database_line f) (says ∙ ap (refusal Database) (sym (same_Some (database_line f) text line))) }
@@ -51,7 +53,8 @@ refused_told database (Ok end) first text is line says = refused_with database e
 too_long : (database : List ℕ) → 2 ^ 28 < length database → database_fault database ≡ Some (fault (2 ^ 28) 30)
 too_long database long = rw (longer (length database) (2 ^ 28) long) refl
 
-long_file : (end : Ending) (file : Option (List ℕ)) → end ≡ refusal Database (database_line (fault (2 ^ 28) 30)) → IsSomeAnd file (λ text. 2 ^ 28 < length text) → IsSomeAnd file (λ text. IsDatabaseRefusal text end)
+long_file : (end : Ending) (file : Option (List ℕ)) → end ≡ refusal Database (database_line (fault (2 ^ 28) 30))
+    → IsSomeAnd file (λ text. 2 ^ 28 < length text) → IsSomeAnd file (λ text. IsDatabaseRefusal text end)
 long_file end None says long = absurd long
 long_file end (Some text) says long = refused_by text end (fault (2 ^ 28) 30) (too_long text long) says
 
@@ -66,7 +69,8 @@ text_refused None name text end has is = record { status = is.refuses.status; ou
 text_refused (Some files) name text end has is = record { status = is.refuses.status; out = is.refuses.out; due = rw has is }
 
 -- the statements of the text of a file, as it was read
-pub listed_text : (told : Option Files) (name text read : List ℕ) (contents : Contents) → read ≡ text → Has told name text → contents ≡ contents_of read → database_fault read ≡ None → IsListedText told name text contents
+pub listed_text : (told : Option Files) (name text read : List ℕ) (contents : Contents) → read ≡ text → Has told name text
+    → contents ≡ contents_of read → database_fault read ≡ None → IsListedText told name text contents
 listed_text told name text read contents e has is no_fault =
     record { is_open = record { has = has; accepted = record { no_fault = ap database_fault (sym e) ∙ no_fault } }; contents_are = is ∙ ap contents_of e }
 
@@ -81,7 +85,8 @@ short_fault sheet short = rw (not_longer (length sheet) (2 ^ 24) short) refl
 long_fault : (sheet : List ℕ) → 2 ^ 24 < length sheet → text_fault sheet ≡ Some (fault 1 50)
 long_fault sheet long = rw (longer (length sheet) (2 ^ 24) long) refl
 
-long_sheet : (end : Ending) (file : Option (List ℕ)) → end ≡ refusal Sheet (refusal_line (at_line (fault 1 50))) → IsSomeAnd file (λ text. 2 ^ 24 < length text) → IsSomeAnd file (λ text. IsSheetRefusal text end)
+long_sheet : (end : Ending) (file : Option (List ℕ)) → end ≡ refusal Sheet (refusal_line (at_line (fault 1 50)))
+    → IsSomeAnd file (λ text. 2 ^ 24 < length text) → IsSomeAnd file (λ text. IsSheetRefusal text end)
 long_sheet end None says long = absurd long
 long_sheet end (Some text) says long = sheet_refused_by text end (fault 1 50) (long_fault text long) says
 
@@ -96,7 +101,8 @@ sheet_refused_text None name text end has is = record { status = is.refuses.stat
 sheet_refused_text (Some files) name text end has is = record { status = is.refuses.status; out = is.refuses.out; due = rw has is }
 
 -- a text with a fault
-pub sheet_refused : (told : Option Files) (name text : List ℕ) (end : Ending) (f : Fault) → length text ≤ 2 ^ 24 → Has told name text → line_fault text ≡ Some f → end ≡ refusal Sheet (refusal_line (at_line f)) → IsSheetRefused told name end
+pub sheet_refused : (told : Option Files) (name text : List ℕ) (end : Ending) (f : Fault) → length text ≤ 2 ^ 24 → Has told name text
+    → line_fault text ≡ Some f → end ≡ refusal Sheet (refusal_line (at_line f)) → IsSheetRefused told name end
 sheet_refused told name text end f short has is says = sheet_refused_text told name text end has (sheet_refused_by text end f (short_fault text short ∙ is) says)
 
 -- a text without one

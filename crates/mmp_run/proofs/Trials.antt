@@ -1,5 +1,6 @@
 -- What a trial tells, from the outcome of unifying its worksheet over its database.
-use Rattle.std.proofs.Common.{◌≡◌, ◌<◌, ◌≤◌, ◌^◌, ℕ, ◌+◌, Bool, cond, List, [], ◌∷◌, length, map, Option, Some, None, IsSome, Result, Ok, Err, IfOk, refl, sym, ◌∙◌, ap, subst, arith, inl, inr, false, true}
+use Rattle.std.proofs.Common.{◌≡◌, ◌<◌, ◌≤◌, ◌^◌, ℕ, ◌+◌, Bool, cond, List, [], ◌∷◌, length, map, Option, Some, None, IsSome, Result, Ok, Err, IfOk}
+use Rattle.std.proofs.Common.{refl, sym, ◌∙◌, ap, subst, arith, inl, inr, false, true}
 use Rattle.std.specs.Prelude.{count_by, flat_map}
 use Rattle.std.specs.List.{fold}
 use Rattle.std.proofs.lemmas.Bool.{cases_lt}
@@ -88,13 +89,19 @@ tried_written blocks d outcome end is is_outcome tells =
       tells =
           tells
           ∙ ap (λ (r : List ReportLine). ending (length r) (fits_in r) (letter_count (proof_line outcome.text)) outcome.finished) is_outcome.written.report
-          ∙ ap (λ (t : List ℕ). ending (length (written_report db trial_options w)) (fits_in (written_report db trial_options w)) (letter_count (proof_line t)) outcome.finished) is_outcome.written.text
-          ∙ ap (λ (b : Bool). ending (length (written_report db trial_options w)) (fits_in (written_report db trial_options w)) (letter_count (proof_line (written_text db trial_options w))) b) is_outcome.written.finished
+          ∙ ap
+              (λ (t : List ℕ). ending (length (written_report db trial_options w)) (fits_in (written_report db trial_options w))
+                  (letter_count (proof_line t)) outcome.finished) is_outcome.written.text
+          ∙ ap
+              (λ (b : Bool). ending (length (written_report db trial_options w)) (fits_in (written_report db trial_options w))
+                  (letter_count (proof_line (written_text db trial_options w))) b) is_outcome.written.finished
           ∙ ap (λ (n : ℕ). ending n (fits_in (written_report db trial_options w)) (letter_count (proof_line (written_text db trial_options w))) w.finished) (length-map (steps_in w.items) _)
-          ∙ ap (λ (n : ℕ). ending (length (steps_in w.items)) n (letter_count (proof_line (written_text db trial_options w))) w.finished) (count_by-map (λ (line : ReportLine). is_fits line.verdict) _ (steps_in w.items));
+          ∙ ap (λ (n : ℕ). ending (length (steps_in w.items)) n (letter_count (proof_line (written_text db trial_options w))) w.finished)
+              (count_by-map (λ (line : ReportLine). is_fits line.verdict) _ (steps_in w.items));
     }
 
-pub tried_ok : (blocks : ℕ) (options : Options) (d : opened.Opened) (outcome : Outcome) (end : Result Ending memory.Memory) → options ≡ trial_options → opened.IsOpened trial_options.kinds trial_database d
+pub tried_ok : (blocks : ℕ) (options : Options) (d : opened.Opened) (outcome : Outcome) (end : Result Ending memory.Memory) → options ≡ trial_options
+    → opened.IsOpened trial_options.kinds trial_database d
     → IsOutcome (database_of options.kinds trial_database d.rows d.parsed) (trial_sheet blocks) options outcome → IfOk end (TellsOutcome outcome) → IfOk end (IsTried blocks)
 tried_ok blocks options d outcome (Err e) same is is_outcome tells = tt
 tried_ok blocks options d outcome (Ok end) same is is_outcome tells =

@@ -27,7 +27,8 @@ pub said_none : (text name : List ℕ) → theorem_named (statements text) name 
 said_none text name e =
     subst (λ (o : Option (Theorem × List Name)). MatchOption o (no_theorem ≡ no_theorem) (λ t. IsProofVerdict (frames_of_database (statements text)) t.0 t.1 no_theorem)) (sym e) refl
 
-said_of : (text name : List ℕ) (l : Label) (t : IsTheorem (statements text) name l) (v : Verdict) → IsProofVerdict (frames_of_database (statements text)) (theorem_of_frame (statements text) t.frame) t.words v → IsVerdict text name v
+said_of : (text name : List ℕ) (l : Label) (t : IsTheorem (statements text) name l) (v : Verdict)
+    → IsProofVerdict (frames_of_database (statements text)) (theorem_of_frame (statements text) t.frame) t.words v → IsVerdict text name v
 said_of text name l t v is =
     subst (λ (o : Option (Theorem × List Name)). MatchOption o (v ≡ no_theorem) (λ s. IsProofVerdict (frames_of_database (statements text)) s.0 s.1 v)) (sym (named_by (statements text) name l t)) is
 
@@ -39,23 +40,30 @@ proof_at ss name l t range = record { frame = t.frame_is; words = t.words_are; r
 pub range_of : ProofsStand → (text name : List ℕ) (l : Label) (t : IsTheorem (statements text) name l) → database_fault text ≡ None → IsSome (proof_range (statements text) l)
 range_of law text name l t sound = by_statement (statement_of (statements text) l) refl t.words_are
   where
-    by_keyword : (p : ℕ × Statement) (b : Bool) → statement_of (statements text) l ≡ Some p → has_keyword (codes "$p") p.1 ≡ b → cond b (Some (proof_words p.1)) None ≡ Some t.words → IsSome (proof_range (statements text) l)
+    by_keyword : (p : ℕ × Statement) (b : Bool) → statement_of (statements text) l ≡ Some p → has_keyword (codes "$p") p.1 ≡ b
+        → cond b (Some (proof_words p.1)) None ≡ Some t.words → IsSome (proof_range (statements text) l)
     by_keyword p true there k e = law text sound l p.0 p.1 there k
     by_keyword p false there k e = let clash : None ≡ Some t.words = e in absurd (cc)
 
-    by_statement : (o : Option (ℕ × Statement)) → statement_of (statements text) l ≡ o → option_and_then {U = List Name} (λ p. cond (has_keyword (codes "$p") p.1) (Some (proof_words p.1)) None) o ≡ Some t.words → IsSome (proof_range (statements text) l)
+    by_statement : (o : Option (ℕ × Statement)) → statement_of (statements text) l ≡ o
+        → option_and_then {U = List Name} (λ p. cond (has_keyword (codes "$p") p.1) (Some (proof_words p.1)) None) o ≡ Some t.words
+        → IsSome (proof_range (statements text) l)
     by_statement None there e = let clash : None ≡ Some t.words = e in absurd (cc)
     by_statement (Some p) there e = by_keyword p (has_keyword (codes "$p") p.1) there refl e
 
-pub said_code : (text name : List ℕ) (l : Label) (t : IsTheorem (statements text) name l) (f : Fault) → proof_code_fault (labels_of_hyps t.frame.hyps) t.words ≡ Some f → IsVerdict text name (bad_code f)
+pub said_code : (text name : List ℕ) (l : Label) (t : IsTheorem (statements text) name l) (f : Fault)
+    → proof_code_fault (labels_of_hyps t.frame.hyps) t.words ≡ Some f → IsVerdict text name (bad_code f)
 said_code text name l t f e =
     said_of text name l t (bad_code f)
     (subst (λ (o : Option Fault). MatchOption o
-    ((code : Code) × IsCodeOf (labels_of_hyps t.frame.hyps) t.words code × (bad_code f ≡ verdict_of (proof_fault (frames_of_database (statements text)) (theorem_of_frame (statements text) t.frame) code)))
+    ((code : Code) × IsCodeOf (labels_of_hyps t.frame.hyps) t.words code
+        × (bad_code f ≡ verdict_of (proof_fault (frames_of_database (statements text)) (theorem_of_frame (statements text) t.frame) code)))
     (λ g. bad_code f ≡ bad_code g)) (sym e) refl)
 
 said_proof : (text name : List ℕ) (l : Label) (t : IsTheorem (statements text) name l) (code : Code) (v : Verdict) → proof_code_fault (labels_of_hyps t.frame.hyps) t.words ≡ None
-    → IsCodeOf (labels_of_hyps t.frame.hyps) t.words code → verdict_of (proof_fault (frames_of_database (statements text)) (theorem_of_frame (statements text) t.frame) code) ≡ v → IsVerdict text name v
+    → IsCodeOf (labels_of_hyps t.frame.hyps) t.words code
+        → verdict_of (proof_fault (frames_of_database (statements text)) (theorem_of_frame (statements text) t.frame) code) ≡ v
+        → IsVerdict text name v
 said_proof text name l t code v e is says =
     said_of text name l t v
     (subst (λ (o : Option Fault). MatchOption o
@@ -64,18 +72,21 @@ said_proof text name l t code v e is says =
 
 -- by the theorem that the machine was given
 pub said_machine : (text name : List ℕ) (l : Label) (t : IsTheorem (statements text) name l) (theorem : Theorem) (code : Code) (v : Verdict) → theorem ≡ theorem_of_frame (statements text) t.frame
-    → proof_code_fault (labels_of_hyps t.frame.hyps) t.words ≡ None → IsCodeOf (labels_of_hyps t.frame.hyps) t.words code → verdict_of (proof_fault (frames_of_database (statements text)) theorem code) ≡ v → IsVerdict text name v
+    → proof_code_fault (labels_of_hyps t.frame.hyps) t.words ≡ None → IsCodeOf (labels_of_hyps t.frame.hyps) t.words code
+        → verdict_of (proof_fault (frames_of_database (statements text)) theorem code) ≡ v → IsVerdict text name v
 said_machine text name l t theorem code v e sound is says =
     said_proof text name l t code v sound is (subst (λ (h : Theorem). verdict_of (proof_fault (frames_of_database (statements text)) h code) ≡ v) e says)
 
 pub said_accepted : (text name : List ℕ) (l : Label) (t : IsTheorem (statements text) name l) (theorem : Theorem) (code : Code) → theorem ≡ theorem_of_frame (statements text) t.frame
-    → proof_code_fault (labels_of_hyps t.frame.hyps) t.words ≡ None → IsCodeOf (labels_of_hyps t.frame.hyps) t.words code → Accepts (frames_of_database (statements text)) theorem code → IsVerdict text name accepted
+    → proof_code_fault (labels_of_hyps t.frame.hyps) t.words ≡ None → IsCodeOf (labels_of_hyps t.frame.hyps) t.words code
+        → Accepts (frames_of_database (statements text)) theorem code → IsVerdict text name accepted
 said_accepted text name l t theorem code e sound is accepts =
     said_machine text name l t theorem code accepted e sound is (ap verdict_of accepts)
 
 -- ---- faults of codes
 
-pub code_told : (m words : List (List ℕ)) (e : CodeFault) (f : Fault) → IsProofCodeFault m words e → (e ≡ faults.Memory → ⊥) → ((text : List ℕ) (mandatory : List (List ℕ)) → IsFault text mandatory e → code_fault text mandatory ≡ Some f)
+pub code_told : (m words : List (List ℕ)) (e : CodeFault) (f : Fault) → IsProofCodeFault m words e → (e ≡ faults.Memory → ⊥)
+    → ((text : List ℕ) (mandatory : List (List ℕ)) → IsFault text mandatory e → code_fault text mandatory ≡ Some f)
     → proof_code_fault m words ≡ Some f
 code_told m words e f (inl memory) not_memory told = absurd (not_memory memory)
 code_told m words e f (inr is) not_memory told =

@@ -1,5 +1,6 @@
 -- Each token of a text without a fault passed every rule, in the statement where it stands.
-use Rattle.std.proofs.Common.{◌≡◌, ◌<◌, ◌≤◌, ℕ, zero, suc, Bool, true, false, cond, List, [], ◌∷◌, ◌++◌, length, take, reverse, Option, Some, None, option_map, refl, sym, ap, ◌∙◌, arith, subst, append_assoc, inl, inr, nat_lt, ◌^◌}
+use Rattle.std.proofs.Common.{◌≡◌, ◌<◌, ◌≤◌, ℕ, zero, suc, Bool, true, false, cond, List, [], ◌∷◌, ◌++◌, length, take, reverse, Option, Some, None}
+use Rattle.std.proofs.Common.{option_map, refl, sym, ap, ◌∙◌, arith, subst, append_assoc, inl, inr, nat_lt, ◌^◌}
 use Rattle.std.specs.Prelude.{find}
 use mathlib.Core.List.{reverse_aux}
 use Rattle.std.specs.List.{AllByRecursion, slice_get}

@@ -95,7 +95,8 @@ module _ (e : List Statement) (each : EachBefore IsChecked e) (provable : Sym) w
   abbrev OwnEarlier : Frame → Frame → Type 0
   OwnEarlier f g = (frame_of ss f.label ≡ Some f) × (frame_of ss g.label ≡ Some g) × Earlier f g
 
-  own_with : (f : Frame) → frame_of ss f.label ≡ Some f → (gs : List Frame) → AllByRecursion (λ (g : Frame). frame_of ss g.label ≡ Some g) gs → AllByRecursion (Earlier f) gs → AllByRecursion (OwnEarlier f) gs
+  own_with : (f : Frame) → frame_of ss f.label ≡ Some f → (gs : List Frame) → AllByRecursion (λ (g : Frame). frame_of ss g.label ≡ Some g) gs
+      → AllByRecursion (Earlier f) gs → AllByRecursion (OwnEarlier f) gs
   own_with f is [] h k = tt
   own_with f is (g ∷ gs) h k = ((is, h.0, k.0), own_with f is gs h.1 k.1)
 
@@ -135,7 +136,8 @@ module _ (e : List Statement) (each : EachBefore IsChecked e) (provable : Sym) w
 
   -- ---- what is kept of them
 
-  kept_by : (o : Option Typecode) (older : List Production) (r : Production) → AllByRecursion (IsRowIn provable ss) older → IsRowIn provable ss r → AllByRecursion (IsRowIn provable ss) (keep_by o older r)
+  kept_by : (o : Option Typecode) (older : List Production) (r : Production) → AllByRecursion (IsRowIn provable ss) older → IsRowIn provable ss r
+      → AllByRecursion (IsRowIn provable ss) (keep_by o older r)
   kept_by None older r h p = (p, h)
   kept_by (Some from) older r h p = elim (cases_Bool (leads older r.gives from)) [
     | inl d ↦ rw d h

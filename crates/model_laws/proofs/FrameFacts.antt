@@ -1,5 +1,6 @@
 -- What holds of the frames of a text without a fault.
-use Rattle.std.proofs.Common.{◌≡◌, ◌<◌, ℕ, Bool, true, false, cond, ◌||◌, ◌&&◌, List, [], ◌∷◌, ◌++◌, length, map, drop, reverse, Option, Some, None, option_map, refl, sym, ap, ◌∙◌, arith, subst, inl, inr, flat_map, get_or, ◌⊎◌, codes, nat_eq}
+use Rattle.std.proofs.Common.{◌≡◌, ◌<◌, ℕ, Bool, true, false, cond, ◌||◌, ◌&&◌, List, [], ◌∷◌, ◌++◌, length, map, drop, reverse, Option, Some, None}
+use Rattle.std.proofs.Common.{option_map, refl, sym, ap, ◌∙◌, arith, subst, inl, inr, flat_map, get_or, ◌⊎◌, codes, nat_eq}
 use Rattle.std.specs.Option.{option_and_then}
 use Rattle.std.specs.List.{AllByRecursion, slice_get, filter, list_any, position_or_len, ends_with}
 use Rattle.std.specs.Str.{bytes_eq}
@@ -13,13 +14,15 @@ use Rattle.mm_model.specs.declared.frames.Hyp.{Hyp}
 use Rattle.mm_model.specs.declared.frames.Frame.{Frame}
 use Rattle.mm_model.specs.Names.{Name, typecode}
 use Rattle.mm_model.specs.Statements.{Statement, is, has_keyword, with_keyword, symbols_in, second, contains, path, active, active_on}
-use Rattle.mm_model.specs.Frames.{symbols, symbol_in, positions, position_of, below, hypothesis_of, formula_of, mandatory_variables, mandatory_hypotheses, frame_at, frame_of, statement_of, is_assertion}
+use Rattle.mm_model.specs.Frames.{symbols, symbol_in, positions, position_of, below, hypothesis_of, formula_of, mandatory_variables}
+use Rattle.mm_model.specs.Frames.{mandatory_hypotheses, frame_at, frame_of, statement_of, is_assertion}
 use Rattle.mm_model.specs.Productions.{TypedVariable, typed_by, typed_variables, floats}
 use Rattle.mm_model.specs.BookFacts.{float_formula, VariablesDiffer}
 use Rattle.mm_model.proofs.Scopes.{active-open, active-plain, active-close, active_on-keep, path-close, nested, EndsIn}
 use Rattle.model_laws.proofs.Checked.{EachBefore, IsChecked, found}
 use Rattle.model_laws.proofs.Shapes.{shape, FloatIsNew, float_is_new}
-use Rattle.model_laws.proofs.Listed.{all-filter, all-reverse, all_pass, all_with, Pairwise, pairwise-filter, pairwise-reverse, pairwise_right, places_differ, same_names, name_self, contains-filter, first_within}
+use Rattle.model_laws.proofs.Listed.{all-filter, all-reverse, all_pass, all_with, Pairwise, pairwise-filter, pairwise-reverse, pairwise_right}
+use Rattle.model_laws.proofs.Listed.{places_differ, same_names, name_self, contains-filter, first_within}
 
 abbrev pub is_float : Statement → Bool
 is_float s = has_keyword (codes "$f") s
@@ -38,7 +41,8 @@ close_none s e o c none =
     let same : path (s ∷ e) ≡ path e = path-close s e o c ∙ ap (λ (p : List ℕ). drop 1 p) none ∙ sym none in
     ap (λ (p : List ℕ). active_on p (s ∷ e)) same ∙ active_on-keep s e
 
-close_by : (s : Statement) (e : List Statement) (p : List ℕ) → path e ≡ p → has_keyword (codes "${") s ≡ false → has_keyword (codes "$}") s ≡ true → (active (s ∷ e) ≡ s ∷ active e) ⊎ EndsIn (active e) (active (s ∷ e))
+close_by : (s : Statement) (e : List Statement) (p : List ℕ) → path e ≡ p → has_keyword (codes "${") s ≡ false → has_keyword (codes "$}") s ≡ true
+    → (active (s ∷ e) ≡ s ∷ active e) ⊎ EndsIn (active e) (active (s ∷ e))
 close_by s e [] is o c = inl (close_none s e o c is)
 close_by s e (n ∷ p) is o c =
     let deep : 0 < length (path e) = subst (λ (q : List ℕ). 0 < length q) (sym is) (omega arith) in
@@ -87,7 +91,9 @@ apart_one s v is [] none = tt
 apart_one s v is (h ∷ hs) none = elim (cases_Bool (is_float h)) [
   | inl d ↦
       let two : contains (types h ++ flat_map types (with_keyword (codes "$f") hs)) v ≡ false = rw d at none in
-      let halves = or_parts (contains (types h) v) (contains (flat_map types (with_keyword (codes "$f") hs)) v) (sym (list_any-append (bytes_eq v) (types h) (flat_map types (with_keyword (codes "$f") hs))) ∙ two) in (
+      let halves =
+          or_parts (contains (types h) v) (contains (flat_map types (with_keyword (codes "$f") hs)) v)
+              (sym (list_any-append (bytes_eq v) (types h) (flat_map types (with_keyword (codes "$f") hs))) ∙ two) in (
         (λ f g u c there.
             let in_one : contains (v ∷ []) u ≡ true = sym (ap (λ ns. contains ns u) is) ∙ c in
             let same : u ≡ v = only u v in_one in
@@ -175,7 +181,8 @@ mandatory_is mandatory h short c f =
 abbrev pub floats_of : List Name → List Statement → List Statement
 floats_of mandatory b = filter is_float (mandatory_hypotheses mandatory b)
 
-both_facts : (mandatory : List Name) (hs : List Statement) → AllByRecursion FloatShort hs → AllByRecursion (λ h. counts mandatory h ≡ true) hs → AllByRecursion (λ h. is_float h ≡ true) hs → AllByRecursion (IsMandatory mandatory) hs
+both_facts : (mandatory : List Name) (hs : List Statement) → AllByRecursion FloatShort hs → AllByRecursion (λ h. counts mandatory h ≡ true) hs
+    → AllByRecursion (λ h. is_float h ≡ true) hs → AllByRecursion (IsMandatory mandatory) hs
 both_facts mandatory [] a b c = tt
 both_facts mandatory (h ∷ hs) a b c = (mandatory_is mandatory h a.0 b.0 c.0, both_facts mandatory hs a.1 b.1 c.1)
 
@@ -239,7 +246,8 @@ module _ (names mandatory : List Name) where
   Other v w = v.sym ≡ w.sym → ⊥
 
   others : (known : (n : Name) → contains mandatory n ≡ true → contains names n ≡ true) → (h : Statement) → is_float h ≡ true → (m : IsMandatory mandatory h)
-      → (hs : List Statement) → AllByRecursion (λ x. is_float x ≡ true) hs → AllByRecursion (IsMandatory mandatory) hs → AllByRecursion (Apart h) hs → AllByRecursion (Other (variable_of h m)) (typed_list hs)
+      → (hs : List Statement) → AllByRecursion (λ x. is_float x ≡ true) hs → AllByRecursion (IsMandatory mandatory) hs → AllByRecursion (Apart h) hs
+          → AllByRecursion (Other (variable_of h m)) (typed_list hs)
   others known h f m [] fs ms apart = tt
   others known h f m (x ∷ hs) fs ms apart =
       let stands : contains (second (symbols_in h)) m.variable ≡ true = ap (λ ns. contains (second ns) m.variable) m.symbols ∙ alone m.variable in
@@ -286,7 +294,8 @@ mapped : {A B : Type 0} (f : A → B) (o : Option A) (y : B) → option_map f o 
 mapped f None y e = absurd cc
 mapped f (Some x) y e = (x, refl, cc)
 
-frame_known_by : (ss : List Statement) (l : Label) (f : Frame) (at : ℕ) (s : Statement) → slice_get (positions ss) l.0 ≡ Some at → slice_get ss at ≡ Some s → cond (is_assertion s) (Some (frame_at ss l at s)) None ≡ Some f → IsFrameAt ss l f
+frame_known_by : (ss : List Statement) (l : Label) (f : Frame) (at : ℕ) (s : Statement) → slice_get (positions ss) l.0 ≡ Some at
+    → slice_get ss at ≡ Some s → cond (is_assertion s) (Some (frame_at ss l at s)) None ≡ Some f → IsFrameAt ss l f
 frame_known_by ss l f at s p q e = let both = cond_some (is_assertion s) (frame_at ss l at s) f e in record { at = at; statement = s; position = p; stands = q; assertion = both.0; frame = both.1 }
 
 pub frame_known : (ss : List Statement) (l : Label) (f : Frame) → frame_of ss l ≡ Some f → IsFrameAt ss l f

@@ -1,5 +1,6 @@
 -- What is declared below a place has a number, and a formula of known symbols is one of a database.
-use Rattle.std.proofs.Common.{◌≡◌, ◌<◌, ◌==◌, ℕ, Bool, true, false, cond, ◌&&◌, List, [], ◌∷◌, length, map, take, reverse, Option, Some, None, option_map, refl, sym, ap, ◌∙◌, subst, inl, inr, ◌⊎◌, codes, flat_map, get_or}
+use Rattle.std.proofs.Common.{◌≡◌, ◌<◌, ◌==◌, ℕ, Bool, true, false, cond, ◌&&◌, List, [], ◌∷◌, length, map, take, reverse, Option, Some, None}
+use Rattle.std.proofs.Common.{option_map, refl, sym, ap, ◌∙◌, subst, inl, inr, ◌⊎◌, codes, flat_map, get_or}
 use Rattle.std.specs.Prelude.{is_some, find}
 use Rattle.std.specs.List.{AllByRecursion, list_any, filter}
 use Rattle.std.specs.Str.{bytes_eq}
@@ -50,7 +51,8 @@ module _ (ss : List Statement) (at : ℕ) where
   abbrev pub b : List Statement
   b = below ss at
 
-  pub declares : (k : List ℕ) → list_any (bytes_eq k) (codes "$c" ∷ codes "$v" ∷ []) ≡ true → (n : Name) → list_any (λ x. has_keyword k x && contains (symbols_in x) n) b ≡ true → contains names n ≡ true
+  pub declares : (k : List ℕ) → list_any (bytes_eq k) (codes "$c" ∷ codes "$v" ∷ []) ≡ true → (n : Name)
+      → list_any (λ x. has_keyword k x && contains (symbols_in x) n) b ≡ true → contains names n ≡ true
   declares k listed_ n h =
       let whole = any-take _ at ss (any-reverse _ (take at ss) h) in
       let some = any-with (λ x. has_keyword k x && contains (symbols_in x) n) (λ x. has_one_of (codes "$c" ∷ codes "$v" ∷ []) x && contains (symbols_in x) n)
@@ -131,7 +133,8 @@ module _ (ss : List Statement) (at : ℕ) where
       (same_symbols : db.symbols ≡ symbols ss)
       (same_active : db.active_at at ≡ active_at ss at)
       (same_constants : (s : Sym) → db.is_constant_at s at ≡ is_constant_at ss s at) where
-    leaf_by : (c v : Bool) (o : Option Typecode) (s : Sym) → (c ≡ true) ⊎ ((v ≡ true) × (is_some o ≡ true)) → is_some (cond c (Some (leaf.Const s)) (cond v (option_map (λ (t : Typecode). leaf.Var s t) o) None)) ≡ true
+    leaf_by : (c v : Bool) (o : Option Typecode) (s : Sym) → (c ≡ true) ⊎ ((v ≡ true) × (is_some o ≡ true))
+        → is_some (cond c (Some (leaf.Const s)) (cond v (option_map (λ (t : Typecode). leaf.Var s t) o) None)) ≡ true
     leaf_by true v o s h = refl
     leaf_by false true (Some t) s h = refl
     leaf_by false true None s (inl h) = absurd cc

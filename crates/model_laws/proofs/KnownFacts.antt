@@ -66,7 +66,9 @@ module _ (b : List Statement) (h : Statement) (front rest : List Statement) (is 
   variable_stays n c = ap (λ x. contains (listed (codes "$v") symbols_in x) n) active_is ∙ listed-right (codes "$v") symbols_in (front ++ h ∷ []) (active l.before) n c
 
   type_stays : (n : Name) → contains (typed l.before) n ≡ true → contains (typed b) n ≡ true
-  type_stays n c = ap (λ x. contains (listed (codes "$f") (λ (s : Statement). second (symbols_in s)) x) n) active_is ∙ listed-right (codes "$f") (λ (s : Statement). second (symbols_in s)) (front ++ h ∷ []) (active l.before) n c
+  type_stays n c =
+      ap (λ x. contains (listed (codes "$f") (λ (s : Statement). second (symbols_in s)) x) n) active_is
+          ∙ listed-right (codes "$f") (λ (s : Statement). second (symbols_in s)) (front ++ h ∷ []) (active l.before) n c
 
   meaning_stays : (n : Name) → Meant l.before n → Meant b n
   meaning_stays n m = elim m [ inl c ↦ inl (constant_stays n c) | inr v ↦ inr (variable_stays n v.0, type_stays n v.1) ]
@@ -131,7 +133,8 @@ assertion_known b s c h = elim (either_keyword (codes "$a") (codes "$p") (take 1
   | inr p ↦ formula_known b s (codes "$p") c p (record { asserting = refl; labelled = refl; no_proof = refl })
 ]
 
-counted : (mandatory : List Name) (hs : List Statement) (b : List Statement) → AllByRecursion (HypothesisKnown b) hs → AllByRecursion (λ h. counts mandatory h ≡ true) hs → AllByRecursion (λ h. FormulaKnown b (symbols_in h)) hs
+counted : (mandatory : List Name) (hs : List Statement) (b : List Statement) → AllByRecursion (HypothesisKnown b) hs
+    → AllByRecursion (λ h. counts mandatory h ≡ true) hs → AllByRecursion (λ h. FormulaKnown b (symbols_in h)) hs
 counted mandatory [] b k c = tt
 counted mandatory (h ∷ hs) b k c = (
   k.0 (elim (or_cases (has_keyword (codes "$e") h) (is_float h && list_any (contains mandatory) (second (symbols_in h))) c.0) [

@@ -154,7 +154,8 @@ given : {X Y : Type 0} (P : X → Type 0) (Q : Y → Type 0) (h : X → Option Y
 given P Q h f x xs None e p rest = rw e rest
 given P Q h f x xs (Some y) e p rest = rw e (f x y p e, rest)
 
-pub all-filter_map : {X Y : Type 0} (P : X → Type 0) (Q : Y → Type 0) (h : X → Option Y) → ((x : X) (y : Y) → P x → h x ≡ Some y → Q y) → (xs : List X) → AllByRecursion P xs → AllByRecursion Q (filter_map h xs)
+pub all-filter_map : {X Y : Type 0} (P : X → Type 0) (Q : Y → Type 0) (h : X → Option Y) → ((x : X) (y : Y) → P x → h x ≡ Some y → Q y)
+    → (xs : List X) → AllByRecursion P xs → AllByRecursion Q (filter_map h xs)
 all-filter_map P Q h f [] all = tt
 all-filter_map P Q h f (x ∷ xs) all = given P Q h f x xs (h x) refl all.0 (all-filter_map P Q h f xs all.1)
 
@@ -163,6 +164,7 @@ given_two : {X Y : Type 0} (R : X → X → Type 0) (S : Y → Y → Type 0) (h 
 given_two R S h f x xs None e r rest = rw e rest
 given_two R S h f x xs (Some y) e r rest = rw e (all-filter_map (R x) (S y) h (λ b d q is. f x b y d q e is) xs r, rest)
 
-pub pairwise-filter_map : {X Y : Type 0} (R : X → X → Type 0) (S : Y → Y → Type 0) (h : X → Option Y) → ((a b : X) (c d : Y) → R a b → h a ≡ Some c → h b ≡ Some d → S c d) → (xs : List X) → Pairwise R xs → Pairwise S (filter_map h xs)
+pub pairwise-filter_map : {X Y : Type 0} (R : X → X → Type 0) (S : Y → Y → Type 0) (h : X → Option Y)
+    → ((a b : X) (c d : Y) → R a b → h a ≡ Some c → h b ≡ Some d → S c d) → (xs : List X) → Pairwise R xs → Pairwise S (filter_map h xs)
 pairwise-filter_map R S h f [] all = tt
 pairwise-filter_map R S h f (x ∷ xs) all = given_two R S h f x xs (h x) refl all.0 (pairwise-filter_map R S h f xs all.1)

@@ -1,5 +1,6 @@
 -- The labels and the symbols of a text without a fault are words.
-use Rattle.std.proofs.Common.{◌≡◌, ◌==◌, ◌+◌, take, ℕ, zero, suc, Bool, true, false, cond, not, List, [], ◌∷◌, ◌++◌, length, map, drop, reverse, None, refl, sym, ap, ◌∙◌, subst, inl, inr, codes, flat_map, ne_eqb, arith}
+use Rattle.std.proofs.Common.{◌≡◌, ◌==◌, ◌+◌, take, ℕ, zero, suc, Bool, true, false, cond, not, List, [], ◌∷◌, ◌++◌, length, map, drop, reverse, None}
+use Rattle.std.proofs.Common.{refl, sym, ap, ◌∙◌, subst, inl, inr, codes, flat_map, ne_eqb, arith}
 use Rattle.std.specs.Prelude.{nat_eq}
 use Rattle.std.specs.List.{AllByRecursion, list_all, list_any, filter, take_while, prefix_len, ends_with}
 use Rattle.std.proofs.lemmas.Bool.{cases_Bool, and_from, not-false}
@@ -9,7 +10,8 @@ use Rattle.mm_model.specs.Labels.{is_label, is_label_byte}
 use Rattle.mm_model.specs.Names.{Name}
 use Rattle.mm_model.specs.Words.{Word, word, words_from, put_before, words, is_white}
 use Rattle.mm_model.specs.Tokens.{tokens, tokens_where, is_open_comment, is_close_comment}
-use Rattle.mm_model.specs.Statements.{Statement, is_word, is_empty, labels_in, labels, symbols_in, body, unended, ended, statements, contains, has_one_of, bad_label, ends_statement, database_fault, active, active_on, path}
+use Rattle.mm_model.specs.Statements.{Statement, is_word, is_empty, labels_in, labels, symbols_in, body, unended, ended, statements, contains}
+use Rattle.mm_model.specs.Statements.{has_one_of, bad_label, ends_statement, database_fault, active, active_on, path}
 use Rattle.mm_model.specs.Frames.{without_repeats, symbols, below, label_in, is_hypothesis, hypothesis_of}
 use Rattle.model_laws.specs.DatabaseLaws.{IsSymbolName, NamesAreWords, ActiveNamesArePlain}
 use Rattle.model_laws.proofs.Checked.{EachBefore, IsChecked, At, rules_fail, last_first, text_checked, no_statement_fault}
@@ -188,7 +190,8 @@ labels_are_named text ok =
     let bytes = all_pieces HasLabelBytes labels_in ss (all-reverse (λ s. AllByRecursion HasLabelBytes (labels_in s)) e (all_good e (text_checked text (no_statement_fault text ok)))) in
     let inked = all_pieces IsInked labels_in ss (all_with AreInked (λ s. AllByRecursion IsInked (labels_in s)) labels_inked ss (statements_inked text)) in
     all_mapped (λ n. is_label n ≡ true) (λ (w : Word). w.bytes) (flat_map labels_in ss)
-    (both IsInked HasLabelBytes (λ (w : Word). is_label w.bytes ≡ true) (λ w i b. and_from (not (length w.bytes == 0)) (list_all is_label_byte w.bytes) (ap not i.some) b) (flat_map labels_in ss) inked bytes)
+    (both IsInked HasLabelBytes (λ (w : Word). is_label w.bytes ≡ true)
+        (λ w i b. and_from (not (length w.bytes == 0)) (list_all is_label_byte w.bytes) (ap not i.some) b) (flat_map labels_in ss) inked bytes)
 
 pub names_words : NamesAreWords
 names_words kinds text db is ok =

@@ -1,5 +1,6 @@
 -- The variables of a frame's formulas have in the frame the typecodes that they have at its place.
-use Rattle.std.proofs.Common.{◌≡◌, ◌<◌, ◌==◌, ℕ, Bool, true, false, cond, not, ◌&&◌, ◌||◌, List, [], ◌∷◌, ◌++◌, length, map, take, reverse, Option, Some, None, option_map, refl, sym, ap, ◌∙◌, subst, inl, inr, codes, flat_map, get_or, arith, append_assoc}
+use Rattle.std.proofs.Common.{◌≡◌, ◌<◌, ◌==◌, ℕ, Bool, true, false, cond, not, ◌&&◌, ◌||◌, List, [], ◌∷◌, ◌++◌, length, map, take, reverse, Option}
+use Rattle.std.proofs.Common.{Some, None, option_map, refl, sym, ap, ◌∙◌, subst, inl, inr, codes, flat_map, get_or, arith, append_assoc}
 use Rattle.std.specs.Prelude.{find}
 use Rattle.std.specs.List.{AllByRecursion, list_any, filter, position_or_len, filter_map, cons_option}
 use Rattle.std.specs.Str.{bytes_eq}
@@ -127,7 +128,9 @@ module _ (names mandatory : List Name) (n : Name) (known : contains names n ≡ 
   typed_are : (hs : List Statement) → typed_variables (map (hypothesis_of names) hs) ≡ typed_of hs
   typed_are hs = ap (flat_map typed_in) (filter-map (λ (h : Hyp). h.floating) (hypothesis_of names) hs)
 
-  pub same_code : (hs : List Statement) → float_of (symbol_in names n) (map (hypothesis_of names) (filter is_hypothesis hs)) ≡ float_of (symbol_in names n) (map (hypothesis_of names) (filter (counts mandatory) hs))
+  pub same_code : (hs : List Statement)
+      → float_of (symbol_in names n) (map (hypothesis_of names) (filter is_hypothesis hs))
+          ≡ float_of (symbol_in names n) (map (hypothesis_of names) (filter (counts mandatory) hs))
   same_code hs =
       ap (λ vs. option_map (λ (v : TypedVariable). v.code) (find is_it vs)) (typed_are (filter is_hypothesis hs))
       ∙ ap (option_map (λ (v : TypedVariable). v.code)) (kept_find hs)

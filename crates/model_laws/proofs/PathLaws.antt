@@ -1,5 +1,6 @@
 -- Chains lead where a path of them does, and a path of kept chains never comes back.
-use Rattle.std.proofs.Common.{◌≡◌, ◌<◌, ◌≤◌, ℕ, suc, ◌+◌, ◌-◌, Bool, true, false, ◌&&◌, List, [], ◌∷◌, ◌++◌, length, reverse, Option, Some, None, refl, sym, ap, ◌∙◌, arith, subst, get_or, inl, inr, cond, fold}
+use Rattle.std.proofs.Common.{◌≡◌, ◌<◌, ◌≤◌, ℕ, suc, ◌+◌, ◌-◌, Bool, true, false, ◌&&◌, List, [], ◌∷◌, ◌++◌, length, reverse, Option, Some, None}
+use Rattle.std.proofs.Common.{refl, sym, ap, ◌∙◌, arith, subst, get_or, inl, inr, cond, fold}
 use Rattle.std.specs.List.{AllByRecursion, Contains}
 use Rattle.std.proofs.lemmas.Bool.{cases_Bool}
 use Rattle.std.proofs.lemmas.Bool.Decides.{nat_tests}
@@ -118,7 +119,8 @@ all_reversed rows (x ∷ path) h = (contains_reversed rows x h.0, all_reversed r
 
 -- ---- what is kept has no cycle
 
-acyclic_if : (older : List Production) (r : Production) (from : Typecode) (b : Bool) → chain_from r ≡ Some from → leads older r.gives from ≡ b → HasNoCycle older → HasNoCycle (cond b older (r ∷ older))
+acyclic_if : (older : List Production) (r : Production) (from : Typecode) (b : Bool) → chain_from r ≡ Some from → leads older r.gives from ≡ b
+    → HasNoCycle older → HasNoCycle (cond b older (r ∷ older))
 acyclic_if older r from true is l h = h
 acyclic_if older r from false is l h = (h, subst (λ o. OnChain o (λ c. leads older r.gives c ≡ false)) (sym is) l)
 

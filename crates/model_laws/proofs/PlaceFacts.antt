@@ -1,5 +1,6 @@
 -- What places say of constants, rows and typecodes.
-use Rattle.std.proofs.Common.{◌≡◌, ◌⊎◌, ◌<◌, ◌≤◌, ℕ, zero, suc, Bool, true, false, ◌&&◌, List, [], ◌∷◌, length, map, take, drop, reverse, Some, None, refl, sym, ap, ◌∙◌, subst, arith, inl, inr, codes, flat_map, get_or}
+use Rattle.std.proofs.Common.{◌≡◌, ◌⊎◌, ◌<◌, ◌≤◌, ℕ, zero, suc, Bool, true, false, ◌&&◌, List, [], ◌∷◌, length, map, take, drop, reverse, Some, None}
+use Rattle.std.proofs.Common.{refl, sym, ap, ◌∙◌, subst, arith, inl, inr, codes, flat_map, get_or}
 use Rattle.std.specs.Prelude.{Contains}
 use Rattle.std.specs.List.{AllByRecursion, list_any, filter}
 use Rattle.std.specs.Str.{bytes_eq}
@@ -105,13 +106,15 @@ codes_more ss p q c le m =
     subst (Contains (float_codes ss q)) r.2 (coded_in (symbols ss) (code_names (take q ss)) r.0 (into_codes (take q ss) r.0 (any_more (gives r.0) p q ss le (from_codes (take p ss) r.0 r.1))))
 
 -- the code of a `$f` of a frame
-float_origin : (names mandatory : List Name) (hs : List Statement) → AllByRecursion (IsMandatory mandatory) hs → AllByRecursion (λ h. is_float h ≡ true) hs → (v : TypedVariable) → Contains (typed_list names mandatory hs) v
+float_origin : (names mandatory : List Name) (hs : List Statement) → AllByRecursion (IsMandatory mandatory) hs
+    → AllByRecursion (λ h. is_float h ≡ true) hs → (v : TypedVariable) → Contains (typed_list names mandatory hs) v
     → (n : Name) × (coded names n ≡ v.code) × (list_any (gives n) hs ≡ true)
 float_origin names mandatory [] ms fs v m = let less = m.1 in absurd (omega (arith, less))
 float_origin names mandatory (h ∷ hs) ms fs v m = by (subst (λ vs. Contains vs v) (typed_list-cons names mandatory h hs ms.0) m)
     (float_origin names mandatory hs ms.1 fs.1 v)
   where
-    by : Contains (variable_of names mandatory h ms.0 ∷ typed_list names mandatory hs) v → (Contains (typed_list names mandatory hs) v → (n : Name) × (coded names n ≡ v.code) × (list_any (gives n) hs ≡ true))
+    by : Contains (variable_of names mandatory h ms.0 ∷ typed_list names mandatory hs) v
+        → (Contains (typed_list names mandatory hs) v → (n : Name) × (coded names n ≡ v.code) × (list_any (gives n) hs ≡ true))
         → (n : Name) × (coded names n ≡ v.code) × (list_any (gives n) (h ∷ hs) ≡ true)
     by (zero, l, e) rest =
         let stands : contains (take 1 (symbols_in h)) ms.0.code ≡ true = ap (λ ns. contains (take 1 ns) ms.0.code) ms.0.symbols ∙ or_left (bytes_eq ms.0.code ms.0.code) false (name_self ms.0.code) in
@@ -126,19 +129,28 @@ all_floats (h ∷ hs) = by (is_float h) refl (all_floats hs)
     by true e rest = rw e (e, rest)
     by false e rest = rw e rest
 
-frame_codes_at : (ss : List Statement) (l : Label) (at : ℕ) (s : Statement) → EachBefore IsChecked (below ss at) → (v : TypedVariable) → Contains (typed_variables (frame_at ss l at s).hyps) v → Contains (float_codes ss at) v.code
+frame_codes_at : (ss : List Statement) (l : Label) (at : ℕ) (s : Statement) → EachBefore IsChecked (below ss at) → (v : TypedVariable)
+    → Contains (typed_variables (frame_at ss l at s).hyps) v → Contains (float_codes ss at) v.code
 frame_codes_at ss l at s each v m =
     let b = below ss at in
     let mandatory = mandatory_at ss at s in
-    let r = float_origin (symbols ss) mandatory (floats_of mandatory b) (floats_mandatory mandatory b each) (all_floats (mandatory_hypotheses mandatory b)) v (subst (λ vs. Contains vs v) (typed_at ss l at s) m) in
-    let one = any-with (λ x. is_float x && gives r.0 x) (gives r.0) (λ x d. (and_parts (is_float x) (gives r.0 x) d).1) (mandatory_hypotheses mandatory b) (any-filter (gives r.0) is_float (mandatory_hypotheses mandatory b) r.2) in
-    let two = any-with (λ x. counts mandatory x && gives r.0 x) (gives r.0) (λ x d. (and_parts (counts mandatory x) (gives r.0 x) d).1) (reverse (active b)) (any-filter (gives r.0) (counts mandatory) (reverse (active b)) one) in
+    let r =
+        float_origin (symbols ss) mandatory (floats_of mandatory b) (floats_mandatory mandatory b each)
+            (all_floats (mandatory_hypotheses mandatory b)) v (subst (λ vs. Contains vs v) (typed_at ss l at s) m) in
+    let one =
+        any-with (λ x. is_float x && gives r.0 x) (gives r.0) (λ x d. (and_parts (is_float x) (gives r.0 x) d).1) (mandatory_hypotheses mandatory b)
+            (any-filter (gives r.0) is_float (mandatory_hypotheses mandatory b) r.2) in
+    let two =
+        any-with (λ x. counts mandatory x && gives r.0 x) (gives r.0) (λ x d. (and_parts (counts mandatory x) (gives r.0 x) d).1) (reverse (active b))
+            (any-filter (gives r.0) (counts mandatory) (reverse (active b)) one) in
     let three = any-reverse (gives r.0) (take at ss) (any-active (gives r.0) (path b) b (any-reverse (gives r.0) (active b) two)) in
     subst (Contains (float_codes ss at)) r.1 (coded_in (symbols ss) (code_names (take at ss)) r.0 (into_codes (take at ss) r.0 three))
 
 -- the first symbol of a `$f` is a constant
 constants_on : (s : Statement) (e : List Statement) (n : Name) → contains (constants e) n ≡ true → contains (constants (s ∷ e)) n ≡ true
-constants_on s e n h = ap (λ ns. contains ns n) (constants-cons s e) ∙ list_any-append (bytes_eq n) (added (codes "$c") symbols_in s) (constants e) ∙ or_right (contains (added (codes "$c") symbols_in s) n) (contains (constants e) n) h
+constants_on s e n h =
+    ap (λ ns. contains ns n) (constants-cons s e) ∙ list_any-append (bytes_eq n) (added (codes "$c") symbols_in s) (constants e)
+        ∙ or_right (contains (added (codes "$c") symbols_in s) n) (contains (constants e) n) h
 
 first_known : (e : List Statement) (ns : List Name) (n : Name) → FloatKnown e ns → contains (take 1 ns) n ≡ true → contains (constants e) n ≡ true
 first_known e [] n k h = absurd cc
@@ -173,7 +185,8 @@ row_items_by f r (c ∷ s ∷ rest) e = row_same _ r e
     row_same : (p q : Production) → Some p ≡ Some q → q.items ≡ p.items
     row_same p q z = let same : q ≡ p = cc in ap (λ (x : Production). x.items) same
 
-first_constant : (ss : List Statement) (at : ℕ) (ns : List Name) → FormulaKnown (below ss at) ns → (c : Sym) (rest : List Sym) → map (symbol_in (symbols ss)) ns ≡ c ∷ rest → is_constant_at ss c at ≡ true
+first_constant : (ss : List Statement) (at : ℕ) (ns : List Name) → FormulaKnown (below ss at) ns → (c : Sym) (rest : List Sym)
+    → map (symbol_in (symbols ss)) ns ≡ c ∷ rest → is_constant_at ss c at ≡ true
 first_constant ss at [] known c rest e = absurd cc
 first_constant ss at (n ∷ ns) known c rest e =
     let same : symbol_in (symbols ss) n ≡ c = cc in
@@ -208,7 +221,8 @@ module _ (kinds : Kinds) (text : List ℕ) (db : Database) (is : IsDatabaseOf ki
       let k = frame_known ss l f (sym (is.frame l) ∙ frame) in
       let there = found IsChecked (last_first text) k.at k.statement each k.stands in
       is.is_constant_at c f.at
-      ∙ subst (λ (x : Frame). x.formula ≡ c ∷ rest → is_constant_at ss c x.at ≡ true) k.frame (first_constant ss k.at (symbols_in k.statement) (assertion_known (below ss k.at) k.statement there.here k.assertion) c rest) e
+      ∙ subst (λ (x : Frame). x.formula ≡ c ∷ rest → is_constant_at ss c x.at ≡ true) k.frame
+          (first_constant ss k.at (symbols_in k.statement) (assertion_known (below ss k.at) k.statement there.here k.assertion) c rest) e
 
   more_codes : (p q : ℕ) (c : Typecode) → p ≤ q → Contains (db.float_codes p) c → Contains (db.float_codes q) c
   more_codes p q c le m = subst (λ cs. Contains cs c) (sym (is.float_codes q)) (codes_more ss p q c le (subst (λ cs. Contains cs c) (is.float_codes p) m))

@@ -1,5 +1,6 @@
 -- The productions of a text without a fault are rows of a grammar, and are as their frames say.
-use Rattle.std.proofs.Common.{◌≡◌, ◌<◌, ◌==◌, ℕ, zero, suc, Bool, true, false, cond, not, ◌||◌, ◌&&◌, List, [], ◌∷◌, length, map, reverse, Option, Some, None, refl, sym, ap, ◌∙◌, arith, subst, inl, inr, get_or, codes, nat_eq, nat_lt}
+use Rattle.std.proofs.Common.{◌≡◌, ◌<◌, ◌==◌, ℕ, zero, suc, Bool, true, false, cond, not, ◌||◌, ◌&&◌, List, [], ◌∷◌, length, map, reverse, Option}
+use Rattle.std.proofs.Common.{Some, None, refl, sym, ap, ◌∙◌, arith, subst, inl, inr, get_or, codes, nat_eq, nat_lt}
 use Rattle.std.specs.Option.{option_and_then}
 use Rattle.std.specs.List.{AllByRecursion, slice_get, filter, list_any, position, position_or_len}
 use Rattle.std.specs.Str.{bytes_eq}
@@ -24,7 +25,8 @@ use Rattle.mm_model.specs.BookFacts.{VariablesDiffer, IsRowFrame, item_symbol}
 use Rattle.model_laws.proofs.Checked.{EachBefore, IsChecked, found}
 use Rattle.model_laws.proofs.Shapes.{BeginsWithConstant, axiom_begins}
 use Rattle.model_laws.proofs.Listed.{all-reverse, all_with, same_names, contains_passes}
-use Rattle.model_laws.proofs.FrameFacts.{is_float, one_keyword, counts, floats_of, IsMandatory, floats_mandatory, typed_list, variable_of, filter-map, frame_known, Facts, mandatory_at, typed_at, typed_list-cons, facts_at, and_then}
+use Rattle.model_laws.proofs.FrameFacts.{is_float, one_keyword, counts, floats_of, IsMandatory, floats_mandatory, typed_list, variable_of, filter-map}
+use Rattle.model_laws.proofs.FrameFacts.{frame_known, Facts, mandatory_at, typed_at, typed_list-cons, facts_at, and_then}
 
 -- ---- a row comes of a frame
 
@@ -99,7 +101,9 @@ no_essential names mandatory b e =
     let each = twice_empty (λ h. not (is_float h)) (counts mandatory) (reverse (active b)) none in
     let turned : AllByRecursion (λ h. has_keyword (codes "$e") h ≡ false) (reverse (active b)) =
     all_with (λ h. counts mandatory h ≡ true → not (is_float h) ≡ true → ⊥) (λ h. has_keyword (codes "$e") h ≡ false)
-    (λ h c. false_from_ne_true (has_keyword (codes "$e") h) (λ is_e. c (or_left _ _ is_e) (not_from_false (is_float h) (one_keyword h (codes "$e") (codes "$f") is_e refl)))) (reverse (active b)) each in
+    (λ h c. false_from_ne_true (has_keyword (codes "$e") h)
+        (λ is_e. c (or_left _ _ is_e) (not_from_false (is_float h) (one_keyword h (codes "$e") (codes "$f") is_e refl))))
+        (reverse (active b)) each in
     none_kept (has_keyword (codes "$e")) (active b) (subst (AllByRecursion (λ h. has_keyword (codes "$e") h ≡ false)) (reverse-reverse (active b)) (all-reverse _ (reverse (active b)) turned))
 
 -- ---- the number of a variable in the frame
@@ -172,7 +176,8 @@ order vars ss = slot_order (map (item_of vars) ss)
 order-cons : (vars : List TypedVariable) (s : Sym) (ss : List Sym) (o : Option ℕ) → position (is_of s) vars ≡ o → order vars (s ∷ ss) ≡ slot_order (by_place s o ∷ map (item_of vars) ss)
 order-cons vars s ss o e = ap (λ i. slot_order (i ∷ map (item_of vars) ss)) (item-by vars s o e)
 
-within_by : (vars : List TypedVariable) (s : Sym) (ss : List Sym) (o : Option ℕ) → position (is_of s) vars ≡ o → AllByRecursion (λ k. k < length vars) (order vars ss) → AllByRecursion (λ k. k < length vars) (order vars (s ∷ ss))
+within_by : (vars : List TypedVariable) (s : Sym) (ss : List Sym) (o : Option ℕ) → position (is_of s) vars ≡ o
+    → AllByRecursion (λ k. k < length vars) (order vars ss) → AllByRecursion (λ k. k < length vars) (order vars (s ∷ ss))
 within_by vars s ss None e h = subst (AllByRecursion (λ k. k < length vars)) (sym (order-cons vars s ss None e)) h
 within_by vars s ss (Some k) e h = subst (AllByRecursion (λ k. k < length vars)) (sym (order-cons vars s ss (Some k) e)) ((position_some (is_of s) vars k e).0, h)
 
@@ -180,7 +185,8 @@ order_within : (vars : List TypedVariable) (ss : List Sym) → AllByRecursion (�
 order_within vars [] = tt
 order_within vars (s ∷ ss) = within_by vars s ss (position (is_of s) vars) refl (order_within vars ss)
 
-has_by : (vars : List TypedVariable) (k : ℕ) (s : Sym) (ss : List Sym) (o : Option ℕ) → position (is_of s) vars ≡ o → list_any (nat_eq k) (order vars ss) ≡ true → list_any (nat_eq k) (order vars (s ∷ ss)) ≡ true
+has_by : (vars : List TypedVariable) (k : ℕ) (s : Sym) (ss : List Sym) (o : Option ℕ) → position (is_of s) vars ≡ o
+    → list_any (nat_eq k) (order vars ss) ≡ true → list_any (nat_eq k) (order vars (s ∷ ss)) ≡ true
 has_by vars k s ss None e h = ap (list_any (nat_eq k)) (order-cons vars s ss None e) ∙ h
 has_by vars k s ss (Some j) e h = ap (list_any (nat_eq k)) (order-cons vars s ss (Some j) e) ∙ elim (cases_Bool (nat_eq k j)) [ inl d ↦ rw d refl | inr d ↦ rw d h ]
 
@@ -257,7 +263,8 @@ typed_from names mandatory (h ∷ hs) ms (suc k) v e =
     typed_from names mandatory hs ms.1 k v (subst (λ vs. slice_get vs (suc k) ≡ Some v) (typed_list-cons names mandatory h hs ms.0) e)
 
 -- a mandatory variable stands in the formula, behind the typecode
-in_formula : (ss : List Statement) (at : ℕ) (s : Statement) (c : Name) (rest : List Name) → symbols_in s ≡ c ∷ rest → contains (variables (below ss at)) c ≡ false → with_keyword (codes "$e") (active (below ss at)) ≡ []
+in_formula : (ss : List Statement) (at : ℕ) (s : Statement) (c : Name) (rest : List Name) → symbols_in s ≡ c ∷ rest
+    → contains (variables (below ss at)) c ≡ false → with_keyword (codes "$e") (active (below ss at)) ≡ []
     → (n : Name) → contains (mandatory_at ss at s) n ≡ true → contains rest n ≡ true
 in_formula ss at s c rest is constant none n h =
     let b = below ss at in
@@ -364,7 +371,8 @@ row_at_frame ss l at s each here facts provable r e =
     row_of_names ss l at s each here facts is.is_axiom is r by.repeats (symbols_in s) refl by.row
 
 -- the production that a frame gives
-pub row_facts : (e : List Statement) → EachBefore IsChecked e → (l : Label) (f : Frame) (provable : Sym) (r : Production) → frame_of (reverse e) l ≡ Some f → row_of_frame provable f ≡ Some r → RowFacts f r
+pub row_facts : (e : List Statement) → EachBefore IsChecked e → (l : Label) (f : Frame) (provable : Sym) (r : Production)
+    → frame_of (reverse e) l ≡ Some f → row_of_frame provable f ≡ Some r → RowFacts f r
 row_facts e h l f provable r is row =
     let k = frame_known (reverse e) l f is in
     let there = found IsChecked e k.at k.statement h k.stands in

@@ -1,5 +1,6 @@
 -- The parts of a statement, and what the rules say of its labels and of its symbols.
-use Rattle.std.proofs.Common.{◌≡◌, ◌+◌, ℕ, suc, Bool, true, false, not, ◌&&◌, ◌||◌, ◌==◌, List, [], ◌∷◌, ◌++◌, take, drop, map, refl, sym, ap, ◌∙◌, arith, subst, append_assoc, inl, inr, codes, nat_le, nat_lt}
+use Rattle.std.proofs.Common.{◌≡◌, ◌+◌, ℕ, suc, Bool, true, false, not, ◌&&◌, ◌||◌, ◌==◌, List, [], ◌∷◌, ◌++◌, take, drop, map, refl, sym, ap, ◌∙◌}
+use Rattle.std.proofs.Common.{arith, subst, append_assoc, inl, inr, codes, nat_le, nat_lt}
 use Rattle.std.specs.List.{AllByRecursion, list_any, take_while, prefix_len}
 use Rattle.std.specs.Str.{bytes_eq}
 use Rattle.std.proofs.lemmas.Bool.{cases_Bool, or_parts, both_ways, not-true}
@@ -7,7 +8,9 @@ use Rattle.std.proofs.lemmas.Slice.Eq.{bytes_eq-Decides}
 use Rattle.std.proofs.lemmas.List.{append-nil}
 use Rattle.std.proofs.lemmas.List.Folds.{list_any-append}
 use Rattle.mm_model.specs.Words.{Word}
-use Rattle.mm_model.specs.Statements.{Statement, is, is_one_of, is_word, is_empty, unended, ended, labels_in, body, has_keyword, has_one_of, symbols_in, in_proof, contains, labels, typed, variables, is_symbol_of, labelled, rank, label_taken, label_extra, bad_hypothesis, two_types, first_not_const}
+use Rattle.mm_model.specs.Statements.{Statement, is, is_one_of, is_word, is_empty, unended, ended, labels_in, body, has_keyword, has_one_of}
+use Rattle.mm_model.specs.Statements.{symbols_in, in_proof, contains, labels, typed, variables, is_symbol_of, labelled, rank, label_taken}
+use Rattle.mm_model.specs.Statements.{label_extra, bad_hypothesis, two_types, first_not_const}
 use Rattle.model_laws.proofs.Checked.{rules_fail, At, Looked, IsChecked}
 
 -- ---- the longest front of a list that passes a test
@@ -166,7 +169,9 @@ LabelIsNew e [] = Unit {0}
 LabelIsNew e (l ∷ []) = contains (labels e) l.bytes ≡ false
 LabelIsNew e (l ∷ m ∷ ls) = ⊥
 
-label_here : (e : List Statement) (l : Word) (after : List Word) → At e [] l after → is_word l ≡ true → (contains (labels e) l.bytes ≡ false) × (list_any (λ v. not (is_one_of (codes "$f" ∷ codes "$e" ∷ codes "$a" ∷ codes "$p" ∷ []) v)) (take 1 after) ≡ false)
+label_here : (e : List Statement) (l : Word) (after : List Word) → At e [] l after → is_word l ≡ true
+    → (contains (labels e) l.bytes ≡ false)
+        × (list_any (λ v. not (is_one_of (codes "$f" ∷ codes "$e" ∷ codes "$a" ∷ codes "$p" ∷ []) v)) (take 1 after) ≡ false)
 label_here e l after a h =
     let fail = rules_fail a.before l after a.no_rule in
     let empty : is_empty (unended a.before) ≡ true = ap is_empty a.unended_is in
@@ -279,7 +284,8 @@ FloatIsNew e (a ∷ []) = Unit {0}
 FloatIsNew e (a ∷ v ∷ []) = contains (typed e) v ≡ false
 FloatIsNew e (a ∷ v ∷ x ∷ ns) = ⊥
 
-float_by : (e : List Statement) (s : Statement) (c : IsChecked e s) → (h : has_keyword (codes "$f") s ≡ true) → (us : List Word) → (shape s (codes "$f") h).us ≡ us → FloatIsNew e (map (λ (w : Word). w.bytes) us)
+float_by : (e : List Statement) (s : Statement) (c : IsChecked e s) → (h : has_keyword (codes "$f") s ≡ true) → (us : List Word)
+    → (shape s (codes "$f") h).us ≡ us → FloatIsNew e (map (λ (w : Word). w.bytes) us)
 float_by e s c h [] is_us = tt
 float_by e s c h (a ∷ []) is_us = tt
 float_by e s c h (a ∷ v ∷ []) is_us = new_variable e a v _ (at_symbol e s (codes "$f") c h refl (a ∷ []) v [] is_us)
@@ -303,7 +309,8 @@ abbrev pub BeginsWithConstant : List Statement → List (List ℕ) → Type 0
 BeginsWithConstant e [] = Unit {0}
 BeginsWithConstant e (c ∷ ns) = contains (variables e) c ≡ false
 
-axiom_by : (e : List Statement) (s : Statement) (c : IsChecked e s) → (h : has_keyword (codes "$a") s ≡ true) → (us : List Word) → (shape s (codes "$a") h).us ≡ us → BeginsWithConstant e (map (λ (w : Word). w.bytes) us)
+axiom_by : (e : List Statement) (s : Statement) (c : IsChecked e s) → (h : has_keyword (codes "$a") s ≡ true) → (us : List Word)
+    → (shape s (codes "$a") h).us ≡ us → BeginsWithConstant e (map (λ (w : Word). w.bytes) us)
 axiom_by e s c h [] is_us = tt
 axiom_by e s c h (w ∷ more) is_us = first_constant e w _ (at_symbol e s (codes "$a") c h refl [] w more is_us)
 

@@ -7,7 +7,8 @@ use Rattle.std.proofs.lemmas.List.{reverse-reverse}
 use Rattle.std.proofs.lemmas.Slice.Eq.{bytes_eq-Decides}
 use Rattle.mm_model.specs.Words.{Word}
 use Rattle.mm_model.specs.Names.{Name, contains}
-use Rattle.mm_model.specs.Statements.{Statement, is, is_one_of, is_word, is_label_alone, unended, labels_in, body, has_keyword, has_one_of, symbols_in, second, typed, variables, labelled, label_missing, stray_token, can_stand}
+use Rattle.mm_model.specs.Statements.{Statement, is, is_one_of, is_word, is_label_alone, unended, labels_in, body, has_keyword, has_one_of}
+use Rattle.mm_model.specs.Statements.{symbols_in, second, typed, variables, labelled, label_missing, stray_token, can_stand}
 use Rattle.model_laws.specs.StatementLaws.{statement_keywords, IsSound, AreSound, StatementsAreSound}
 use Rattle.model_laws.proofs.Checked.{rules_fail, At, IsChecked, EachBefore, text_checked, last_first}
 use Rattle.model_laws.proofs.Listed.{same_names}
@@ -94,7 +95,8 @@ keyword_stands e ls kw after a stop few words =
     let can : not (can_stand a.before kw) ≡ false = rw stop at stray in
     can_by a.before ls kw a.unended_is few words (no_not (can_stand a.before kw) can)
 
-without : (e : List Statement) (s : Statement) (ls rest : List Word) → IsChecked e s → s ≡ ls ++ rest → length ls ≤ 1 → AreWords ls → Stops is_word rest → body s ≡ rest → has_one_of statement_keywords s ≡ false → symbols_in s ≡ []
+without : (e : List Statement) (s : Statement) (ls rest : List Word) → IsChecked e s → s ≡ ls ++ rest → length ls ≤ 1 → AreWords ls
+    → Stops is_word rest → body s ≡ rest → has_one_of statement_keywords s ≡ false → symbols_in s ≡ []
 without e s ls [] c whole few words stop is_body none = ap (λ (ws : List Word). map (λ (w : Word). w.bytes) (take_while is_word (drop 1 ws))) is_body
 without e s ls (kw ∷ more) c whole few words stop is_body none =
     let stands = keyword_stands e ls kw (more ++ c.after) (at_split e s ls kw more c whole) stop few words in

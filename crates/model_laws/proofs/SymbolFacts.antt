@@ -1,5 +1,6 @@
 -- A constant is a symbol of the database, and the typecodes of active variables are those of `$f`.
-use Rattle.std.proofs.Common.{◌≡◌, ◌<◌, ◌≤◌, ◌==◌, ◌+◌, ◌^◌, ℕ, zero, suc, Bool, true, false, cond, not, ◌&&◌, List, [], ◌∷◌, ◌++◌, length, map, take, drop, reverse, Some, None, refl, sym, ap, ◌∙◌, subst, arith, inl, inr, codes, flat_map, get_or, nat_lt}
+use Rattle.std.proofs.Common.{◌≡◌, ◌<◌, ◌≤◌, ◌==◌, ◌+◌, ◌^◌, ℕ, zero, suc, Bool, true, false, cond, not, ◌&&◌, List, [], ◌∷◌, ◌++◌, length, map, take}
+use Rattle.std.proofs.Common.{drop, reverse, Some, None, refl, sym, ap, ◌∙◌, subst, arith, inl, inr, codes, flat_map, get_or, nat_lt}
 use Rattle.std.specs.Prelude.{Contains}
 use Rattle.std.specs.List.{AllByRecursion, list_any, filter, prefix_len}
 use Rattle.std.specs.Str.{bytes_eq}
@@ -13,7 +14,8 @@ use Rattle.mm_model.specs.Faults.{fault, or_else}
 use Rattle.mm_model.specs.Names.{Name, typecode}
 use Rattle.mm_model.specs.Words.{Word, word, words, words_from, put_before, is_white}
 use Rattle.mm_model.specs.Tokens.{tokens, tokens_where, token_fault, is_open_comment, is_close_comment}
-use Rattle.mm_model.specs.Statements.{Statement, is_word, body, has_keyword, has_one_of, statement_fault, symbols_in, contains, constants, active, path, statements, database_fault, ended, unended, ends_statement}
+use Rattle.mm_model.specs.Statements.{Statement, is_word, body, has_keyword, has_one_of, statement_fault, symbols_in, contains, constants, active}
+use Rattle.mm_model.specs.Statements.{path, statements, database_fault, ended, unended, ends_statement}
 use Rattle.mm_model.specs.Frames.{symbols, without_repeats, symbol_in, below, is_hypothesis, float_codes, hypothesis_of, active_at}
 use Rattle.mm_model.specs.Productions.{TypedVariable, typed_by, typed_variables}
 use Rattle.mm_model.specs.Book.{Database, IsDatabaseOf}
@@ -98,7 +100,8 @@ past (n ∷ names) (suc k) l = past names k (omega (arith, l))
 
 -- ---- active variables
 
-active_source : (names : List Name) (hs : List Statement) (v : TypedVariable) → AllByRecursion (λ h. is_float h ≡ true) hs → Contains (flat_map (λ (h : Hyp). typed_by h.formula) (map (hypothesis_of names) hs)) v
+active_source : (names : List Name) (hs : List Statement) (v : TypedVariable) → AllByRecursion (λ h. is_float h ≡ true) hs
+    → Contains (flat_map (λ (h : Hyp). typed_by h.formula) (map (hypothesis_of names) hs)) v
     → (n : Name) × (coded names n ≡ v.code) × (list_any (gives n) hs ≡ true)
 active_source names [] v f m = let less = m.1 in absurd (omega (arith, less))
 active_source names (h ∷ hs) v f m = by (symbols_in h) refl (active_source names hs v f.1)
@@ -109,14 +112,21 @@ active_source names (h ∷ hs) v f m = by (symbols_in h) refl (active_source nam
     moved : (ns : List Name) → symbols_in h ≡ ns → Contains (typed_by (map (symbol_in names) ns) ++ flat_map (λ (x : Hyp). typed_by x.formula) (map (hypothesis_of names) hs)) v
     moved ns e = subst (λ xs. Contains (typed_by (map (symbol_in names) xs) ++ flat_map (λ (x : Hyp). typed_by x.formula) (map (hypothesis_of names) hs)) v) e m
 
-    found_in : (a b : Name) (ns : List Name) → symbols_in h ≡ a ∷ b ∷ ns → (Contains (flat_map (λ (x : Hyp). typed_by x.formula) (map (hypothesis_of names) hs)) v → (n : Name) × (coded names n ≡ v.code) × (list_any (gives n) hs ≡ true))
-        → Contains ((let q : TypedVariable = record { sym = symbol_in names b; code = typecode (symbol_in names a) } in q) ∷ flat_map (λ (x : Hyp). typed_by x.formula) (map (hypothesis_of names) hs)) v → (n : Name) × (coded names n ≡ v.code) × (list_any (gives n) (h ∷ hs) ≡ true)
+    found_in : (a b : Name) (ns : List Name) → symbols_in h ≡ a ∷ b ∷ ns
+        → (Contains (flat_map (λ (x : Hyp). typed_by x.formula) (map (hypothesis_of names) hs)) v
+            → (n : Name) × (coded names n ≡ v.code) × (list_any (gives n) hs ≡ true))
+        → Contains
+            ((let q : TypedVariable = record { sym = symbol_in names b; code = typecode (symbol_in names a) } in q)
+                ∷ flat_map (λ (x : Hyp). typed_by x.formula) (map (hypothesis_of names) hs)) v
+            → (n : Name) × (coded names n ≡ v.code) × (list_any (gives n) (h ∷ hs) ≡ true)
     found_in a b ns e rest (zero, l, q) =
         let stands : contains (take 1 (symbols_in h)) a ≡ true = ap (λ xs. contains (take 1 xs) a) e ∙ or_left (bytes_eq a a) false (name_self a) in
         (a, ap (λ (x : TypedVariable). x.code) q, or_left (gives a h) (list_any (gives a) hs) (and_from (is_float h) _ f.0 stands))
     found_in a b ns e rest (suc k, l, q) = more (rest (k, omega (arith, l), q))
 
-    by : (ns : List Name) → symbols_in h ≡ ns → (Contains (flat_map (λ (x : Hyp). typed_by x.formula) (map (hypothesis_of names) hs)) v → (n : Name) × (coded names n ≡ v.code) × (list_any (gives n) hs ≡ true))
+    by : (ns : List Name) → symbols_in h ≡ ns
+        → (Contains (flat_map (λ (x : Hyp). typed_by x.formula) (map (hypothesis_of names) hs)) v
+            → (n : Name) × (coded names n ≡ v.code) × (list_any (gives n) hs ≡ true))
         → (n : Name) × (coded names n ≡ v.code) × (list_any (gives n) (h ∷ hs) ≡ true)
     by [] e rest = more (rest (moved [] e))
     by (a ∷ []) e rest = more (rest (moved (a ∷ []) e))
@@ -137,7 +147,9 @@ active_codes_at ss p v m =
     let m' = subst (λ xs. Contains (flat_map (λ (h : Hyp). typed_by h.formula) xs) v) (filter-map (λ (h : Hyp). h.floating) (hypothesis_of (symbols ss)) hs) m in
     let r = active_source (symbols ss) (filter is_float hs) v (all_floats hs) m' in
     let one = any-with (λ x. is_float x && gives r.0 x) (gives r.0) (λ x d. (and_parts (is_float x) (gives r.0 x) d).1) hs (any-filter (gives r.0) is_float hs r.2) in
-    let two = any-with (λ x. is_hypothesis x && gives r.0 x) (gives r.0) (λ x d. (and_parts (is_hypothesis x) (gives r.0 x) d).1) (reverse (active b)) (any-filter (gives r.0) is_hypothesis (reverse (active b)) one) in
+    let two =
+        any-with (λ x. is_hypothesis x && gives r.0 x) (gives r.0) (λ x d. (and_parts (is_hypothesis x) (gives r.0 x) d).1) (reverse (active b))
+            (any-filter (gives r.0) is_hypothesis (reverse (active b)) one) in
     let three = any-reverse (gives r.0) (take p ss) (any-active (gives r.0) (path b) b (any-reverse (gives r.0) (active b) two)) in
     subst (Contains (float_codes ss p)) r.1 (coded_in (symbols ss) (code_names (take p ss)) r.0 (into_codes (take p ss) r.0 three))
 
@@ -230,7 +242,8 @@ repeats_long : (seen ns : List Name) → length (without_repeats seen ns) ≤ le
 repeats_long seen [] = omega arith
 repeats_long seen (n ∷ ns) = by (contains seen n) refl (repeats_long seen ns) (repeats_long (n ∷ seen) ns)
   where
-    by : (t : Bool) → contains seen n ≡ t → length (without_repeats seen ns) ≤ length ns → length (without_repeats (n ∷ seen) ns) ≤ length ns → length (without_repeats seen (n ∷ ns)) ≤ suc (length ns)
+    by : (t : Bool) → contains seen n ≡ t → length (without_repeats seen ns) ≤ length ns → length (without_repeats (n ∷ seen) ns) ≤ length ns
+        → length (without_repeats seen (n ∷ ns)) ≤ suc (length ns)
     by true e a b = rw e (omega (arith, a))
     by false e a b = rw e (omega (arith, b))
 
@@ -275,7 +288,9 @@ module _ (kinds : Kinds) (text : List ℕ) (db : Database) (is : IsDatabaseOf ki
         let long : length db.symbols ≤ s.0 = grind (arith, nat_tests, d) in
         let none : get_or (symbols ss) s.0 [] ≡ [] = past (symbols ss) s.0 (subst (λ names. length names ≤ s.0) is.symbols long) in
         let here : contains (constants (below ss p)) [] ≡ true = ap (contains (constants (below ss p))) (sym none) ∙ sym (is.is_constant_at s p) ∙ h in
-        let some = any-take (λ x. has_keyword (codes "$c") x && contains (symbols_in x) []) p ss (any-reverse (λ x. has_keyword (codes "$c") x && contains (symbols_in x) []) (take p ss) (from_constants (below ss p) [] here)) in
+        let some =
+            any-take (λ x. has_keyword (codes "$c") x && contains (symbols_in x) []) p ss
+                (any-reverse (λ x. has_keyword (codes "$c") x && contains (symbols_in x) []) (take p ss) (from_constants (below ss p) [] here)) in
         absurd (none_declares (last_first text) all_filled (any-reverse (λ x. has_keyword (codes "$c") x && contains (symbols_in x) []) (last_first text) some))
   ]
 

@@ -5,7 +5,8 @@ use Rattle.std.specs.Str.{bytes_eq}
 use Rattle.std.proofs.lemmas.Bool.{or_parts, or_left, or_right, both_ways, not-false}
 use Rattle.mm_model.specs.Names.{Name}
 use Rattle.mm_model.specs.Words.{Word}
-use Rattle.mm_model.specs.Statements.{Statement, is, is_empty, is_first, is_symbol_of, rank, has_keyword, symbols_in, contains, constants, variables, typed, asserting, labelled, is_constant, is_variable, is_typed, not_active, no_type, first_not_const}
+use Rattle.mm_model.specs.Statements.{Statement, is, is_empty, is_first, is_symbol_of, rank, has_keyword, symbols_in, contains, constants, variables}
+use Rattle.mm_model.specs.Statements.{typed, asserting, labelled, is_constant, is_variable, is_typed, not_active, no_type, first_not_const}
 use Rattle.model_laws.proofs.Checked.{IsChecked, rules_fail}
 use Rattle.model_laws.proofs.Shapes.{shape, AtSymbol, Before, at_symbol, before_symbol}
 
@@ -48,10 +49,14 @@ module _ (e : List Statement) (k : List ℕ) (us : List Word) (w : Word) (after 
   first_is : is_first before ≡ is_empty (map (λ (u : Word). u.bytes) us)
   first_is = ap is_empty known.symbols
 
-  pub declared : (is_symbol_of asserting before w || (is_symbol_of (codes "$f" ∷ []) before w && is_first before)) ≡ true → (contains (constants e) w.bytes ≡ true) ⊎ (contains (variables e) w.bytes ≡ true)
+  pub declared : (is_symbol_of asserting before w || (is_symbol_of (codes "$f" ∷ []) before w && is_first before)) ≡ true
+      → (contains (constants e) w.bytes ≡ true) ⊎ (contains (variables e) w.bytes ≡ true)
   declared h =
       let fail : not_active before w after ≡ false = (rules_fail before w after f.here.no_rule).1.1.1.0 in
-      let one : ((is_symbol_of asserting before w || (is_symbol_of (codes "$f" ∷ []) before w && is_first before)) && not (is_constant before w) && not (is_variable before w)) ≡ false = (or_parts _ _ fail).0 in
+      let one : ((is_symbol_of asserting before w || (is_symbol_of (codes "$f" ∷ []) before w && is_first before)) && not (is_constant before w)
+          && not (is_variable before w))
+          ≡ false =
+          (or_parts _ _ fail).0 in
       let c : is_constant before w ≡ contains (constants e) w.bytes = ap (λ (x : List Statement). contains (constants x) w.bytes) f.here.ended_is in
       let v : is_variable before w ≡ contains (variables e) w.bytes = ap (λ (x : List Statement). contains (variables x) w.bytes) f.here.ended_is in
       elim (declared_by (is_constant before w) (is_variable before w) (rw h at one)) [ inl d ↦ inl (sym c ∙ d) | inr d ↦ inr (sym v ∙ d) ]
@@ -138,7 +143,8 @@ float_second e u w after f =
     let no_other : not (is_variable b w) ≡ false = other_fails _ _ test two in
     ap (λ (x : List Statement). contains (variables x) w.bytes) (sym f.here.ended_is) ∙ not-false (is_variable b w) no_other
 
-float_known_by : (e : List Statement) (s : Statement) (c : IsChecked e s) → (h : has_keyword (codes "$f") s ≡ true) → (us : List Word) → (shape s (codes "$f") h).us ≡ us → FloatKnown e (map (λ (w : Word). w.bytes) us)
+float_known_by : (e : List Statement) (s : Statement) (c : IsChecked e s) → (h : has_keyword (codes "$f") s ≡ true) → (us : List Word)
+    → (shape s (codes "$f") h).us ≡ us → FloatKnown e (map (λ (w : Word). w.bytes) us)
 float_known_by e s c h [] is = tt
 float_known_by e s c h (w ∷ []) is = float_first e w _ (at_symbol e s (codes "$f") c h refl [] w [] is)
 float_known_by e s c h (w ∷ v ∷ more) is =

@@ -1,5 +1,6 @@
 -- Where a number stands in a list, and where it is noted.
-use Rattle.std.proofs.Common.{◌≡◌, ℕ, zero, suc, ◌<◌, true, false, eqb, List, [], ◌∷◌, ◌++◌, length, Some, None, refl, sym, ap, ◌∙◌, arith, subst, inl, inr, ◌⊎◌, nat_eq, slice_get, slice_set, position}
+use Rattle.std.proofs.Common.{◌≡◌, ℕ, zero, suc, ◌<◌, true, false, eqb, List, [], ◌∷◌, ◌++◌, length, Some, None, refl, sym, ap, ◌∙◌, arith, subst}
+use Rattle.std.proofs.Common.{inl, inr, ◌⊎◌, nat_eq, slice_get, slice_set, position}
 use Rattle.std.specs.List.{list_any}
 use Rattle.std.proofs.lemmas.Bool.{cases_Bool}
 use Rattle.std.proofs.lemmas.Bool.Decides.{nat_tests}
@@ -31,13 +32,21 @@ pub not_noted : (items places : List ℕ) (n : ℕ) → Noted items places → s
 not_noted items places n noted e = sym (nowhere items n (λ i h. let both : Some i ≡ None = sym (noted i n h) ∙ e in absurd cc))
 
 pub noted_past : (items places : List ℕ) (n p : ℕ) → Noted items places → slice_get places n ≡ Some p → slice_get items p ≡ None → false ≡ list_any (nat_eq n) items
-noted_past items places n p noted e past = sym (nowhere items n (λ i h. let same : i ≡ p = some_is i p (sym (noted i n h) ∙ e) in let both : None ≡ Some n = sym past ∙ subst (λ (j : ℕ). slice_get items j ≡ Some n) same h in absurd cc))
+noted_past items places n p noted e past =
+    sym (nowhere items n
+        (λ i h. let same : i ≡ p = some_is i p (sym (noted i n h) ∙ e) in
+            let both : None ≡ Some n = sym past ∙ subst (λ (j : ℕ). slice_get items j ≡ Some n) same h in absurd cc))
 
 pub noted_there : (items places : List ℕ) (n p m : ℕ) → Noted items places → slice_get places n ≡ Some p → slice_get items p ≡ Some m → nat_eq m n ≡ list_any (nat_eq n) items
 noted_there items places n p m noted e there =
     elim (cases_Bool (eqb m n)) [
       | inl h ↦ let same : m ≡ n = grind (arith, nat_tests) in h ∙ sym (found items p n (there ∙ ap (λ (k : ℕ). Some k) same))
-      | inr h ↦ h ∙ sym (nowhere items n (λ i g. let same : i ≡ p = some_is i p (sym (noted i n g) ∙ e) in let here : Some m ≡ Some n = sym there ∙ subst (λ (j : ℕ). slice_get items j ≡ Some n) same g in let is : m ≡ n = some_is m n here in let t : eqb m n ≡ true = grind (arith, nat_tests) in absurd cc))
+      | inr h ↦ h
+          ∙ sym
+              (nowhere items n
+                  (λ i g. let same : i ≡ p = some_is i p (sym (noted i n g) ∙ e) in
+                      let here : Some m ≡ Some n = sym there ∙ subst (λ (j : ℕ). slice_get items j ≡ Some n) same g in
+                      let is : m ≡ n = some_is m n here in let t : eqb m n ≡ true = grind (arith, nat_tests) in absurd cc))
     ]
 
 -- ---- a number is put in

@@ -38,8 +38,10 @@ key_put k (x ∷ xs) =
       | inl e ↦ elim (cases_order k.1 x.1) [
         | inl f ↦ put_same k x xs rest (rw (no_self k.0 x.0 e, is_equal k.0 x.0 e, no_self k.1 x.1 f, is_equal k.1 x.1 f) refl) (rw (is_equal k.0 x.0 e, is_equal k.1 x.1 f) refl)
         | inr h ↦ elim h [
-          | inl l ↦ put_before k x xs rest (rw (no_self k.0 x.0 e, is_equal k.0 x.0 e, is_less k.1 x.1 l) refl) (rw (is_equal k.0 x.0 e, differs k.1 x.1 l) refl) (rw (no_self k.0 x.0 e, is_equal k.0 x.0 e, is_less k.1 x.1 l) refl)
-          | inr g ↦ put_behind k x xs rest (rw (no_self k.0 x.0 e, is_equal k.0 x.0 e, no_less k.1 x.1 g, differs_above k.1 x.1 g) refl) (rw (is_equal k.0 x.0 e, differs_above k.1 x.1 g) refl) (rw (no_self k.0 x.0 e, is_equal k.0 x.0 e, no_less k.1 x.1 g) refl)
+          | inl l ↦ put_before k x xs rest (rw (no_self k.0 x.0 e, is_equal k.0 x.0 e, is_less k.1 x.1 l) refl)
+              (rw (is_equal k.0 x.0 e, differs k.1 x.1 l) refl) (rw (no_self k.0 x.0 e, is_equal k.0 x.0 e, is_less k.1 x.1 l) refl)
+          | inr g ↦ put_behind k x xs rest (rw (no_self k.0 x.0 e, is_equal k.0 x.0 e, no_less k.1 x.1 g, differs_above k.1 x.1 g) refl)
+              (rw (is_equal k.0 x.0 e, differs_above k.1 x.1 g) refl) (rw (no_self k.0 x.0 e, is_equal k.0 x.0 e, no_less k.1 x.1 g) refl)
         ]
       ]
       | inr h ↦ elim h [

@@ -1,5 +1,6 @@
 -- The letters of steps whose numbers are in range have no fault.
-use Rattle.std.proofs.Common.{◌≡◌, ◌≤◌, ◌<◌, ℕ, suc, ◌+◌, ◌-◌, ◌*◌, Bool, true, false, cond, not, ◌||◌, ◌&&◌, eqb, leb, ltb, List, [], ◌∷◌, ◌++◌, length, Option, Some, None, option_map, refl, sym, ap, ◌∙◌, arith, subst, append_assoc}
+use Rattle.std.proofs.Common.{◌≡◌, ◌≤◌, ◌<◌, ℕ, suc, ◌+◌, ◌-◌, ◌*◌, Bool, true, false, cond, not, ◌||◌, ◌&&◌, eqb, leb, ltb, List, [], ◌∷◌, ◌++◌}
+use Rattle.std.proofs.Common.{length, Option, Some, None, option_map, refl, sym, ap, ◌∙◌, arith, subst, append_assoc}
 use mathlib.Core.List.{reverse_aux}
 use Rattle.std.specs.Prelude.{find}
 use Rattle.std.specs.List.{list_any}
@@ -8,7 +9,9 @@ use Rattle.mm_model.specs.Faults.{Fault, fault, or_else, first_code, first_fault
 use Rattle.proof_model.specs.declared.code.What.{What}
 use Rattle.proof_model.specs.declared.code.What.TheVariants as what
 use Rattle.proof_model.specs.declared.code.Step.{Step}
-use Rattle.proof_model.specs.ProofCode.{is_last, is_leading, EndsNumber, SpellsWhat, SpellsSteps, IsInRange, AreInRange, mark, digits_before, number_at, marks_before, just_after, bad_letter, number_too_large, mark_at_start, mark_twice, unended_number, letter_rules, index, letters_end, letter_fault}
+use Rattle.proof_model.specs.ProofCode.{is_last, is_leading, EndsNumber, SpellsWhat, SpellsSteps, IsInRange, AreInRange, mark, digits_before}
+use Rattle.proof_model.specs.ProofCode.{number_at, marks_before, just_after, bad_letter, number_too_large, mark_at_start, mark_twice, unended_number}
+use Rattle.proof_model.specs.ProofCode.{letter_rules, index, letters_end, letter_fault}
 
 pub cond_else : {X : Type 0} (b : Bool) (x y : X) → b ≡ false → cond b x y ≡ y
 cond_else true x y e = absurd (cc)
@@ -22,7 +25,8 @@ cond_then false x y e = absurd (cc)
 pub skip : {X : Type 0} (code : ℕ) (rule : List X → X → Bool) (table : List (ℕ × (List X → X → Bool))) (before : List X) (x : X) → rule before x ≡ false
     → first_code ((code, rule) ∷ table) before x ≡ first_code table before x
 skip {X} code rule table before x e =
-    ap (λ (r : Option (ℕ × (List X → X → Bool))). option_map (λ (q : ℕ × (List X → X → Bool)). q.0) r) (cond_else (rule before x) (Some (code, rule)) (find (λ (q : ℕ × (List X → X → Bool)). q.1 before x) table) e)
+    ap (λ (r : Option (ℕ × (List X → X → Bool))). option_map (λ (q : ℕ × (List X → X → Bool)). q.0) r)
+        (cond_else (rule before x) (Some (code, rule)) (find (λ (q : ℕ × (List X → X → Bool)). q.1 before x) table) e)
 
 -- ---- kinds of letters
 

@@ -1,5 +1,6 @@
 -- Letters without a fault are those of steps, and a text without a fault spells a code.
-use Rattle.std.proofs.Common.{◌≡◌, ◌≤◌, ◌<◌, ◌⊎◌, inl, inr, ℕ, suc, ◌+◌, ◌-◌, ◌*◌, Bool, true, false, cond, ◌||◌, ◌&&◌, eqb, leb, ltb, List, [], ◌∷◌, ◌++◌, length, Option, Some, None, option_map, refl, sym, ap, ◌∙◌, arith, subst, append_assoc}
+use Rattle.std.proofs.Common.{◌≡◌, ◌≤◌, ◌<◌, ◌⊎◌, inl, inr, ℕ, suc, ◌+◌, ◌-◌, ◌*◌, Bool, true, false, cond, ◌||◌, ◌&&◌, eqb, leb, ltb, List, [], ◌∷◌}
+use Rattle.std.proofs.Common.{◌++◌, length, Option, Some, None, option_map, refl, sym, ap, ◌∙◌, arith, subst, append_assoc}
 use Rattle.std.proofs.lemmas.Bool.{cases_Bool}
 use Rattle.std.proofs.lemmas.Bool.Decides.{nat_tests}
 use Rattle.mm_model.specs.Faults.{Fault, fault, or_else, first_code, first_fault}
@@ -7,7 +8,9 @@ use Rattle.proof_model.specs.declared.code.What.{What}
 use Rattle.proof_model.specs.declared.code.What.TheVariants as what
 use Rattle.proof_model.specs.declared.code.Step.{Step}
 use Rattle.proof_model.specs.Codes.{step}
-use Rattle.proof_model.specs.ProofCode.{is_last, is_leading, EndsNumber, SpellsNumber, SpellsWhat, SpellsSteps, IsInRange, AreInRange, mark, digits_before, number_at, marks_before, just_after, bad_letter, number_too_large, mark_at_start, mark_twice, unended_number, letter_rules, index, label_fault, labels_of, letters_of, is_bracketed, letter_fault}
+use Rattle.proof_model.specs.ProofCode.{is_last, is_leading, EndsNumber, SpellsNumber, SpellsWhat, SpellsSteps, IsInRange, AreInRange, mark}
+use Rattle.proof_model.specs.ProofCode.{digits_before, number_at, marks_before, just_after, bad_letter, number_too_large, mark_at_start, mark_twice}
+use Rattle.proof_model.specs.ProofCode.{unended_number, letter_rules, index, label_fault, labels_of, letters_of, is_bracketed, letter_fault}
 use Rattle.proof_laws.specs.WrittenCode.{SoundSpells}
 use Rattle.proof_laws.proofs.LetterLaws.{cond_then, cond_else, bounds, leading_digit, last_digit, last_not_leading, same_marks, fault_from}
 

@@ -1,5 +1,6 @@
 -- The words of tokens that are parted by spaces, and the parts of a written code.
-use Rattle.std.proofs.Common.{◌≡◌, ◌<◌, ℕ, suc, ◌+◌, Bool, true, false, cond, not, ◌||◌, ◌&&◌, eqb, List, [], ◌∷◌, ◌++◌, length, take, drop, refl, sym, ap, ◌∙◌, arith, subst, append-nil}
+use Rattle.std.proofs.Common.{◌≡◌, ◌<◌, ℕ, suc, ◌+◌, Bool, true, false, cond, not, ◌||◌, ◌&&◌, eqb, List, [], ◌∷◌, ◌++◌, length, take, drop, refl}
+use Rattle.std.proofs.Common.{sym, ap, ◌∙◌, arith, subst, append-nil}
 use Rattle.std.specs.Prelude.{map, flat_map, codes}
 use Rattle.std.specs.List.{list_any, before_first, after_first, join_with_byte, position_or_len, AllByRecursion, take-map, drop-map}
 use Rattle.std.specs.Str.{bytes_eq}

@@ -1,5 +1,6 @@
 -- Letters are those of one list of steps alone.
-use Rattle.std.proofs.Common.{◌≡◌, ◌<◌, ℕ, suc, ◌+◌, ◌-◌, ◌*◌, Bool, true, false, cond, eqb, leb, List, [], ◌∷◌, ◌++◌, length, Option, Some, None, refl, sym, ap, ◌∙◌, arith, subst, append_assoc}
+use Rattle.std.proofs.Common.{◌≡◌, ◌<◌, ℕ, suc, ◌+◌, ◌-◌, ◌*◌, Bool, true, false, cond, eqb, leb, List, [], ◌∷◌, ◌++◌, length, Option, Some, None}
+use Rattle.std.proofs.Common.{refl, sym, ap, ◌∙◌, arith, subst, append_assoc}
 use Rattle.std.proofs.lemmas.Bool.{le-leb, lt-leb}
 use Rattle.proof_model.specs.declared.code.What.{What}
 use Rattle.proof_model.specs.declared.code.What.TheVariants as what
@@ -131,6 +132,7 @@ steps_one m n marks letters (x ∷ xs) (y ∷ ys) (front, rest, whole, one, othe
 pub spells_one : (text : List ℕ) (mandatory : List (List ℕ)) (c d : Code) → Spells text mandatory c → Spells text mandatory d → c ≡ d
 spells_one text mandatory c d s t =
     let labels : d.labels ≡ c.labels = t.labels ∙ sym s.labels in
-    let steps : SpellsSteps (length mandatory) (length c.labels) (letters_of text) d.steps = subst (λ (ls : List (List ℕ)). SpellsSteps (length mandatory) (length ls) (letters_of text) d.steps) labels t.steps in
+    let steps : SpellsSteps (length mandatory) (length c.labels) (letters_of text) d.steps =
+        subst (λ (ls : List (List ℕ)). SpellsSteps (length mandatory) (length ls) (letters_of text) d.steps) labels t.steps in
     let there : AreInRange (length mandatory) (length c.labels) 0 d.steps = subst (λ (ls : List (List ℕ)). AreInRange (length mandatory) (length ls) 0 d.steps) labels t.in_range in
     same_code c d (sym labels) (steps_one (length mandatory) (length c.labels) 0 (letters_of text) c.steps d.steps s.steps steps s.in_range there)

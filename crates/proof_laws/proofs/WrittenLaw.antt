@@ -1,5 +1,6 @@
 -- The text of a code spells it and has no fault.
-use Rattle.std.proofs.Common.{◌≡◌, ◌≤◌, ℕ, ◌+◌, ◌-◌, ◌*◌, Bool, true, false, not, ◌||◌, ◌&&◌, eqb, List, [], ◌∷◌, ◌++◌, length, Option, Some, None, option_map, refl, sym, ap, ◌∙◌, arith, subst, append_assoc}
+use Rattle.std.proofs.Common.{◌≡◌, ◌≤◌, ℕ, ◌+◌, ◌-◌, ◌*◌, Bool, true, false, not, ◌||◌, ◌&&◌, eqb, List, [], ◌∷◌, ◌++◌, length, Option, Some, None}
+use Rattle.std.proofs.Common.{option_map, refl, sym, ap, ◌∙◌, arith, subst, append_assoc}
 use Rattle.std.specs.Prelude.{codes}
 use Rattle.std.specs.List.{list_all, list_any, join_with_byte, AllByRecursion}
 use Rattle.std.specs.Str.{bytes_eq}
@@ -13,7 +14,8 @@ use Rattle.proof_model.specs.declared.code.What.{What}
 use Rattle.proof_model.specs.declared.code.What.TheVariants as what
 use Rattle.proof_model.specs.declared.code.Step.{Step}
 use Rattle.proof_model.specs.declared.code.Code.{Code}
-use Rattle.proof_model.specs.ProofCode.{is_last, is_leading, EndsNumber, SpellsWhat, SpellsSteps, mark, index, label_rules, label_fault, letter_fault, labels_of, letters_of, is_bracketed, steps_letters, spelled, is_listable, IsWritable}
+use Rattle.proof_model.specs.ProofCode.{is_last, is_leading, EndsNumber, SpellsWhat, SpellsSteps, mark, index, label_rules, label_fault, letter_fault}
+use Rattle.proof_model.specs.ProofCode.{labels_of, letters_of, is_bracketed, steps_letters, spelled, is_listable, IsWritable}
 use Rattle.proof_laws.specs.WrittenCode.{WrittenSpells, WrittenIsSound}
 use Rattle.proof_laws.proofs.LetterLaws.{skip, cond_then, letters_sound}
 use Rattle.proof_laws.proofs.NumberLaws.{spells_steps}
@@ -92,8 +94,10 @@ has_words m code h =
     let front : List (List ℕ) = codes "(" ∷ (code.labels ++ codes ")" ∷ []) in
     let tokens : AllByRecursion IsToken front = ((refl, tt), tokens_append code.labels (codes ")" ∷ []) (all_from IsToken is_listable code.labels listable_token h.labels) ((refl, tt), tt)) in
     let inked = letters_ink m (length code.labels) letters code.steps (spells_steps m (length code.labels) code.steps) in
-    let whole : spelled m code ≡ join_with_byte 32 (front ++ letters ∷ []) = ap (λ (ts : List (List ℕ)). join_with_byte 32 (codes "(" ∷ ts)) (sym (append_assoc code.labels (codes ")" ∷ []) (letters ∷ []))) in
-    ap (λ (t : List ℕ). texts (words t)) whole ∙ joined_texts 0 front letters tokens inked ∙ ap (λ (ts : List (List ℕ)). codes "(" ∷ ts) (append_assoc code.labels (codes ")" ∷ []) (last_word letters))
+    let whole : spelled m code ≡ join_with_byte 32 (front ++ letters ∷ []) =
+        ap (λ (ts : List (List ℕ)). join_with_byte 32 (codes "(" ∷ ts)) (sym (append_assoc code.labels (codes ")" ∷ []) (letters ∷ []))) in
+    ap (λ (t : List ℕ). texts (words t)) whole ∙ joined_texts 0 front letters tokens inked
+        ∙ ap (λ (ts : List (List ℕ)). codes "(" ∷ ts) (append_assoc code.labels (codes ")" ∷ []) (last_word letters))
 
 pub written_spells : WrittenSpells
 written_spells mandatory code h =
@@ -104,7 +108,9 @@ written_spells mandatory code h =
     record {
       bracketed = bracketed_is (spelled m code) code.labels letters words';
       labels = sym (labels_are (spelled m code) code.labels letters shut words');
-      steps = subst (λ (ls : List ℕ). SpellsSteps m (length code.labels) ls code.steps) (sym (letters_are (spelled m code) code.labels letters shut words')) (spells_steps m (length code.labels) code.steps);
+      steps =
+          subst (λ (ls : List ℕ). SpellsSteps m (length code.labels) ls code.steps)
+              (sym (letters_are (spelled m code) code.labels letters shut words')) (spells_steps m (length code.labels) code.steps);
       in_range = h.in_range;
     }
 
@@ -150,7 +156,8 @@ written_sound mandatory code h a =
     let letters' : letters_of text ≡ letters = letters_are text code.labels letters shut words' in
     let no_label : label_fault mandatory code.labels ≡ None = labels_from mandatory [] code.labels a h.differ (all_new code.labels) in
     let no_letter : letter_fault (m + length code.labels) letters ≡ None = letters_sound m (length code.labels) letters code.steps (spells_steps m (length code.labels) code.steps) h.in_range in
-    cond_then (is_bracketed text) (or_else (label_fault mandatory (labels_of text)) (letter_fault (m + length (labels_of text)) (letters_of text))) (Some (fault 0 6)) (bracketed_is text code.labels letters words')
+    cond_then (is_bracketed text) (or_else (label_fault mandatory (labels_of text)) (letter_fault (m + length (labels_of text)) (letters_of text)))
+        (Some (fault 0 6)) (bracketed_is text code.labels letters words')
     ∙ ap (λ (ls : List (List ℕ)). or_else (label_fault mandatory ls) (letter_fault (m + length ls) (letters_of text))) labels
     ∙ ap (λ (ls : List ℕ). or_else (label_fault mandatory code.labels) (letter_fault (m + length code.labels) ls)) letters'
     ∙ ap (λ (o : Option Fault). or_else o (letter_fault (m + length code.labels) letters)) no_label ∙ no_letter

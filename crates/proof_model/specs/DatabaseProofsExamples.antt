@@ -13,7 +13,8 @@ use Rattle.proof_model.specs.ExampleFrames.{split}
 
 -- the first axiom of implication, and theorems with a compressed proof, one with a fault, another formula, a `?` and no words
 abbrev V : List ℕ
-V = codes "$c ( ) -> wff |- $. $v ph ps $. wph $f wff ph $. wps $f wff ps $. ax-1 $a |- ( ph -> ( ps -> ph ) ) $. good $p |- ( ph -> ( ps -> ph ) ) $= ( ax-1 ) A $( the others $) BC $. bad $p |- ( ph -> ( ps -> ph ) ) $= ( ) ZA $. wrong $p |- ( ph -> ( ph -> ph ) ) $= wph wps ax-1 $. open $p |- ph $= ? $. empty $p |- ph $= $."
+V = codes
+    "$c ( ) -> wff |- $. $v ph ps $. wph $f wff ph $. wps $f wff ps $. ax-1 $a |- ( ph -> ( ps -> ph ) ) $. good $p |- ( ph -> ( ps -> ph ) ) $= ( ax-1 ) A $( the others $) BC $. bad $p |- ( ph -> ( ps -> ph ) ) $= ( ) ZA $. wrong $p |- ( ph -> ( ph -> ph ) ) $= wph wps ax-1 $. open $p |- ph $= ? $. empty $p |- ph $= $."
 
 abbrev stated : List Statement
 stated = statements V

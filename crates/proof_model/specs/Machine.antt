@@ -1,5 +1,6 @@
 -- The stack machine that checks a proof (Metamath book, section 4.1.4).
-use Rattle.std.specs.Prelude.{◌≡◌, ℕ, suc, Bool, false, true, not, ◌&&◌, ◌||◌, ◌==◌, List, [], ◌∷◌, ◌++◌, length, take, drop, reverse, slice_get, slice_index_or, nat_lt, Option, Some, None, Result, Ok, Err, if◌then◌else◌, map, flat_map, filter, find, option_map}
+use Rattle.std.specs.Prelude.{◌≡◌, ℕ, suc, Bool, false, true, not, ◌&&◌, ◌||◌, ◌==◌, List, [], ◌∷◌, ◌++◌, length, take, drop, reverse, slice_get}
+use Rattle.std.specs.Prelude.{slice_index_or, nat_lt, Option, Some, None, Result, Ok, Err, if◌then◌else◌, map, flat_map, filter, find, option_map}
 use Rattle.std.specs.Cmp.Lexicographic.{pointwise}
 use Rattle.std.specs.List.{list_any, zip}
 use Rattle.std.specs.Option.{option_map_or, option_or}

@@ -6,7 +6,8 @@ use Rattle.mm_model.specs.declared.frames.Hyp.{Hyp}
 use Rattle.proof_model.specs.declared.code.What.TheVariants as what
 use Rattle.proof_model.specs.declared.code.Code.{Code}
 use Rattle.proof_model.specs.declared.theorem.Theorem.{Theorem}
-use Rattle.proof_model.specs.Machine.{Frames, MachineFault, underflow, type_differs, hyp_differs, shared, not_distinct, not_earlier, left_over, result_differs, unknown, machine_code, substituted, proof_fault, Accepts, stack_after}
+use Rattle.proof_model.specs.Machine.{Frames, MachineFault, underflow, type_differs, hyp_differs, shared, not_distinct, not_earlier, left_over}
+use Rattle.proof_model.specs.Machine.{result_differs, unknown, machine_code, substituted, proof_fault, Accepts, stack_after}
 use Rattle.proof_model.specs.Proofs.{postorder}
 use Rattle.proof_model.specs.Codes.{step, normal_code, code_of_proof}
 use Rattle.proof_model.specs.ProofCode.{Spells, code_fault}
@@ -172,7 +173,9 @@ pub open_step : faults (codes "wph ? wi" ∷ codes "?" ∷ []) ≡ Some (1, unkn
 open_step = refl
 
 -- the numbers of the faults
-pub numbers : map machine_code (underflow ∷ type_differs ∷ hyp_differs [] [] ∷ shared (sym []) (sym []) (sym []) ∷ not_distinct (sym []) (sym []) ∷ not_earlier ∷ left_over 0 ∷ result_differs ∷ unknown ∷ [])
+pub numbers : map machine_code
+    (underflow ∷ type_differs ∷ hyp_differs [] [] ∷ shared (sym []) (sym []) (sym []) ∷ not_distinct (sym []) (sym []) ∷ not_earlier ∷ left_over 0
+        ∷ result_differs ∷ unknown ∷ [])
     ≡ 1 ∷ 2 ∷ 3 ∷ 4 ∷ 5 ∷ 6 ∷ 7 ∷ 8 ∷ 9 ∷ []
 numbers = refl
 

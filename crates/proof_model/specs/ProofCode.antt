@@ -1,5 +1,6 @@
 -- Compressed proofs as texts: numbers in letters, steps, brackets, and the faults (Metamath book, appendix B).
-use Rattle.std.specs.Prelude.{◌≡◌, ℕ, zero, suc, ◌+◌, ◌*◌, ◌-◌, ◌/◌, ◌%◌, ◌<◌, Bool, true, false, not, ◌&&◌, ◌||◌, ◌==◌, List, [], ◌∷◌, ◌++◌, length, take, drop, slice_index_or, nat_le, nat_lt, Option, Some, None, if◌then◌else◌, map, reverse, flat_map, codes}
+use Rattle.std.specs.Prelude.{◌≡◌, ℕ, zero, suc, ◌+◌, ◌*◌, ◌-◌, ◌/◌, ◌%◌, ◌<◌, Bool, true, false, not, ◌&&◌, ◌||◌, ◌==◌, List, [], ◌∷◌, ◌++◌, length}
+use Rattle.std.specs.Prelude.{take, drop, slice_index_or, nat_le, nat_lt, Option, Some, None, if◌then◌else◌, map, reverse, flat_map, codes}
 use Rattle.std.specs.List.{list_all, list_any, before_first, after_first, join_with_byte}
 use Rattle.std.specs.Str.{bytes_eq}
 use Rattle.mm_model.specs.Words.{Word, words, is_white}

@@ -1,5 +1,6 @@
 -- The proofs of trees and steps, added to a graph.
-use Rattle.std.proofs.Common.{◌≡◌, ℕ, zero, suc, ◌+◌, ◌<◌, ◌≤◌, Bool, true, false, cond, List, [], ◌∷◌, ◌++◌, length, map, take, drop, fold, filter_map, get_or, slice_get, Option, Some, None, option_map, is_some, ◌-◌, refl, sym, ap, ◌∙◌, subst, arith}
+use Rattle.std.proofs.Common.{◌≡◌, ℕ, zero, suc, ◌+◌, ◌<◌, ◌≤◌, Bool, true, false, cond, List, [], ◌∷◌, ◌++◌, length, map, take, drop, fold}
+use Rattle.std.proofs.Common.{filter_map, get_or, slice_get, Option, Some, None, option_map, is_some, ◌-◌, refl, sym, ap, ◌∙◌, subst, arith}
 use Rattle.std.specs.Option.{option_to_list, option_map_or}
 use Rattle.std.specs.List.{AllByRecursion, cons_option}
 use Rattle.std.proofs.Math.Seq.{drop-cons}
@@ -37,17 +38,20 @@ adds_next old mid new ps ns now p n all one is = record {
       ∙ ap (λ qs. qs ++ proof_at (node_proofs new) n ∷ []) (grown_proofs mid new ns one.grows all.inside ∙ all.all) ∙ ap (λ q. ps ++ q ∷ []) one.proof;
 }
 
-pub adds_more : {X : Type 0} (f : X → Proof) (ts : List X) (i : ℕ) (t : X) (old mid new : List ProofNode) (ns now : List ℕ) (n : ℕ) → i < length ts → t ≡ get_or ts i t → AddsAll old mid (map f (take i ts)) ns
+pub adds_more : {X : Type 0} (f : X → Proof) (ts : List X) (i : ℕ) (t : X) (old mid new : List ProofNode) (ns now : List ℕ) (n : ℕ) → i < length ts
+    → t ≡ get_or ts i t → AddsAll old mid (map f (take i ts)) ns
     → Adds mid new (f t) n → now ≡ ns ++ n ∷ [] → AddsAll old new (map f (take (i + 1) ts)) now
 adds_more f ts i t old mid new ns now n inside e all one is =
     subst (λ ps. AddsAll old new ps now) (sym (map_push f (take i ts) t) ∙ ap (map f) (ap (λ y. take i ts ++ y ∷ []) e ∙ sym (take_more ts i t inside)))
     (adds_next old mid new (map f (take i ts)) ns now (f t) n all one is)
 
-pub adds_whole : {X : Type 0} (f : X → Proof) (ts us : List X) (i : ℕ) (old new : List ProofNode) (ns : List ℕ) → us ≡ ts → length us ≤ i → AddsAll old new (map f (take i us)) ns → AddsAll old new (map f ts) ns
+pub adds_whole : {X : Type 0} (f : X → Proof) (ts us : List X) (i : ℕ) (old new : List ProofNode) (ns : List ℕ) → us ≡ ts → length us ≤ i
+    → AddsAll old new (map f (take i us)) ns → AddsAll old new (map f ts) ns
 adds_whole f ts us i old new ns same done all = subst (λ ps. AddsAll old new ps ns) (ap (map f) (take_whole us i done ∙ same)) all
 
 -- a node above them
-pub adds_over : (old mid new : List ProofNode) (label : List ℕ) (ps : List Proof) (ns : List ℕ) (n : ℕ) → AddsAll old mid ps ns → Adds mid new (proof_over mid label ns) n → Adds old new (by label (proofs ps)) n
+pub adds_over : (old mid new : List ProofNode) (label : List ℕ) (ps : List Proof) (ns : List ℕ) (n : ℕ) → AddsAll old mid ps ns
+    → Adds mid new (proof_over mid label ns) n → Adds old new (by label (proofs ps)) n
 adds_over old mid new label ps ns n all one = record {
   grows = grows_on old mid new all.grows one.grows;
   inside = one.inside;
@@ -122,7 +126,8 @@ woven_float hyps xs ys i a b h ns now inside e f is w = record {
   b_few = (let l = w.b_few in omega (arith, l));
 }
 
-pub woven_essential : (hyps : List Hyp) (xs ys : List ℕ) (i a b : ℕ) (h : Hyp) (ns now : List ℕ) → i < length hyps → h ≡ get_or hyps i h → h.floating ≡ false → now ≡ ns ++ option_to_list (slice_get ys b)
+pub woven_essential : (hyps : List Hyp) (xs ys : List ℕ) (i a b : ℕ) (h : Hyp) (ns now : List ℕ) → i < length hyps → h ≡ get_or hyps i h
+    → h.floating ≡ false → now ≡ ns ++ option_to_list (slice_get ys b)
     → IsWoven hyps xs ys i a b ns → IsWoven hyps xs ys (i + 1) a (b + 1) now
 woven_essential hyps xs ys i a b h ns now inside e f is w = record {
   rest =
@@ -253,7 +258,9 @@ fold_push : {A B : Type 0} (f : B → A → B) (b : B) (xs : List A) (y : A) →
 fold_push f b [] y = refl
 fold_push f b (x ∷ xs) y = fold_push f (f b x) xs y
 
-pub table_more : {X : Type 0} (given : List (Option Proof) → X → Option Proof) (steps : List X) (i : ℕ) (s : X) (old new : List ProofNode) (ns now : List (Option ℕ)) (n : Option ℕ) → i < length steps → s ≡ get_or steps i s
+pub table_more : {X : Type 0} (given : List (Option Proof) → X → Option Proof) (steps : List X) (i : ℕ) (s : X) (old new : List ProofNode)
+    (ns now : List (Option ℕ)) (n : Option ℕ)
+    → i < length steps → s ≡ get_or steps i s
     → IsTable old (fold (λ earlier s. earlier ++ given earlier s ∷ []) [] (take i steps)) ns → AddsStep old new (given (table_proofs old ns) s) n → now ≡ ns ++ n ∷ []
     → IsTable new (fold (λ earlier s. earlier ++ given earlier s ∷ []) [] (take (i + 1) steps)) now
 table_more given steps i s old new ns now n inside e table one is =
@@ -264,13 +271,16 @@ table_more given steps i s old new ns now n inside e table one is =
       all =
           ap (table_proofs new) is ∙ map_push (option_map (proof_at (node_proofs new))) ns n
           ∙ ap (λ l. l ++ option_map (proof_at (node_proofs new)) n ∷ []) (grown.0 ∙ table.all) ∙ ap (λ p. earlier ++ p ∷ []) (one.proof ∙ ap (λ l. given l s) table.all)
-          ∙ sym (ap (fold (λ earlier s. earlier ++ given earlier s ∷ []) []) (take_more steps i s inside ∙ ap (λ y. take i steps ++ y ∷ []) (sym e)) ∙ fold_push (λ earlier s. earlier ++ given earlier s ∷ []) [] (take i steps) s);
+          ∙ sym
+              (ap (fold (λ earlier s. earlier ++ given earlier s ∷ []) []) (take_more steps i s inside ∙ ap (λ y. take i steps ++ y ∷ []) (sym e))
+                  ∙ fold_push (λ earlier s. earlier ++ given earlier s ∷ []) [] (take i steps) s);
     }
 
 pub table_begun : (nodes : List ProofNode) (ns : List (Option ℕ)) → ns ≡ [] → IsTable nodes [] ns
 table_begun nodes ns e = record { inside = subst (AllByRecursion (IsInside nodes)) (sym e) tt; all = ap (table_proofs nodes) e }
 
-pub table_whole : {X : Type 0} (given : List X → List (Option Proof)) (steps : List X) (i : ℕ) (nodes : List ProofNode) (ns : List (Option ℕ)) → length steps ≤ i → IsTable nodes (given (take i steps)) ns → IsTable nodes (given steps) ns
+pub table_whole : {X : Type 0} (given : List X → List (Option Proof)) (steps : List X) (i : ℕ) (nodes : List ProofNode) (ns : List (Option ℕ))
+    → length steps ≤ i → IsTable nodes (given (take i steps)) ns → IsTable nodes (given steps) ns
 table_whole given steps i nodes ns done t = subst (λ l. IsTable nodes (given l) ns) (take_whole steps i done) t
 
 option_append : {X : Type 0} (o : Option X) → cons_option o [] ≡ option_to_list o
@@ -285,7 +295,8 @@ filter_push f (y ∷ xs) x = by (f y) (filter_push f xs x)
     by None e = e
     by (Some z) e = ap (λ l. z ∷ l) e
 
-pub filter_more : {Y : Type 0} (f : ℕ → Option Y) (ks : List ℕ) (i : ℕ) (ns now : List Y) → i < length ks → ns ≡ filter_map f (take i ks) → now ≡ ns ++ option_to_list (f (get_or ks i 0)) → now ≡ filter_map f (take (i + 1) ks)
+pub filter_more : {Y : Type 0} (f : ℕ → Option Y) (ks : List ℕ) (i : ℕ) (ns now : List Y) → i < length ks → ns ≡ filter_map f (take i ks)
+    → now ≡ ns ++ option_to_list (f (get_or ks i 0)) → now ≡ filter_map f (take (i + 1) ks)
 filter_more f ks i ns now inside e is =
     is ∙ ap (λ l. l ++ option_to_list (f (get_or ks i 0))) e ∙ sym (filter_push f (take i ks) (get_or ks i 0)) ∙ ap (filter_map f) (sym (take_more ks i 0 inside))
 
@@ -305,9 +316,13 @@ some_of f None = refl
 some_of f (Some x) = refl
 
 -- the number of a proof that is there
-pub number_there : (nodes : List ProofNode) (ps : List (Option Proof)) (ns : List (Option ℕ)) (k : ℕ) → IsTable nodes ps ns → is_some (item_at ps k) ≡ true → (n : ℕ) × (k < length ns) × (get_or ns k None ≡ Some n)
+pub number_there : (nodes : List ProofNode) (ps : List (Option Proof)) (ns : List (Option ℕ)) (k : ℕ) → IsTable nodes ps ns
+    → is_some (item_at ps k) ≡ true → (n : ℕ) × (k < length ns) × (get_or ns k None ≡ Some n)
 number_there nodes ps ns k t e =
-    let found = there (item_at ns k) (sym (some_of (proof_at (node_proofs nodes)) (item_at ns k)) ∙ ap is_some (sym (item_map (proof_at (node_proofs nodes)) ns k) ∙ ap (λ l. item_at l k) t.all) ∙ e) in
+    let found =
+        there (item_at ns k)
+            (sym (some_of (proof_at (node_proofs nodes)) (item_at ns k))
+                ∙ ap is_some (sym (item_map (proof_at (node_proofs nodes)) ns k) ∙ ap (λ l. item_at l k) t.all) ∙ e) in
     let at = item_there ns k found.0 found.1 in
     (found.0, at.0, at.1)
 
@@ -325,7 +340,8 @@ root_there nodes ps ns k n t e =
     }
 
 -- which steps have a proof
-some_folded : {X : Type 0} (given : List (Option Proof) → X → Option Proof) (used : X → Bool) → ((ps : List (Option Proof)) (s : X) → is_some (given ps s) ≡ used s) → (steps before : List X) (ps : List (Option Proof))
+some_folded : {X : Type 0} (given : List (Option Proof) → X → Option Proof) (used : X → Bool)
+    → ((ps : List (Option Proof)) (s : X) → is_some (given ps s) ≡ used s) → (steps before : List X) (ps : List (Option Proof))
     → map is_some ps ≡ map used before → map is_some (fold (λ earlier s. earlier ++ given earlier s ∷ []) ps steps) ≡ map used (before ++ steps)
 some_folded given used same [] before ps e = e ∙ ap (map used) (sym (append_none before))
 some_folded given used same (s ∷ steps) before ps e =
@@ -358,7 +374,9 @@ used_there c floats steps k e =
     flag_item (given_proofs c floats steps) k ∙ ap (λ bs. flag bs k) (some_folded (given_proof c floats) is_used (given_used c floats) steps [] [] refl) ∙ sym (flag_used is_used steps k) ∙ e
 
 -- as it is looked up
-pub number_looked_up : (nodes : List ProofNode) (c : Contents) (floats : ℕ → Option Name) (steps : List ProofStep) (ns : List (Option ℕ)) (k : ℕ) (o : Option ℕ) → IsTable nodes (given_proofs c floats steps) ns → used_at steps k ≡ true
+pub number_looked_up : (nodes : List ProofNode) (c : Contents) (floats : ℕ → Option Name) (steps : List ProofStep) (ns : List (Option ℕ)) (k : ℕ)
+    (o : Option ℕ)
+    → IsTable nodes (given_proofs c floats steps) ns → used_at steps k ≡ true
     → o ≡ get_or ns k o → (n : ℕ) × (k < length ns) × (get_or ns k None ≡ Some n) × (o ≡ Some n)
 number_looked_up nodes c floats steps ns k o t used e =
     let at = number_there nodes (given_proofs c floats steps) ns k t (used_there c floats steps k used) in

@@ -1,5 +1,6 @@
 -- The steps of a proof's code, by its nodes.
-use Rattle.std.proofs.Common.{◌≡◌, ℕ, zero, suc, ◌+◌, ◌-◌, ◌^◌, ◌<◌, ◌≤◌, min, Bool, true, false, not, ◌&&◌, ◌==◌, cond, nat_eq, nat_le, List, [], ◌∷◌, ◌++◌, length, map, fold, get_or, Option, Some, None, is_some, true≢false, refl, sym, ap, ◌∙◌, subst, arith, lit≤}
+use Rattle.std.proofs.Common.{◌≡◌, ℕ, zero, suc, ◌+◌, ◌-◌, ◌^◌, ◌<◌, ◌≤◌, min, Bool, true, false, not, ◌&&◌, ◌==◌, cond, nat_eq, nat_le, List, []}
+use Rattle.std.proofs.Common.{◌∷◌, ◌++◌, length, map, fold, get_or, Option, Some, None, is_some, true≢false, refl, sym, ap, ◌∙◌, subst, arith, lit≤}
 use Rattle.std.specs.Prelude.{count_by, flat_map, replicate, slice_set}
 use Rattle.std.specs.List.{AllByRecursion}
 use Rattle.std.proofs.lemmas.Bool.{eqb-true, eq-eqb, leb-true, le-leb}
@@ -30,7 +31,9 @@ listed_back [] = refl
 listed_back (p ∷ ps) = ap (λ l. p ∷ l) (listed_back ps)
 
 two_of : (top c : ℕ) → 2 ≤ top → nat_le 2 (min top c) ≡ nat_le 2 c
-two_of top c h = iff_same (nat_le 2 (min top c)) (nat_le 2 c) (λ e. le-leb 2 c (let l = leb-true 2 (min top c) e in omega (arith, l, h))) (λ e. le-leb 2 (min top c) (let l = leb-true 2 c e in omega (arith, l, h)))
+two_of top c h =
+    iff_same (nat_le 2 (min top c)) (nat_le 2 c) (λ e. le-leb 2 c (let l = leb-true 2 (min top c) e in omega (arith, l, h)))
+        (λ e. le-leb 2 (min top c) (let l = leb-true 2 c e in omega (arith, l, h)))
 
 module _ (nodes : List ProofNode) (graph : IsGraph nodes) where
   abbrev P : ℕ → Proof
@@ -53,7 +56,8 @@ module _ (nodes : List ProofNode) (graph : IsGraph nodes) where
   places_named : (ks : List ℕ) → AllByRecursion (λ k. k < length nodes) ks → flat_map children (map P ks) ≡ map P (flat_map (below_of nodes) ks)
   places_named [] a = refl
   places_named (k ∷ ks) a =
-      ap (λ l. l ++ flat_map children (map P ks)) (children_are k a.0) ∙ ap (λ l. map P (below_of nodes k) ++ l) (places_named ks a.1) ∙ sym (map_append P (below_of nodes k) (flat_map (below_of nodes) ks))
+      ap (λ l. l ++ flat_map children (map P ks)) (children_are k a.0) ∙ ap (λ l. map P (below_of nodes k) ++ l) (places_named ks a.1)
+          ∙ sym (map_append P (below_of nodes k) (flat_map (below_of nodes) ks))
 
   count_from : (n : ℕ) (ks : List ℕ) (a : ℕ) → n < length nodes → AllByRecursion (λ k. k < length nodes) ks
       → fold (λ b x. b + cond (same_proof (P n) x) 1 0) a (map P ks) ≡ fold (λ b k. b + cond (nat_eq n k) 1 0) a ks
@@ -65,7 +69,8 @@ module _ (nodes : List ProofNode) (graph : IsGraph nodes) where
   shared_is order uses n h o u =
       let named = flat_map (below_of nodes) order in
       let places : argument_places (root_proof nodes) ≡ map P named = ap (flat_map children) (sym o.proofs_are) ∙ places_named order o.inside in
-      let count : count_by (same_proof (P n)) (argument_places (root_proof nodes)) ≡ count_by (nat_eq n) named = ap (count_by (same_proof (P n))) places ∙ count_from n named 0 h (all_named order o.inside) in
+      let count : count_by (same_proof (P n)) (argument_places (root_proof nodes)) ≡ count_by (nat_eq n) named =
+          ap (count_by (same_proof (P n))) places ∙ count_from n named 0 h (all_named order o.inside) in
       let twice : nat_le 2 (get_or uses n 0) ≡ nat_le 2 (count_by (same_proof (P n)) (argument_places (root_proof nodes))) =
       ap (nat_le 2) (u.count n h) ∙ two_of (2 ^ 32 - 1) (count_by (nat_eq n) named) (lit≤ tt) ∙ ap (nat_le 2) (sym count) in
       let many : length (below_of nodes n) ≡ length (children (P n)) = sym (ap length (children_are n h) ∙ length-map (below_of nodes n) P) in
@@ -169,7 +174,9 @@ module _ (nodes : List ProofNode) (graph : IsGraph nodes) where
         ap (λ o. again_or o c (λ d. with_label (by label below) (is_marked places (by label below)) (what_of mandatory labels label) (coded_all mandatory labels places below d))) e
 
     coded_new : (label : Name) (below : Proofs) (c : Coding) → first_number (same_proof (by label below)) c.marked ≡ None
-        → coded mandatory labels places (by label below) c ≡ with_label (by label below) (is_marked places (by label below)) (what_of mandatory labels label) (coded_all mandatory labels places below c)
+        → coded mandatory labels places (by label below) c
+            ≡ with_label (by label below) (is_marked places (by label below)) (what_of mandatory labels label)
+                (coded_all mandatory labels places below c)
     coded_new label below c e =
         ap (λ o. again_or o c (λ d. with_label (by label below) (is_marked places (by label below)) (what_of mandatory labels label) (coded_all mandatory labels places below d))) e
 
@@ -197,7 +204,8 @@ module _ (nodes : List ProofNode) (graph : IsGraph nodes) where
       whole = ap (λ l. run opened ended l (record { steps = []; marked = [] })) p ∙ ap (λ k. opened k (record { steps = []; marked = [] })) last;
     }
 
-    pub coding_ends : (pending rest : List Part) (n : ℕ) (w : What) (b : Bool) (d e : Coder) → pending ≡ rest ++ part.Label n ∷ [] → b ≡ is_marked places (P n) → w ≡ what_of mandatory labels (label_of nodes n) → Ends n w b d e
+    pub coding_ends : (pending rest : List Part) (n : ℕ) (w : What) (b : Bool) (d e : Coder) → pending ≡ rest ++ part.Label n ∷ []
+        → b ≡ is_marked places (P n) → w ≡ what_of mandatory labels (label_of nodes n) → Ends n w b d e
         → IsCodingAt pending d → IsCodingAt rest e
     coding_ends pending rest n w b d e p mark is s a =
         let inside : n < length nodes = last_part nodes pending rest (part.Label n) p a.parts in
@@ -210,7 +218,8 @@ module _ (nodes : List ProofNode) (graph : IsGraph nodes) where
               ∙ sym (ap (λ l. run opened ended l a.so_far) p ∙ run_last opened ended rest (part.Label n) a.so_far) ∙ a.whole;
         }
 
-    begins_case : (pending rest now : List Part) (n : ℕ) (d e : Coder) (o : Option ℕ) → item_at d.marks.items n ≡ o → pending ≡ rest ++ part.Proof n ∷ [] → e.steps.items ≡ d.steps.items ++ again_steps o → e.marks.items ≡ d.marks.items → e.count ≡ d.count
+    begins_case : (pending rest now : List Part) (n : ℕ) (d e : Coder) (o : Option ℕ) → item_at d.marks.items n ≡ o
+        → pending ≡ rest ++ part.Proof n ∷ [] → e.steps.items ≡ d.steps.items ++ again_steps o → e.marks.items ≡ d.marks.items → e.count ≡ d.count
         → now ≡ rest ++ parts_unless (is_some o) n (below_of nodes n) → IsCodingAt pending d → IsCodingAt now e
     begins_case pending rest now n d e None m p steps marks count is a =
         let inside : n < length nodes = last_part nodes pending rest (part.Proof n) p a.parts in
@@ -223,7 +232,10 @@ module _ (nodes : List ProofNode) (graph : IsGraph nodes) where
             count = a.coding.count ∙ sym count;
             many = ap length marks ∙ a.coding.many;
           };
-          parts = subst (AllByRecursion (IsPart nodes)) (sym is) (all_append (IsPart nodes) rest (parts_of n (below_of nodes n)) (rest_parts nodes pending rest (part.Proof n) p a.parts) (parts_inside nodes n inside graph.earlier));
+          parts =
+              subst (AllByRecursion (IsPart nodes)) (sym is)
+                  (all_append (IsPart nodes) rest (parts_of n (below_of nodes n)) (rest_parts nodes pending rest (part.Proof n) p a.parts)
+                      (parts_inside nodes n inside graph.earlier));
           whole =
               ap (λ l. run opened ended l a.so_far) is ∙ run_parts opened ended rest n (below_of nodes n) a.so_far
               ∙ ap (run opened ended rest) (sym (coded_node n a.so_far inside new))
@@ -250,5 +262,6 @@ module _ (nodes : List ProofNode) (graph : IsGraph nodes) where
     pub coding_begins : (pending rest now : List Part) (n : ℕ) (d e : Coder) → pending ≡ rest ++ part.Proof n ∷ [] → Begins nodes n d e rest now → IsCodingAt pending d → IsCodingAt now e
     coding_begins pending rest now n d e p s a = begins_case pending rest now n d e (item_at d.marks.items n) refl p s.steps s.marks s.count s.parts a
 
-    pub coding_done : (pending : List Part) (d : Coder) → pending ≡ [] → IsCodingAt pending d → d.steps.items ≡ (coded mandatory labels places (root_proof nodes) (record { steps = []; marked = [] })).steps
+    pub coding_done : (pending : List Part) (d : Coder) → pending ≡ [] → IsCodingAt pending d
+        → d.steps.items ≡ (coded mandatory labels places (root_proof nodes) (record { steps = []; marked = [] })).steps
     coding_done pending d p a = sym a.coding.steps ∙ ap (λ (c : Coding). c.steps) (sym (ap (λ l. run opened ended l a.so_far) p) ∙ a.whole)

@@ -1,5 +1,6 @@
 -- The labels of the `$f` of variables.
-use Rattle.std.proofs.Common.{◌≡◌, ℕ, ◌+◌, ◌<◌, ◌≤◌, Bool, true, false, ◌||◌, ◌==◌, cond, List, [], ◌∷◌, ◌++◌, length, take, get_or, find, Option, Some, None, option_map, refl, sym, ap, ◌∙◌}
+use Rattle.std.proofs.Common.{◌≡◌, ℕ, ◌+◌, ◌<◌, ◌≤◌, Bool, true, false, ◌||◌, ◌==◌, cond, List, [], ◌∷◌, ◌++◌, length, take, get_or, find, Option}
+use Rattle.std.proofs.Common.{Some, None, option_map, refl, sym, ap, ◌∙◌}
 use Rattle.std.specs.List.{list_any}
 use Rattle.std.proofs.lemmas.List.Folds.{list_any-append}
 use Rattle.mm_base.specs.declared.symbols.Sym.{Sym}
@@ -33,7 +34,8 @@ or_false false = refl
 pub puts_none : (name : Name) (f : Labels) → PutsName name [] f f
 puts_none name f s = sooner_none (f s)
 
-pub puts_one : (name : Name) (symbols : List Sym) (i : ℕ) (first old new : Labels) → i < length symbols → PutsName name (take i symbols) first old → PutsOne name (get_or symbols i (symbol 0)).0 old new
+pub puts_one : (name : Name) (symbols : List Sym) (i : ℕ) (first old new : Labels) → i < length symbols → PutsName name (take i symbols) first old
+    → PutsOne name (get_or symbols i (symbol 0)).0 old new
     → PutsName name (take (i + 1) symbols) first new
 puts_one name symbols i first old new inside before one s =
     let x = get_or symbols i (symbol 0) in
@@ -65,7 +67,8 @@ map_sooner : {X Y : Type 0} (f : X → Y) (a b : Option X) → option_map f (soo
 map_sooner f None b = refl
 map_sooner f (Some x) b = refl
 
-pub more_floats : (hyps : List Hyp) (i : ℕ) (h : Hyp) (old new : Labels) → i < length hyps → h ≡ get_or hyps i h → AreFloats (take i hyps) old → PutsFloat h old new → AreFloats (take (i + 1) hyps) new
+pub more_floats : (hyps : List Hyp) (i : ℕ) (h : Hyp) (old new : Labels) → i < length hyps → h ≡ get_or hyps i h → AreFloats (take i hyps) old
+    → PutsFloat h old new → AreFloats (take (i + 1) hyps) new
 more_floats hyps i h old new inside is before put s =
     put s ∙ ap (λ o. sooner o (named_where (is_float_of (symbol s) h) h.name)) (before s)
     ∙ ap (sooner (float_name (take i hyps) s)) (sym (named_of (is_float_of (symbol s) h) h))

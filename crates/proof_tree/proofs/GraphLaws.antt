@@ -1,5 +1,6 @@
 -- The proofs of a graph's nodes, and how many labels they have.
-use Rattle.std.proofs.Common.{◌≡◌, ℕ, zero, suc, ◌+◌, ◌-◌, ◌^◌, ◌<◌, ◌≤◌, min, List, [], ◌∷◌, ◌++◌, length, map, take, fold, reverse, get_or, refl, sym, ap, subst, ◌∙◌, add-one, arith, lit≤}
+use Rattle.std.proofs.Common.{◌≡◌, ℕ, zero, suc, ◌+◌, ◌-◌, ◌^◌, ◌<◌, ◌≤◌, min, List, [], ◌∷◌, ◌++◌, length, map, take, fold, reverse, get_or, refl}
+use Rattle.std.proofs.Common.{sym, ap, subst, ◌∙◌, add-one, arith, lit≤}
 use Rattle.std.proofs.lemmas.List.{length-append, length-map, get_or-map, reverse-append}
 use Rattle.std.specs.List.{AllByRecursion}
 use Rattle.proof_model.specs.Proofs.{Proof, by, proofs, postorder, postorders}
@@ -271,11 +272,14 @@ fewer_pending nodes pending rest now bs n d e h k b is =
     let same = ap (λ ns. length (pending_labels nodes ns)) (is ∙ ap (λ l. rest ++ l) b) in
     omega (arith, more, one, same)
 
-pub backwards_more : (nodes : List ProofNode) (pending rest now bs : List ℕ) (labels put : List (List ℕ)) (label : List ℕ) (n : ℕ) (d : ProofNode) → pending ≡ rest ++ n ∷ [] → n < length nodes → NameEarlier 0 nodes
+pub backwards_more : (nodes : List ProofNode) (pending rest now bs : List ℕ) (labels put : List (List ℕ)) (label : List ℕ) (n : ℕ) (d : ProofNode)
+    → pending ≡ rest ++ n ∷ [] → n < length nodes → NameEarlier 0 nodes
     → bs ≡ (get_or nodes n d).below → label ≡ (get_or nodes n d).label → now ≡ rest ++ bs → put ≡ labels ++ label ∷ [] → IsBackwards nodes pending labels → IsBackwards nodes now put
 backwards_more nodes pending rest now bs labels put label n d e h k b l is more old = record {
   inside = subst (AllByRecursion (λ k. k < length nodes)) (sym (is ∙ ap (λ l. rest ++ l) b))
-      (all_append (λ k. k < length nodes) rest (get_or nodes n d).below (all_front (λ k. k < length nodes) rest (n ∷ []) (subst (AllByRecursion (λ k. k < length nodes)) e old.inside)) (below_inside nodes n d h k));
+      (all_append (λ k. k < length nodes) rest (get_or nodes n d).below
+          (all_front (λ k. k < length nodes) rest (n ∷ []) (subst (AllByRecursion (λ k. k < length nodes)) e old.inside))
+          (below_inside nodes n d h k));
   whole =
       ap (λ ns. pending_labels nodes ns ++ reverse put) (is ∙ ap (λ l. rest ++ l) b)
       ∙ ap (λ ls. pending_labels nodes (rest ++ (get_or nodes n d).below) ++ ls) (ap reverse more ∙ reverse_push labels label ∙ ap (λ x. x ∷ reverse labels) l)
@@ -284,11 +288,14 @@ backwards_more nodes pending rest now bs labels put label n d e h k b l is more 
       ∙ old.whole;
 }
 
-pub backwards_done : (nodes : List ProofNode) (pending : List ℕ) (labels : List (List ℕ)) → pending ≡ [] → IsBackwards nodes pending labels → reverse labels ≡ postorder (proof_at (node_proofs nodes) (length nodes - 1))
+pub backwards_done : (nodes : List ProofNode) (pending : List ℕ) (labels : List (List ℕ)) → pending ≡ [] → IsBackwards nodes pending labels
+    → reverse labels ≡ postorder (proof_at (node_proofs nodes) (length nodes - 1))
 backwards_done nodes pending labels e h = ap (λ ns. pending_labels nodes ns ++ reverse labels) (sym e) ∙ h.whole
 
 pub backwards_begun : (nodes : List ProofNode) (pending : List ℕ) (n : ℕ) → 0 < length nodes → pending ≡ n ∷ [] → n ≡ length nodes - 1 → IsBackwards nodes pending []
 backwards_begun nodes pending n h e is = record {
   inside = subst (AllByRecursion (λ k. k < length nodes)) (sym e) (omega (arith, h, is), tt);
-  whole = ap (λ ns. pending_labels nodes ns ++ []) e ∙ append_none (pending_labels nodes (n ∷ [])) ∙ append_none (postorder (proof_at (node_proofs nodes) n)) ∙ ap (λ k. postorder (proof_at (node_proofs nodes) k)) is;
+  whole =
+      ap (λ ns. pending_labels nodes ns ++ []) e ∙ append_none (pending_labels nodes (n ∷ []))
+          ∙ append_none (postorder (proof_at (node_proofs nodes) n)) ∙ ap (λ k. postorder (proof_at (node_proofs nodes) k)) is;
 }

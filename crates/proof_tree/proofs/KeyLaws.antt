@@ -1,5 +1,6 @@
 -- Nodes that are found by their hash.
-use Rattle.std.proofs.Common.{◌≡◌, ℕ, zero, suc, ◌<◌, ◌+◌, ◌^◌, ◌⊎◌, inl, inr, Bool, true, false, ◌&&◌, true≢false, Some, List, [], ◌∷◌, ◌++◌, length, map, take, get_or, slice_get, if◌then◌else◌, refl, sym, ap, ◌∙◌, subst, arith}
+use Rattle.std.proofs.Common.{◌≡◌, ℕ, zero, suc, ◌<◌, ◌+◌, ◌^◌, ◌⊎◌, inl, inr, Bool, true, false, ◌&&◌, true≢false, Some, List, [], ◌∷◌, ◌++◌, length}
+use Rattle.std.proofs.Common.{map, take, get_or, slice_get, if◌then◌else◌, refl, sym, ap, ◌∙◌, subst, arith}
 use Rattle.std.proofs.lemmas.List.{append-nil, length-append, length-map, get_or-map, length-take-le}
 use Rattle.std.proofs.lemmas.Map.Keys.{apart_from_distinct}
 use Rattle.std.proofs.lemmas.Slice.Eq.{bytes_eq-Decides}
@@ -71,11 +72,14 @@ grows_of : (keys new : List Key) (k : Key) → PutCase keys new k → Grows (nod
 grows_of keys new k (inl e) = record { more = []; is = ap nodes_of_keys e ∙ sym (append-nil (nodes_of_keys keys)) }
 grows_of keys new k (inr e) = record { more = node_of_key k ∷ []; is = ap nodes_of_keys e ∙ map_push node_of_key keys k }
 
-earlier_of : (keys new : List Key) (k : Key) → NameEarlier 0 (nodes_of_keys keys) → AllByRecursion (λ j. j < length (nodes_of_keys keys)) k.below.items → PutCase keys new k → NameEarlier 0 (nodes_of_keys new)
+earlier_of : (keys new : List Key) (k : Key) → NameEarlier 0 (nodes_of_keys keys)
+    → AllByRecursion (λ j. j < length (nodes_of_keys keys)) k.below.items → PutCase keys new k → NameEarlier 0 (nodes_of_keys new)
 earlier_of keys new k e h (inl is) = subst (NameEarlier 0) (sym (ap nodes_of_keys is)) e
 earlier_of keys new k e h (inr is) =
     subst (NameEarlier 0) (sym (ap nodes_of_keys is ∙ map_push node_of_key keys k))
-    (earlier_push (nodes_of_keys keys) (node_of_key k) 0 e (subst (λ m. AllByRecursion (λ j. j < m) k.below.items) (let s : length (nodes_of_keys keys) ≡ 0 + length (nodes_of_keys keys) = omega arith in s) h))
+    (earlier_push (nodes_of_keys keys) (node_of_key k) 0 e
+        (subst (λ m. AllByRecursion (λ j. j < m) k.below.items)
+            (let s : length (nodes_of_keys keys) ≡ 0 + length (nodes_of_keys keys) = omega arith in s) h))
 
 get_of : (keys : List Key) (i : ℕ) (m : Key) → slice_get keys i ≡ Some m → (i < length (nodes_of_keys keys)) × (get_or (nodes_of_keys keys) i no_node ≡ node_of_key m)
 get_of [] i m e = absurd cc
@@ -128,7 +132,8 @@ nodes_differ (k ∷ keys) h i j l m e =
       | inr other ↦ elim other [ inl same ↦ same | inr more ↦ absurd (apart all k j i h more (omega (arith, many, l)) (sym e)) ]
     ]
 
-pub front_is_graph : (keys front : List Key) (root : ℕ) → NameEarlier 0 (nodes_of_keys keys) → length keys < 2 ^ 32 → root < length (nodes_of_keys keys) → front ≡ take (root + 1) keys → IsDistinct same_key front
+pub front_is_graph : (keys front : List Key) (root : ℕ) → NameEarlier 0 (nodes_of_keys keys) → length keys < 2 ^ 32
+    → root < length (nodes_of_keys keys) → front ≡ take (root + 1) keys → IsDistinct same_key front
     → IsGraph (nodes_of_keys front)
 front_is_graph keys front root e few l is d =
     let front_is : nodes_of_keys front ≡ take (root + 1) (nodes_of_keys keys) = ap nodes_of_keys is ∙ take_map node_of_key keys (root + 1) in

@@ -40,7 +40,8 @@ module _ (nodes : List ProofNode) where
         ap (λ p. visit p seen) is ∙ visit_new (node_in nodes n).label (proofs (map P (below_of nodes n))) seen (ap (λ p. list_any (same_proof p) seen) (sym is) ∙ e)
         ∙ ap (λ s. see s (by (node_in nodes n).label (proofs (map P (below_of nodes n))))) (visit_below (below_of nodes n) seen) ∙ ap (see (fold (λ t k. opened k t) seen (below_of nodes n))) (sym is)
 
-    open_case : (pending rest now : List Part) (n : ℕ) (order : List ℕ) (b : Bool) → list_any (nat_eq n) order ≡ b → pending ≡ rest ++ part.Proof n ∷ [] → now ≡ rest ++ parts_unless b n (below_of nodes n)
+    open_case : (pending rest now : List Part) (n : ℕ) (order : List ℕ) (b : Bool) → list_any (nat_eq n) order ≡ b
+        → pending ≡ rest ++ part.Proof n ∷ [] → now ≡ rest ++ parts_unless b n (below_of nodes n)
         → IsVisiting pending order → IsVisiting now order
     open_case pending rest now n order true e p is v =
         let inside : n < length nodes = last_part nodes pending rest (part.Proof n) p v.parts in
@@ -56,7 +57,10 @@ module _ (nodes : List ProofNode) where
     open_case pending rest now n order false e p is v =
         let inside : n < length nodes = last_part nodes pending rest (part.Proof n) p v.parts in
         record {
-          parts = subst (AllByRecursion (IsPart nodes)) (sym is) (all_append (IsPart nodes) rest (parts_of n (below_of nodes n)) (rest_parts nodes pending rest (part.Proof n) p v.parts) (parts_inside nodes n inside graph.earlier));
+          parts =
+              subst (AllByRecursion (IsPart nodes)) (sym is)
+                  (all_append (IsPart nodes) rest (parts_of n (below_of nodes n)) (rest_parts nodes pending rest (part.Proof n) p v.parts)
+                      (parts_inside nodes n inside graph.earlier));
           inside = v.inside;
           whole =
               ap (λ l. run opened closed l (map P order)) is ∙ run_parts opened closed rest n (below_of nodes n) (map P order)
@@ -76,7 +80,8 @@ module _ (nodes : List ProofNode) where
     put_proofs n order true = refl
     put_proofs n order false = map_push P order n
 
-    pub visiting_label : (pending rest : List Part) (n : ℕ) (order now : List ℕ) → pending ≡ rest ++ part.Label n ∷ [] → now ≡ insert_key nat_eq order n → IsVisiting pending order → IsVisiting rest now
+    pub visiting_label : (pending rest : List Part) (n : ℕ) (order now : List ℕ) → pending ≡ rest ++ part.Label n ∷ []
+        → now ≡ insert_key nat_eq order n → IsVisiting pending order → IsVisiting rest now
     visiting_label pending rest n order now p is v =
         let inside : n < length nodes = last_part nodes pending rest (part.Label n) p v.parts in
         record {
@@ -84,7 +89,9 @@ module _ (nodes : List ProofNode) where
           inside = subst (AllByRecursion (λ k. k < length nodes)) (sym is) (put_inside n order (list_any (nat_eq n) order) inside v.inside);
           whole =
               ap (λ l. run opened closed rest (map P l)) is
-              ∙ ap (run opened closed rest) (put_proofs n order (list_any (nat_eq n) order) ∙ ap (λ b. cond b (map P order) (map P order ++ P n ∷ [])) (sym (any_nodes nodes graph n order inside v.inside)))
+              ∙ ap (run opened closed rest)
+                  (put_proofs n order (list_any (nat_eq n) order)
+                      ∙ ap (λ b. cond b (map P order) (map P order ++ P n ∷ [])) (sym (any_nodes nodes graph n order inside v.inside)))
               ∙ sym (ap (λ l. run opened closed l (map P order)) p ∙ run_last opened closed rest (part.Label n) (map P order)) ∙ v.whole;
         }
 

@@ -104,7 +104,8 @@ parts_weigh_less : (nodes : List ProofNode) (n : ℕ) (b : Bool) → n < length 
 parts_weigh_less nodes n true h e = let all = weights_parts nodes n h e in omega (arith, all)
 parts_weigh_less nodes n false h e = let all = weights_parts nodes n h e in omega (arith, all)
 
-pub fewer_parts : (nodes : List ProofNode) (pending rest now : List Part) (n : ℕ) (b : Bool) → pending ≡ rest ++ part.Proof n ∷ [] → n < length nodes → NameEarlier 0 nodes → now ≡ rest ++ parts_unless b n (below_of nodes n)
+pub fewer_parts : (nodes : List ProofNode) (pending rest now : List Part) (n : ℕ) (b : Bool) → pending ≡ rest ++ part.Proof n ∷ [] → n < length nodes
+    → NameEarlier 0 nodes → now ≡ rest ++ parts_unless b n (below_of nodes n)
     → weights nodes now < weights nodes pending
 fewer_parts nodes pending rest now n b e h k is =
     let before = ap (weights nodes) e ∙ weights_append nodes rest (part.Proof n ∷ []) in
@@ -117,7 +118,8 @@ fewer_labels nodes pending rest n e = let before = ap (weights nodes) e ∙ weig
 
 -- ---- put in from the last one to the first
 
-pub parts_so_far : (below : List ℕ) (left now : ℕ) (n : ℕ) (old before after : List Part) → left ≡ suc now → now < length below → before ≡ old ++ parts_of n (drop left below) → after ≡ before ++ part.Proof (get_or below now 0) ∷ []
+pub parts_so_far : (below : List ℕ) (left now : ℕ) (n : ℕ) (old before after : List Part) → left ≡ suc now → now < length below
+    → before ≡ old ++ parts_of n (drop left below) → after ≡ before ++ part.Proof (get_or below now 0) ∷ []
     → after ≡ old ++ parts_of n (drop now below)
 parts_so_far below left now n old before after one inside is more =
     more ∙ ap (λ l. l ++ part.Proof (get_or below now 0) ∷ []) (is ∙ ap (λ k. old ++ parts_of n (drop k below)) one)

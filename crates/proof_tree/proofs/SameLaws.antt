@@ -50,7 +50,8 @@ iff_same false false f g = refl
 abbrev node : List ℕ → List ℕ → ProofNode
 node label below = record { label = label; below = below }
 
-lists_same : (f : ℕ → Proof) (P Q : ℕ → Type 0) → ((k j : ℕ) → P k → Q j → f k ≡ f j → k ≡ j) → (ks js : List ℕ) → AllByRecursion P ks → AllByRecursion Q js → proofs (map f ks) ≡ proofs (map f js) → ks ≡ js
+lists_same : (f : ℕ → Proof) (P Q : ℕ → Type 0) → ((k j : ℕ) → P k → Q j → f k ≡ f j → k ≡ j) → (ks js : List ℕ) → AllByRecursion P ks
+    → AllByRecursion Q js → proofs (map f ks) ≡ proofs (map f js) → ks ≡ js
 lists_same f P Q h [] [] a b e = refl
 lists_same f P Q h [] (j ∷ js) a b e = absurd cc
 lists_same f P Q h (k ∷ ks) [] a b e = absurd cc
@@ -75,7 +76,9 @@ module _ (nodes : List ProofNode) (graph : IsGraph nodes) where
       let label : a.label ≡ b.label = cc in
       let belows : proofs (map P a.below) ≡ proofs (map P b.below) = cc in
       let below : a.below ≡ b.below =
-      lists_same P (λ x. x < i) (λ y. y < j) (λ x y less more same. one_below m x y (omega (arith, less, h)) (omega (arith, less, k)) (omega (arith, more, l)) same) a.below b.below (below_inside i k) (below_inside j l) belows in
+      lists_same P (λ x. x < i) (λ y. y < j)
+          (λ x y less more same. one_below m x y (omega (arith, less, h)) (omega (arith, less, k)) (omega (arith, more, l)) same) a.below b.below
+          (below_inside i k) (below_inside j l) belows in
       graph.differ i j k l (ap (λ x. node x a.below) label ∙ ap (node b.label) below)
 
   pub one_node : (i j : ℕ) → i < length nodes → j < length nodes → P i ≡ P j → i ≡ j

@@ -1,5 +1,6 @@
 -- The proofs of steps by what they are given are those of the written steps that they stand for.
-use Rattle.std.proofs.Common.{◌≡◌, ℕ, zero, suc, ◌+◌, ◌<◌, Bool, true, false, not, cond, ◌==◌, List, [], ◌∷◌, ◌++◌, length, map, drop, fold, filter_map, find, get_or, slice_get, Option, Some, None, option_map, is_some, refl, sym, ap, ◌∙◌, subst, arith}
+use Rattle.std.proofs.Common.{◌≡◌, ℕ, zero, suc, ◌+◌, ◌<◌, Bool, true, false, not, cond, ◌==◌, List, [], ◌∷◌, ◌++◌, length, map, drop, fold}
+use Rattle.std.proofs.Common.{filter_map, find, get_or, slice_get, Option, Some, None, option_map, is_some, refl, sym, ap, ◌∙◌, subst, arith}
 use Rattle.std.specs.Prelude.{zip, unwrap_or, flat_map}
 use Rattle.std.proofs.Math.Path.{fun_ext}
 use Rattle.std.proofs.lemmas.Bool.{eqb-true, eq-eqb}
@@ -49,7 +50,8 @@ abbrev pub Valued : (Sym → Proof) → List Hyp → List Proof → Type 0
 Valued value [] vs = Unit {0}
 Valued value (h ∷ hs) vs = ValuedHere value h.floating (float_variable h) (Valued value hs) vs
 
-without_places : (value : Sym → Proof) (h : Hyp) (hs : List Hyp) (b : Bool) (vs : List Proof) → ((ws : List Proof) → Valued value hs ws → 0 ≡ length (essentials hs) → weave hs ws [] ≡ hyp_proofs value hs [])
+without_places : (value : Sym → Proof) (h : Hyp) (hs : List Hyp) (b : Bool) (vs : List Proof)
+    → ((ws : List Proof) → Valued value hs ws → 0 ≡ length (essentials hs) → weave hs ws [] ≡ hyp_proofs value hs [])
     → ValuedHere value b (float_variable h) (Valued value hs) vs → 0 ≡ length (cond (not b) (h ∷ essentials hs) (essentials hs))
     → cond b (option_to_list (slice_get vs 0) ++ weave hs (drop 1 vs) []) ([] ++ weave hs vs []) ≡ cond b (value (float_variable h) ∷ hyp_proofs value hs []) (no_proof ∷ hyp_proofs value hs [])
 without_places value h hs true [] rest v n = absurd v
@@ -71,7 +73,8 @@ weave_is value (h ∷ hs) vs [] v n = without_places value h hs h.floating vs (�
 weave_is value (h ∷ hs) vs (p ∷ ps) v n = with_places value h hs h.floating p ps vs (λ ws w m. weave_is value hs ws (p ∷ ps) w m) (λ ws w m. weave_is value hs ws ps w m) v n
 
 at_float : (value : Sym → Proof) (f : List Sym) (fs : List (List Sym)) (vs : List TypedVariable) (ws : List Proof) (rest : List Proof → Type 0) → f ∷ fs ≡ map float_formula (typed_by f ++ vs)
-    → map (λ (v : TypedVariable). value v.sym) (typed_by f ++ vs) ≡ ws → (fs ≡ map float_formula vs → rest (map (λ (v : TypedVariable). value v.sym) vs)) → ValuedHere value true (get_or f 1 (symbol 0)) rest ws
+    → map (λ (v : TypedVariable). value v.sym) (typed_by f ++ vs) ≡ ws
+        → (fs ≡ map float_formula vs → rest (map (λ (v : TypedVariable). value v.sym) vs)) → ValuedHere value true (get_or f 1 (symbol 0)) rest ws
 at_float value [] fs [] ws rest e m r = absurd cc
 at_float value [] fs (v ∷ vs) ws rest e m r = absurd (let wrong : [] ≡ float_formula v = cc in cc)
 at_float value (c ∷ []) fs [] ws rest e m r = absurd cc
@@ -86,11 +89,14 @@ float_case : (value : Sym → Proof) (h : Hyp) (hs : List Hyp) (b : Bool) (ws : 
     → map (λ (v : TypedVariable). value v.sym) (flat_map (λ (g : Hyp). typed_by g.formula) (cond b (h ∷ floats hs) (floats hs))) ≡ ws → ValuedHere value b (float_variable h) (Valued value hs) ws
 float_case value h hs true ws rest e m =
     at_float value h.formula (map (λ (g : Hyp). g.formula) (floats hs)) (typed_variables hs) ws (Valued value hs)
-    (e ∙ ap (map float_formula) (flat_map-cons (λ (g : Hyp). typed_by g.formula) h (floats hs))) (ap (map (λ (v : TypedVariable). value v.sym)) (sym (flat_map-cons (λ (g : Hyp). typed_by g.formula) h (floats hs))) ∙ m)
+    (e ∙ ap (map float_formula) (flat_map-cons (λ (g : Hyp). typed_by g.formula) h (floats hs)))
+        (ap (map (λ (v : TypedVariable). value v.sym)) (sym (flat_map-cons (λ (g : Hyp). typed_by g.formula) h (floats hs))) ∙ m)
     (λ same. rest (map (λ (v : TypedVariable). value v.sym) (typed_variables hs)) same refl)
 float_case value h hs false ws rest e m = rest ws e m
 
-pub valued : (value : Sym → Proof) (hs : List Hyp) (ws : List Proof) → map (λ (g : Hyp). g.formula) (floats hs) ≡ map float_formula (typed_variables hs) → map (λ (v : TypedVariable). value v.sym) (typed_variables hs) ≡ ws
+pub valued : (value : Sym → Proof) (hs : List Hyp) (ws : List Proof)
+    → map (λ (g : Hyp). g.formula) (floats hs) ≡ map float_formula (typed_variables hs)
+    → map (λ (v : TypedVariable). value v.sym) (typed_variables hs) ≡ ws
     → Valued value hs ws
 valued value [] ws e m = tt
 valued value (h ∷ hs) ws e m = float_case value h hs h.floating ws (λ us f n. valued value hs us f n) e m
@@ -108,7 +114,8 @@ found_first : (b : Bool) (x : TypedVariable × Tree) (o : Option (TypedVariable 
 found_first true x o e = refl
 found_first false x o e = absurd cc
 
-found_later : (b : Bool) (x : TypedVariable × Tree) (o : Option (TypedVariable × Tree)) → b ≡ false → option_map_or (λ (p : TypedVariable × Tree). p.1) (cond b (Some x) o) no_tree ≡ option_map_or (λ (p : TypedVariable × Tree). p.1) o no_tree
+found_later : (b : Bool) (x : TypedVariable × Tree) (o : Option (TypedVariable × Tree)) → b ≡ false
+    → option_map_or (λ (p : TypedVariable × Tree). p.1) (cond b (Some x) o) no_tree ≡ option_map_or (λ (p : TypedVariable × Tree). p.1) o no_tree
 found_later true x o e = absurd cc
 found_later false x o e = refl
 
@@ -121,7 +128,9 @@ values_in [] [] n d = refl
 values_in [] (t ∷ ts) n d = absurd (omega (arith, n))
 values_in (v ∷ vars) [] n d = absurd (omega (arith, n))
 values_in (v ∷ vars) (t ∷ ts) n d =
-    ap (λ y. y ∷ map (λ (w : TypedVariable). value_in (v ∷ vars) (t ∷ ts) w.sym) vars) (found_first (v.sym.0 == v.sym.0) (v, t) (find (λ (p : TypedVariable × Tree). p.0.sym.0 == v.sym.0) (zip vars ts)) (eq-eqb v.sym.0 v.sym.0 refl))
+    ap (λ y. y ∷ map (λ (w : TypedVariable). value_in (v ∷ vars) (t ∷ ts) w.sym) vars)
+        (found_first (v.sym.0 == v.sym.0) (v, t) (find (λ (p : TypedVariable × Tree). p.0.sym.0 == v.sym.0) (zip vars ts))
+            (eq-eqb v.sym.0 v.sym.0 refl))
     ∙ ap (λ l. t ∷ l) (map_at (λ (w : TypedVariable). value_in (v ∷ vars) (t ∷ ts) w.sym) (λ (w : TypedVariable). value_in vars ts w.sym) vars
     (λ k w e. found_later (v.sym.0 == w.sym.0) (v, t) (find (λ (p : TypedVariable × Tree). p.0.sym.0 == w.sym.0) (zip vars ts))
     (differs v w (v.sym.0 == w.sym.0) refl (λ (same : v.sym ≡ w.sym). let wrong : 0 ≡ suc k = d 0 (suc k) v w refl e same in omega (arith, wrong))))
@@ -170,7 +179,8 @@ Agree [] [] [] = Unit {0}
 Agree (s ∷ ss) (g ∷ gs) (p ∷ ps) = (is_used s ≡ true → g ≡ Some p) × Agree ss gs ps
 Agree _ _ _ = ⊥
 
-agree_push : (ss : List ProofStep) (gs : List (Option Proof)) (ps : List Proof) (s : ProofStep) (g : Option Proof) (p : Proof) → Agree ss gs ps → (is_used s ≡ true → g ≡ Some p) → Agree (ss ++ s ∷ []) (gs ++ g ∷ []) (ps ++ p ∷ [])
+agree_push : (ss : List ProofStep) (gs : List (Option Proof)) (ps : List Proof) (s : ProofStep) (g : Option Proof) (p : Proof) → Agree ss gs ps
+    → (is_used s ≡ true → g ≡ Some p) → Agree (ss ++ s ∷ []) (gs ++ g ∷ []) (ps ++ p ∷ [])
 agree_push [] [] [] s g p a h = (h, tt)
 agree_push [] [] (x ∷ xs) s g p a h = absurd a
 agree_push [] (x ∷ xs) ps s g p a h = absurd a
@@ -187,7 +197,8 @@ agree_at (x ∷ ss) (y ∷ gs) [] k a u = absurd a
 agree_at (x ∷ ss) (y ∷ gs) (z ∷ ps) zero a u = a.0 u
 agree_at (x ∷ ss) (y ∷ gs) (z ∷ ps) (suc k) a u = agree_at ss gs ps k a.1 u
 
-placed_are : (ss : List ProofStep) (gs : List (Option Proof)) (ps : List Proof) (ks : List ℕ) → Agree ss gs ps → AllByRecursion (λ k. used_at ss k ≡ true) ks → filter_map (item_at gs) ks ≡ map (place_proof ps) (map place.Step ks)
+placed_are : (ss : List ProofStep) (gs : List (Option Proof)) (ps : List Proof) (ks : List ℕ) → Agree ss gs ps
+    → AllByRecursion (λ k. used_at ss k ≡ true) ks → filter_map (item_at gs) ks ≡ map (place_proof ps) (map place.Step ks)
 placed_are ss gs ps [] a u = refl
 placed_are ss gs ps (k ∷ ks) a u =
     ap (λ o. cons_option o (filter_map (item_at gs) ks)) (agree_at ss gs ps k a u.0) ∙ ap (λ l. get_or ps k no_proof ∷ l) (placed_are ss gs ps ks a u.1)
@@ -217,44 +228,58 @@ module _ (db : Database) (c : Contents) (fits : Fits db c) (hyps : List Hyp) (na
       let each : map (λ (v : TypedVariable). value_in vars values v.sym) vars ≡ values = values_in vars values count frame.variables in
       let value : Sym → Tree = value_of follows.used in
       let value_is : (s : Sym) → value_in vars values s ≡ value s = λ s. ap (λ vs. value_in vs values s) (sym usable.vars) ∙ ap (λ ts. value_in a.vars ts s) (sym follows.values_are) in
-      let trees : map (λ (v : TypedVariable). value v.sym) vars ≡ values = map_at (λ (v : TypedVariable). value v.sym) (λ (v : TypedVariable). value_in vars values v.sym) vars (λ k v f. sym (value_is v.sym)) ∙ each in
+      let trees : map (λ (v : TypedVariable). value v.sym) vars ≡ values =
+          map_at (λ (v : TypedVariable). value v.sym) (λ (v : TypedVariable). value_in vars values v.sym) vars (λ k v f. sym (value_is v.sym))
+              ∙ each in
       let proofs_are : map (λ (v : TypedVariable). syntax_proof db hyps (value v.sym)) vars ≡ map (syntax_proof db hyps) values =
       map_map (syntax_proof db hyps) (λ (v : TypedVariable). value v.sym) vars ∙ ap (map (syntax_proof db hyps)) trees in
       let count_places : length qs ≡ length (essentials a.frame.hyps) = n ∙ follows.place_count ∙ sym (all_zip_length _ (essentials a.frame.hyps) a.hyps usable.hyps) in
       ap (λ f. weave (hyps_of f) (map (tree_proof c.labels names) values) qs) (fits.frames l a.frame usable.frame)
       ∙ ap (λ ls. weave a.frame.hyps (map (tree_proof ls names) values) qs) (sym fits.labels)
       ∙ ap (λ f. weave a.frame.hyps (map f values) qs) (tree_is db hyps names are)
-      ∙ weave_is (λ s. syntax_proof db hyps (value s)) a.frame.hyps (map (syntax_proof db hyps) values) qs (valued (λ s. syntax_proof db hyps (value s)) a.frame.hyps (map (syntax_proof db hyps) values) frame.floats proofs_are) count_places
+      ∙ weave_is (λ s. syntax_proof db hyps (value s)) a.frame.hyps (map (syntax_proof db hyps) values) qs
+          (valued (λ s. syntax_proof db hyps (value s)) a.frame.hyps (map (syntax_proof db hyps) values) frame.floats proofs_are) count_places
     where
       map_map : {X Y Z : Type 0} (f : Y → Z) (g : X → Y) (xs : List X) → map (λ x. f (g x)) xs ≡ map f (map g xs)
       map_map f g [] = refl
       map_map f g (x ∷ xs) = ap (λ l. f (g x) ∷ l) (map_map f g xs)
 
-  reference_is : (e : WrittenStep) (l : Label) (values : List Tree) (places : List ℕ) (follows : IsUseOf db e l values places) (ss : List ProofStep) (gs : List (Option Proof)) (ps : List Proof) → Agree ss gs ps
+  reference_is : (e : WrittenStep) (l : Label) (values : List Tree) (places : List ℕ) (follows : IsUseOf db e l values places) (ss : List ProofStep)
+      (gs : List (Option Proof)) (ps : List Proof)
+      → Agree ss gs ps
       → AllByRecursion (λ k. used_at ss k ≡ true) places → reference_proof c names gs l values places ≡ step_proof db hyps ps e
   reference_is e l values places follows ss gs ps a u =
       let qs = map (place_proof ps) (map place.Step places) in
       let many : length qs ≡ length places = length-map (map place.Step places) (place_proof ps) ∙ length-map places place.Step in
-      ap (λ n. by n (proofs (weave (hyps_of (frame_at c l)) (map (tree_proof c.labels names) values) (filter_map (item_at gs) places)))) (ap (λ ls. get_or ls l.0 []) (sym fits.labels) ∙ sym follows.reference)
+      ap (λ n. by n (proofs (weave (hyps_of (frame_at c l)) (map (tree_proof c.labels names) values) (filter_map (item_at gs) places))))
+          (ap (λ ls. get_or ls l.0 []) (sym fits.labels) ∙ sym follows.reference)
       ∙ ap (λ rs. by (unwrap_or e.reference []) (proofs (weave (hyps_of (frame_at c l)) (map (tree_proof c.labels names) values) rs))) (placed_are ss gs ps places a u)
       ∙ ap (λ rs. by (unwrap_or e.reference []) (proofs rs)) (arguments_are e l values places follows qs many)
-      ∙ ap (λ gs. by (unwrap_or e.reference []) (proofs (hyp_proofs (λ s. syntax_proof db hyps (value_of follows.used s)) follows.used.assertion.frame.hyps (map (place_proof ps) gs)))) (sym follows.places_are)
+      ∙ ap
+          (λ gs. by (unwrap_or e.reference [])
+              (proofs (hyp_proofs (λ s. syntax_proof db hyps (value_of follows.used s)) follows.used.assertion.frame.hyps (map (place_proof ps) gs))))
+          (sym follows.places_are)
       ∙ ap (use_proof db hyps ps e.places (unwrap_or e.reference [])) (sym follows.is_by)
 
-  step_is : (e : WrittenStep) (s : ProofStep) (ss : List ProofStep) (gs : List (Option Proof)) (ps : List Proof) → IsProofStep db e s → Agree ss gs ps → AllByRecursion (λ k. used_at ss k ≡ true) (places_of s)
+  step_is : (e : WrittenStep) (s : ProofStep) (ss : List ProofStep) (gs : List (Option Proof)) (ps : List Proof) → IsProofStep db e s → Agree ss gs ps
+      → AllByRecursion (λ k. used_at ss k ≡ true) (places_of s)
       → is_used s ≡ true → given_proof c names gs s ≡ Some (step_proof db hyps ps e)
   step_is e (given.Hyp name) ss gs ps h a u used =
       ap (λ n. Some (by n none)) (sym h.1) ∙ ap (λ o. Some (use_proof db hyps ps e.places (unwrap_or e.reference []) o)) (sym h.0)
   step_is e (given.Ref l values places) ss gs ps h a u used = ap (λ p. Some p) (reference_is e l values places h ss gs ps a u)
   step_is e given.Unused ss gs ps h a u used = absurd cc
 
-  agree_folded : (steps : List ProofStep) (es : List WrittenStep) (ss : List ProofStep) (gs : List (Option Proof)) (ps : List Proof) → AllZip (IsProofStep db) es steps → FollowFromUsed ss steps → Agree ss gs ps
+  agree_folded : (steps : List ProofStep) (es : List WrittenStep) (ss : List ProofStep) (gs : List (Option Proof)) (ps : List Proof)
+      → AllZip (IsProofStep db) es steps → FollowFromUsed ss steps → Agree ss gs ps
       → Agree (ss ++ steps) (fold (λ earlier s. earlier ++ given_proof c names earlier s ∷ []) gs steps) (fold (λ earlier e. earlier ++ step_proof db hyps earlier e ∷ []) ps es)
   agree_folded [] [] ss gs ps z f a = subst (λ l. Agree l gs ps) (sym (append_none ss)) a
   agree_folded [] (e ∷ es) ss gs ps z f a = absurd z
   agree_folded (s ∷ steps) [] ss gs ps z f a = absurd z
   agree_folded (s ∷ steps) (e ∷ es) ss gs ps z f a =
-      subst (λ l. Agree l (fold (λ earlier s. earlier ++ given_proof c names earlier s ∷ []) gs (s ∷ steps)) (fold (λ earlier e. earlier ++ step_proof db hyps earlier e ∷ []) ps (e ∷ es))) (append_twice ss (s ∷ []) steps)
+      subst
+          (λ l. Agree l (fold (λ earlier s. earlier ++ given_proof c names earlier s ∷ []) gs (s ∷ steps))
+              (fold (λ earlier e. earlier ++ step_proof db hyps earlier e ∷ []) ps (e ∷ es)))
+          (append_twice ss (s ∷ []) steps)
       (agree_folded steps es (ss ++ s ∷ []) (gs ++ given_proof c names gs s ∷ []) (ps ++ step_proof db hyps ps e ∷ []) z.1 f.1
       (agree_push ss gs ps s (given_proof c names gs s) (step_proof db hyps ps e) a (step_is e s ss gs ps z.0 a f.0)))
 
@@ -274,7 +299,10 @@ fits_of facts kinds text d opened =
       facts = is_database;
     }
 
-pub proves : HasDatabaseFacts → (d : Opened) (c : Contents) (hyps : List Hyp) (names : ℕ → Option Name) (steps : List ProofStep) (root : ℕ) (nodes : List ProofNode) → c ≡ d.contents → AreFloats hyps names → used_at steps root ≡ true
+pub proves : HasDatabaseFacts
+    → (d : Opened) (c : Contents) (hyps : List Hyp) (names : ℕ → Option Name) (steps : List ProofStep) (root : ℕ) (nodes : List ProofNode)
+    → c ≡ d.contents → AreFloats hyps names → used_at steps root ≡ true
     → Some (root_proof nodes) ≡ item_at (given_proofs c names steps) root → Proves d hyps steps root nodes
 proves facts d c hyps names steps root nodes same are used is kinds text es opened stand =
-    root_is (book kinds text d) d.contents (fits_of facts kinds text d opened) hyps names are steps es root (root_proof nodes) stand used (is ∙ ap (λ k. item_at (given_proofs k names steps) root) same)
+    root_is (book kinds text d) d.contents (fits_of facts kinds text d opened) hyps names are steps es root (root_proof nodes) stand used
+        (is ∙ ap (λ k. item_at (given_proofs k names steps) root) same)

@@ -35,9 +35,12 @@ pub record IsAbout (nodes : List ProofNode) (uses : List ℕ) (names : List Name
 pub record CodesSoFar (nodes : List ProofNode) (uses : List ℕ) (names : List Name) (numbers : List ℕ) (labels : List Name) (pending : List Part) (d : Coder) : Type 0 where
   pub parts : AllByRecursion (IsPart nodes) pending
   pub many : length d.marks.items ≡ length nodes
-  pub codes : (graph : IsGraph nodes) (list : List Name) (order : List ℕ) → IsAbout nodes uses names numbers labels list order → IsCodingAt nodes graph list labels (argument_places (root_proof nodes)) pending d
+  pub codes : (graph : IsGraph nodes) (list : List Name) (order : List ℕ) → IsAbout nodes uses names numbers labels list order
+      → IsCodingAt nodes graph list labels (argument_places (root_proof nodes)) pending d
 
-pub steps_begun : (nodes : List ProofNode) (uses : List ℕ) (names : List Name) (numbers : List ℕ) (labels : List Name) (pending : List Part) (n : ℕ) (d : Coder) → IsGraph nodes → pending ≡ part.Proof n ∷ [] → n ≡ length nodes - 1
+pub steps_begun : (nodes : List ProofNode) (uses : List ℕ) (names : List Name) (numbers : List ℕ) (labels : List Name) (pending : List Part) (n : ℕ)
+    (d : Coder)
+    → IsGraph nodes → pending ≡ part.Proof n ∷ [] → n ≡ length nodes - 1
     → (d.steps.items ≡ []) × (d.marks.items ≡ replicate (length nodes) None) × (d.count ≡ 0) → CodesSoFar nodes uses names numbers labels pending d
 steps_begun nodes uses names numbers labels pending n d graph p last e =
     let some = graph.some in
@@ -47,15 +50,20 @@ steps_begun nodes uses names numbers labels pending n d graph p last e =
       codes = λ g list order about. coding_at_first nodes g list labels (argument_places (root_proof nodes)) pending n d p last (coding_begun nodes g d e.0 e.1 e.2);
     }
 
-parts_case : (nodes : List ProofNode) (rest now : List Part) (n : ℕ) (b : Bool) → IsGraph nodes → n < length nodes → AllByRecursion (IsPart nodes) rest → now ≡ rest ++ parts_unless b n (below_of nodes n) → AllByRecursion (IsPart nodes) now
+parts_case : (nodes : List ProofNode) (rest now : List Part) (n : ℕ) (b : Bool) → IsGraph nodes → n < length nodes
+    → AllByRecursion (IsPart nodes) rest → now ≡ rest ++ parts_unless b n (below_of nodes n) → AllByRecursion (IsPart nodes) now
 parts_case nodes rest now n true graph inside all is = subst (AllByRecursion (IsPart nodes)) (sym (is ∙ append_none rest)) all
 parts_case nodes rest now n false graph inside all is =
     subst (AllByRecursion (IsPart nodes)) (sym is) (all_append (IsPart nodes) rest (parts_of n (below_of nodes n)) all (parts_inside nodes n inside graph.earlier))
 
-pub steps_begin : (nodes : List ProofNode) (uses : List ℕ) (names : List Name) (numbers : List ℕ) (labels : List Name) (pending rest now : List Part) (n : ℕ) (d e : Coder) → IsGraph nodes → pending ≡ rest ++ part.Proof n ∷ []
+pub steps_begin : (nodes : List ProofNode) (uses : List ℕ) (names : List Name) (numbers : List ℕ) (labels : List Name) (pending rest now : List Part)
+    (n : ℕ) (d e : Coder)
+    → IsGraph nodes → pending ≡ rest ++ part.Proof n ∷ []
     → Begins nodes n d e rest now → CodesSoFar nodes uses names numbers labels pending d → CodesSoFar nodes uses names numbers labels now e
 steps_begin nodes uses names numbers labels pending rest now n d e graph p s a = record {
-  parts = parts_case nodes rest now n (is_some (item_at d.marks.items n)) graph (last_part nodes pending rest (part.Proof n) p a.parts) (rest_parts nodes pending rest (part.Proof n) p a.parts) s.parts;
+  parts =
+      parts_case nodes rest now n (is_some (item_at d.marks.items n)) graph (last_part nodes pending rest (part.Proof n) p a.parts)
+          (rest_parts nodes pending rest (part.Proof n) p a.parts) s.parts;
   many = ap length s.marks ∙ a.many;
   codes = λ g list order about. coding_begins nodes g list labels (argument_places (root_proof nodes)) pending rest now n d e p s (a.codes g list order about);
 }
@@ -68,32 +76,41 @@ marks_case true ms n k = by (is_some (item_at ms n))
     by true = refl
     by false = length-set ms n (Some k)
 
-pub steps_end : (nodes : List ProofNode) (uses : List ℕ) (names : List Name) (numbers : List ℕ) (labels : List Name) (pending rest : List Part) (n : ℕ) (d e : Coder) → IsGraph nodes → pending ≡ rest ++ part.Label n ∷ []
-    → Ends n (what_by (place_in names numbers (label_of nodes n)) (position (bytes_eq (label_of nodes n)) labels)) (is_shared nodes uses n) d e → CodesSoFar nodes uses names numbers labels pending d → CodesSoFar nodes uses names numbers labels rest e
+pub steps_end : (nodes : List ProofNode) (uses : List ℕ) (names : List Name) (numbers : List ℕ) (labels : List Name) (pending rest : List Part)
+    (n : ℕ) (d e : Coder)
+    → IsGraph nodes → pending ≡ rest ++ part.Label n ∷ []
+    → Ends n (what_by (place_in names numbers (label_of nodes n)) (position (bytes_eq (label_of nodes n)) labels)) (is_shared nodes uses n) d e
+        → CodesSoFar nodes uses names numbers labels pending d → CodesSoFar nodes uses names numbers labels rest e
 steps_end nodes uses names numbers labels pending rest n d e graph p s a =
     let inside : n < length nodes = last_part nodes pending rest (part.Label n) p a.parts in
     record {
       parts = rest_parts nodes pending rest (part.Label n) p a.parts;
       many = ap length s.marks ∙ marks_case (is_shared nodes uses n) d.marks.items n d.count ∙ a.many;
       codes = λ g list order about.
-          coding_ends nodes g list labels (argument_places (root_proof nodes)) pending rest n (what_by (place_in names numbers (label_of nodes n)) (position (bytes_eq (label_of nodes n)) labels)) (is_shared nodes uses n) d e p
+          coding_ends nodes g list labels (argument_places (root_proof nodes)) pending rest n
+              (what_by (place_in names numbers (label_of nodes n)) (position (bytes_eq (label_of nodes n)) labels)) (is_shared nodes uses n) d e p
           (shared_is nodes g order uses n inside about.order_is about.uses_are) (what_is list names labels numbers (label_of nodes n) about.mandatory) s (a.codes g list order about);
     }
 
-pub steps_done : (nodes : List ProofNode) (uses : List ℕ) (names : List Name) (numbers : List ℕ) (labels : List Name) (pending : List Part) (d : Coder) → IsGraph nodes → pending ≡ [] → CodesSoFar nodes uses names numbers labels pending d
-    → (list : List Name) (order : List ℕ) → ArePlaces list names numbers → IsOrder nodes order → AreUses nodes order uses → labels ≡ listed_labels list (root_proof nodes) → d.steps.items ≡ (code_of_proof list (root_proof nodes)).steps
+pub steps_done : (nodes : List ProofNode) (uses : List ℕ) (names : List Name) (numbers : List ℕ) (labels : List Name) (pending : List Part)
+    (d : Coder)
+    → IsGraph nodes → pending ≡ [] → CodesSoFar nodes uses names numbers labels pending d
+    → (list : List Name) (order : List ℕ) → ArePlaces list names numbers → IsOrder nodes order → AreUses nodes order uses
+        → labels ≡ listed_labels list (root_proof nodes) → d.steps.items ≡ (code_of_proof list (root_proof nodes)).steps
 steps_done nodes uses names numbers labels pending d graph p a list order m o u l =
     coding_done nodes graph list labels (argument_places (root_proof nodes)) pending d p (a.codes graph list order (record { mandatory = m; order_is = o; uses_are = u; labels_are = l }))
     ∙ ap (λ ls. (coded list ls (argument_places (root_proof nodes)) (root_proof nodes) (record { steps = []; marked = [] })).steps) l
 
 -- the labels of the nodes in order are those of the code
-pub other_labels_are : (nodes : List ProofNode) (order : List ℕ) (labels list : List Name) → IsGraph nodes → IsOrder nodes order → labels ≡ without_repeats list (map (label_of nodes) order) → labels ≡ listed_labels list (root_proof nodes)
+pub other_labels_are : (nodes : List ProofNode) (order : List ℕ) (labels list : List Name) → IsGraph nodes → IsOrder nodes order
+    → labels ≡ without_repeats list (map (label_of nodes) order) → labels ≡ listed_labels list (root_proof nodes)
 other_labels_are nodes order labels list graph o is =
     is ∙ ap (without_repeats list) (sym (labels_of_order nodes graph order o.inside) ∙ ap (map last_label) o.proofs_are) ∙ sym (listed_is list (root_proof nodes))
 
 abbrev coded_as : List Name → List Step → Code
 coded_as labels steps = record { labels = labels; steps = steps }
 
-pub code_is : (nodes : List ProofNode) (list labels written : List Name) (steps : List Step) → written ≡ labels → labels ≡ listed_labels list (root_proof nodes) → steps ≡ (code_of_proof list (root_proof nodes)).steps
+pub code_is : (nodes : List ProofNode) (list labels written : List Name) (steps : List Step) → written ≡ labels
+    → labels ≡ listed_labels list (root_proof nodes) → steps ≡ (code_of_proof list (root_proof nodes)).steps
     → coded_as written steps ≡ code_of_proof list (root_proof nodes)
 code_is nodes list labels written steps w l s = ap (λ ls. coded_as ls steps) (w ∙ l) ∙ ap (coded_as (listed_labels list (root_proof nodes))) s

@@ -1,5 +1,6 @@
 -- How often each node is named.
-use Rattle.std.proofs.Common.{◌≡◌, ◌≢◌, ℕ, ◌+◌, ◌-◌, ◌^◌, ◌<◌, ◌≤◌, min, Bool, true, false, true≢false, cond, nat_eq, List, [], ◌∷◌, ◌++◌, length, fold, take, drop, get_or, refl, sym, ap, ◌∙◌, subst, arith, get_or-set_same, get_or-set_other}
+use Rattle.std.proofs.Common.{◌≡◌, ◌≢◌, ℕ, ◌+◌, ◌-◌, ◌^◌, ◌<◌, ◌≤◌, min, Bool, true, false, true≢false, cond, nat_eq, List, [], ◌∷◌, ◌++◌, length}
+use Rattle.std.proofs.Common.{fold, take, drop, get_or, refl, sym, ap, ◌∙◌, subst, arith, get_or-set_same, get_or-set_other}
 use Rattle.std.specs.Prelude.{count_by, flat_map, slice_set, replicate}
 use Rattle.std.specs.List.{AllByRecursion}
 use Rattle.std.proofs.lemmas.Bool.{eqb-true, eq-eqb}
@@ -25,7 +26,8 @@ pub record UsesAfter (first now : List ℕ) (ks : List ℕ) : Type 0 where
 pub uses_begun : (first : List ℕ) → ((n : ℕ) → get_or first n 0 < 2 ^ 32) → UsesAfter first first []
 uses_begun first small = record { many = refl; each = λ n h. (let s = small n in omega (arith, s)) }
 
-pub uses_more : (below : List ℕ) (i x : ℕ) (first old new : List ℕ) → i < length below → x ≡ get_or below i 0 → x < length first → length new ≡ length old → new ≡ slice_set old x (min (2 ^ 32 - 1) (get_or old x 0 + 1))
+pub uses_more : (below : List ℕ) (i x : ℕ) (first old new : List ℕ) → i < length below → x ≡ get_or below i 0 → x < length first
+    → length new ≡ length old → new ≡ slice_set old x (min (2 ^ 32 - 1) (get_or old x 0 + 1))
     → UsesAfter first old (take i below) → UsesAfter first new (take (i + 1) below)
 uses_more below i x first old new inside is less same set u = record {
   many = same ∙ u.many;
@@ -36,9 +38,12 @@ uses_more below i x first old new inside is less same set u = record {
     by n h true e =
         let here : n ≡ x = eqb-true n x e in
         let inside' : x < length old = (let m = u.many in omega (arith, m, less)) in
-        let now : get_or new n 0 ≡ min (2 ^ 32 - 1) (get_or old x 0 + 1) = ap (λ k. get_or new k 0) here ∙ ap (λ l. get_or l x 0) set ∙ get_or-set_same old x (min (2 ^ 32 - 1) (get_or old x 0 + 1)) 0 inside' in
+        let now : get_or new n 0 ≡ min (2 ^ 32 - 1) (get_or old x 0 + 1) =
+            ap (λ k. get_or new k 0) here ∙ ap (λ l. get_or l x 0) set ∙ get_or-set_same old x (min (2 ^ 32 - 1) (get_or old x 0 + 1)) 0 inside' in
         let before : get_or old x 0 ≡ capped (get_or first n 0 + count_by (nat_eq n) (take i below)) = ap (λ k. get_or old k 0) (sym here) ∙ u.each n h in
-        let count : count_by (nat_eq n) (take (i + 1) below) ≡ count_by (nat_eq n) (take i below) + 1 = counted n below i inside ∙ ap (λ k. count_by (nat_eq n) (take i below) + one_if (nat_eq n k)) (sym is) ∙ ap (λ b. count_by (nat_eq n) (take i below) + one_if b) e in
+        let count : count_by (nat_eq n) (take (i + 1) below) ≡ count_by (nat_eq n) (take i below) + 1 =
+            counted n below i inside ∙ ap (λ k. count_by (nat_eq n) (take i below) + one_if (nat_eq n k)) (sym is)
+                ∙ ap (λ b. count_by (nat_eq n) (take i below) + one_if b) e in
         added (2 ^ 32 - 1) (get_or new n 0) (get_or old x 0) (get_or first n 0) (count_by (nat_eq n) (take i below)) (count_by (nat_eq n) (take (i + 1) below)) now before count
       where
         added : (top g o f c d : ℕ) → g ≡ min top (o + 1) → o ≡ min top (f + c) → d ≡ c + 1 → g ≡ min top (f + d)
@@ -46,7 +51,9 @@ uses_more below i x first old new inside is less same set u = record {
     by n h false e =
         let other : n ≢ x = λ (s : n ≡ x). true≢false (sym (eq-eqb n x s) ∙ e) in
         let now : get_or new n 0 ≡ get_or old n 0 = ap (λ l. get_or l n 0) set ∙ get_or-set_other old x n (min (2 ^ 32 - 1) (get_or old x 0 + 1)) 0 other in
-        let count : count_by (nat_eq n) (take (i + 1) below) ≡ count_by (nat_eq n) (take i below) + 0 = counted n below i inside ∙ ap (λ k. count_by (nat_eq n) (take i below) + one_if (nat_eq n k)) (sym is) ∙ ap (λ b. count_by (nat_eq n) (take i below) + one_if b) e in
+        let count : count_by (nat_eq n) (take (i + 1) below) ≡ count_by (nat_eq n) (take i below) + 0 =
+            counted n below i inside ∙ ap (λ k. count_by (nat_eq n) (take i below) + one_if (nat_eq n k)) (sym is)
+                ∙ ap (λ b. count_by (nat_eq n) (take i below) + one_if b) e in
         now ∙ u.each n h ∙ ap (λ k. capped (get_or first n 0 + k)) (let s : count_by (nat_eq n) (take i below) ≡ count_by (nat_eq n) (take (i + 1) below) = omega (arith, count) in s)
 
 pub uses_done : (below : List ℕ) (i : ℕ) (first now : List ℕ) → length below ≤ i → UsesAfter first now (take i below) → AddUses first now below
@@ -71,7 +78,8 @@ all_uses_begun nodes uses e = record {
   count = λ n h. ap (λ l. get_or l n 0) e ∙ get_or-replicate (length nodes) n 0 0 h;
 }
 
-pub all_uses_more : (nodes : List ProofNode) (order : List ℕ) (i k : ℕ) (bs old new : List ℕ) → i < length order → k ≡ get_or order i 0 → bs ≡ below_of nodes k → length new ≡ length old → AreUses nodes (take i order) old → AddUses old new bs
+pub all_uses_more : (nodes : List ProofNode) (order : List ℕ) (i k : ℕ) (bs old new : List ℕ) → i < length order → k ≡ get_or order i 0
+    → bs ≡ below_of nodes k → length new ≡ length old → AreUses nodes (take i order) old → AddUses old new bs
     → AreUses nodes (take (i + 1) order) new
 all_uses_more nodes order i k bs old new inside e b same u more = record {
   many = same ∙ u.many;
@@ -80,10 +88,12 @@ all_uses_more nodes order i k bs old new inside e b same u more = record {
       let now : get_or new n 0 ≡ capped (get_or old n 0 + count_by (nat_eq n) bs) = more n l in
       let before : get_or old n 0 ≡ capped (count_by (nat_eq n) (flat_map (below_of nodes) (take i order))) = u.count n h in
       let list : flat_map (below_of nodes) (take (i + 1) order) ≡ flat_map (below_of nodes) (take i order) ++ bs =
-      ap (flat_map (below_of nodes)) (take_more order i 0 inside) ∙ flat_push (below_of nodes) (take i order) (get_or order i 0) ∙ ap (λ l. flat_map (below_of nodes) (take i order) ++ l) (ap (below_of nodes) (sym e) ∙ sym b) in
+      ap (flat_map (below_of nodes)) (take_more order i 0 inside) ∙ flat_push (below_of nodes) (take i order) (get_or order i 0)
+          ∙ ap (λ l. flat_map (below_of nodes) (take i order) ++ l) (ap (below_of nodes) (sym e) ∙ sym b) in
       let total : count_by (nat_eq n) (flat_map (below_of nodes) (take (i + 1) order)) ≡ count_by (nat_eq n) (flat_map (below_of nodes) (take i order)) + count_by (nat_eq n) bs =
       ap (count_by (nat_eq n)) list ∙ count_append n (flat_map (below_of nodes) (take i order)) bs in
-      added (2 ^ 32 - 1) (get_or new n 0) (get_or old n 0) (count_by (nat_eq n) (flat_map (below_of nodes) (take i order))) (count_by (nat_eq n) bs) (count_by (nat_eq n) (flat_map (below_of nodes) (take (i + 1) order))) now before total;
+      added (2 ^ 32 - 1) (get_or new n 0) (get_or old n 0) (count_by (nat_eq n) (flat_map (below_of nodes) (take i order))) (count_by (nat_eq n) bs)
+          (count_by (nat_eq n) (flat_map (below_of nodes) (take (i + 1) order))) now before total;
 }
   where
     added : (top g o a b t : ℕ) → g ≡ min top (o + b) → o ≡ min top a → t ≡ a + b → g ≡ min top t
@@ -93,7 +103,8 @@ pub all_uses_done : (nodes : List ProofNode) (order : List ℕ) (i : ℕ) (uses 
 all_uses_done nodes order i uses h u = subst (λ l. AreUses nodes l uses) (take_whole order i h) u
 
 -- the nodes that one names are nodes
-pub named_inside : (nodes : List ProofNode) (order : List ℕ) (i k : ℕ) (d : ProofNode) (bs : List ℕ) (uses : List ℕ) → IsGraph nodes → i < length order → AllByRecursion (λ j. j < length nodes) order → k ≡ get_or order i 0 → bs ≡ (get_or nodes k d).below
+pub named_inside : (nodes : List ProofNode) (order : List ℕ) (i k : ℕ) (d : ProofNode) (bs : List ℕ) (uses : List ℕ) → IsGraph nodes
+    → i < length order → AllByRecursion (λ j. j < length nodes) order → k ≡ get_or order i 0 → bs ≡ (get_or nodes k d).below
     → length uses ≡ length nodes → (bs ≡ below_of nodes k) × AllByRecursion (λ j. j < length uses) bs
 named_inside nodes order i k d bs uses graph inside all e b many =
     let here : k < length nodes = subst (λ j. j < length nodes) (sym e) (all_at (λ j. j < length nodes) order i 0 all inside) in

@@ -1,5 +1,6 @@
 -- The proofs of steps, by what they are given.
-use Rattle.std.specs.Prelude.{◌≡◌, ℕ, Bool, true, false, ◌==◌, List, [], ◌∷◌, ◌++◌, map, drop, find, fold, filter_map, slice_get, slice_index_or, unwrap_or, if◌then◌else◌, Option, Some, None, option_map, option_and_then}
+use Rattle.std.specs.Prelude.{◌≡◌, ℕ, Bool, true, false, ◌==◌, List, [], ◌∷◌, ◌++◌, map, drop, find, fold, filter_map, slice_get, slice_index_or}
+use Rattle.std.specs.Prelude.{unwrap_or, if◌then◌else◌, Option, Some, None, option_map, option_and_then}
 use Rattle.std.specs.List.{list_any}
 use Rattle.std.specs.Option.{option_to_list, option_map_or}
 use Rattle.mm_base.specs.declared.symbols.Sym.{Sym}

@@ -1,5 +1,6 @@
 -- The active hypotheses at a place of a text without a fault: their labels differ, and are labels of no assertion.
-use Rattle.std.proofs.Common.{◌≡◌, ◌+◌, ℕ, zero, suc, Bool, true, false, cond, ◌||◌, List, [], ◌∷◌, ◌++◌, length, map, take, reverse, Option, Some, None, option_map, refl, sym, ap, ◌∙◌, arith, subst, inl, inr, ◌⊎◌, codes, get_or}
+use Rattle.std.proofs.Common.{◌≡◌, ◌+◌, ℕ, zero, suc, Bool, true, false, cond, ◌||◌, List, [], ◌∷◌, ◌++◌, length, map, take, reverse, Option, Some}
+use Rattle.std.proofs.Common.{None, option_map, refl, sym, ap, ◌∙◌, arith, subst, inl, inr, ◌⊎◌, codes, get_or}
 use Rattle.std.specs.Prelude.{nat_eq, Contains, position, nat_lt}
 use Rattle.std.specs.List.{AllByRecursion, list_any, filter, slice_get, ends_with, position_or_len}
 use Rattle.std.specs.Option.{option_and_then}
@@ -49,7 +50,10 @@ new_label e (l ∷ m ∷ ls) n new h = absurd new
 labels_apart : (e : List Statement) → EachBefore IsChecked e → Pairwise LabelsApart e
 labels_apart [] h = tt
 labels_apart (s ∷ e) h = (
-  all_with _ (LabelsApart s) (λ t m n c d. both_ways (contains (labels e) n) (new_label e (labels_in s) n (label_is_new e s h.0) c) (labels_any e n ∙ m (λ x. contains (label_names x) n) d)) e (members [] e),
+  all_with _ (LabelsApart s)
+      (λ t m n c d. both_ways (contains (labels e) n) (new_label e (labels_in s) n (label_is_new e s h.0) c)
+          (labels_any e n ∙ m (λ x. contains (label_names x) n) d)) e
+      (members [] e),
   labels_apart e h.1,
 )
 
@@ -57,7 +61,8 @@ turned : (s t : Statement) → LabelsApart s t → LabelsApart t s
 turned s t h n c d = h n d c
 
 -- a label has one statement
-owner : (xs : List Statement) (s : Statement) (n : Name) → Pairwise LabelsApart xs → Contains xs s → contains (label_names s) n ≡ true → AllByRecursion (λ t. contains (label_names t) n ≡ true → t ≡ s) xs
+owner : (xs : List Statement) (s : Statement) (n : Name) → Pairwise LabelsApart xs → Contains xs s → contains (label_names s) n ≡ true
+    → AllByRecursion (λ t. contains (label_names t) n ≡ true → t ≡ s) xs
 owner [] s n p c h = tt
 owner (x ∷ xs) s n p c h = elim (parted s x xs c) [
   | inl e ↦ ((λ d. e), all_with (LabelsApart x) _ (λ t a d. absurd (a n (ap (λ y. contains (label_names y) n) e ∙ h) d)) xs p.0)
@@ -90,7 +95,8 @@ record LabelAt (ss : List Statement) (a at : ℕ) (n : Name) : Type 0 where
   stands : slice_get ss place ≡ Some statement
   has : contains (label_names statement) n ≡ true
 
-part : (a : ℕ) (ls : List Word) (ps : List ℕ) (ns : List Name) (k at : ℕ) (n : Name) → slice_get (map (λ (w : Word). a) ls ++ ps) k ≡ Some at → slice_get (map (λ (w : Word). w.bytes) ls ++ ns) k ≡ Some n
+part : (a : ℕ) (ls : List Word) (ps : List ℕ) (ns : List Name) (k at : ℕ) (n : Name) → slice_get (map (λ (w : Word). a) ls ++ ps) k ≡ Some at
+    → slice_get (map (λ (w : Word). w.bytes) ls ++ ns) k ≡ Some n
     → ((a ≡ at) × (contains (map (λ (w : Word). w.bytes) ls) n ≡ true)) ⊎ ((j : ℕ) × (slice_get ps j ≡ Some at) × (slice_get ns j ≡ Some n))
 part a [] ps ns k at n p q = inr (k, p, q)
 part a (l ∷ ls) ps ns zero at n p q = inl (let same : a ≡ at = cc in same, or_left _ _ (let named : l.bytes ≡ n = cc in subst (λ m. bytes_eq m l.bytes ≡ true) named (name_self l.bytes)))
@@ -106,7 +112,8 @@ label_at (s ∷ ss) a k at n p q = elim (part a (labels_in s) (positions_from (s
 ]
 
 -- the statement of an assertion has its label
-assertion_label : (ss : List Statement) (l : Label) (f : Frame) (n : Name) → (k : IsFrameAt ss l f) → slice_get (labels ss) l.0 ≡ Some n → (slice_get ss k.at ≡ Some k.statement) × (contains (label_names k.statement) n ≡ true)
+assertion_label : (ss : List Statement) (l : Label) (f : Frame) (n : Name) → (k : IsFrameAt ss l f) → slice_get (labels ss) l.0 ≡ Some n
+    → (slice_get ss k.at ≡ Some k.statement) × (contains (label_names k.statement) n ≡ true)
 assertion_label ss l f n k q =
     let r = label_at ss 0 l.0 k.at n k.position q in
     let same : r.place ≡ k.at = (let is = r.at_is in omega (arith, is)) in
@@ -251,7 +258,10 @@ module _ (e : List Statement) (all : EachBefore IsChecked e) (place : ℕ) (each
   abbrev Owned : Statement → Type 0
   Owned s = (n : Name) (t : Statement) → Contains ss t → contains (label_names s) n ≡ true → contains (label_names t) n ≡ true → s ≡ t
 
-  owned_by : (xs : List Statement) → ((t : Statement) (n : Name) → Contains ss t → contains (label_names t) n ≡ true → AllByRecursion (λ s. contains (label_names s) n ≡ true → s ≡ t) xs) → AllByRecursion Owned xs
+  owned_by : (xs : List Statement)
+      → ((t : Statement) (n : Name) → Contains ss t → contains (label_names t) n ≡ true
+          → AllByRecursion (λ s. contains (label_names s) n ≡ true → s ≡ t) xs)
+      → AllByRecursion Owned xs
   owned_by [] h = tt
   owned_by (x ∷ xs) h = ((λ n t c d o. (h t n c o).0 d), owned_by xs (λ t n c o. (h t n c o).1))
 
@@ -267,7 +277,8 @@ module _ (e : List Statement) (all : EachBefore IsChecked e) (place : ℕ) (each
   pub names_differ : Pairwise NamesUnlike (active_at ss place).hyps
   names_differ = map_pairs hs apart_hyps own_labels
     where
-      others : (s : Statement) → contains (label_names s) (label_in s) ≡ true → (xs : List Statement) → AllByRecursion (LabelsApart s) xs → AllByRecursion (λ x. contains (label_names x) (label_in x) ≡ true) xs
+      others : (s : Statement) → contains (label_names s) (label_in s) ≡ true → (xs : List Statement) → AllByRecursion (LabelsApart s) xs
+          → AllByRecursion (λ x. contains (label_names x) (label_in x) ≡ true) xs
           → AllByRecursion (NamesUnlike (hypothesis_of (symbols ss) s)) (map (hypothesis_of (symbols ss)) xs)
       others s own [] a o = tt
       others s own (x ∷ xs) a o = ((λ same. a.0 (label_in s) own (subst (λ n. contains (label_names x) n ≡ true) (sym same) o.0)), others s own xs a.1 o.1)

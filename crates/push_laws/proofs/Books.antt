@@ -1,5 +1,6 @@
 -- The database of a text without a fault has the facts that the proofs of formulas rest on.
-use Rattle.std.proofs.Common.{◌≡◌, ◌<◌, ◌≤◌, ◌⊎◌, ◌==◌, ℕ, zero, suc, Bool, true, false, not, cond, ◌&&◌, List, [], ◌∷◌, length, map, take, drop, reverse, Option, Some, None, option_map, refl, sym, ap, ◌∙◌, arith, subst, inl, inr, codes}
+use Rattle.std.proofs.Common.{◌≡◌, ◌<◌, ◌≤◌, ◌⊎◌, ◌==◌, ℕ, zero, suc, Bool, true, false, not, cond, ◌&&◌, List, [], ◌∷◌, length, map, take, drop}
+use Rattle.std.proofs.Common.{reverse, Option, Some, None, option_map, refl, sym, ap, ◌∙◌, arith, subst, inl, inr, codes}
 use Rattle.std.specs.Prelude.{Contains, is_some, find, position}
 use Rattle.std.specs.List.{AllByRecursion, list_any, filter, filter_map, cons_option, position_or_len}
 use Rattle.std.specs.Option.{option_and_then}
@@ -184,13 +185,22 @@ module _ (names mandatory : List Name) where
         | inr d ↦ other_by d rest
       ]
     where
-      counted_by : counts mandatory x ≡ true → Contains (at_place (x ∷ xs)) (hypothesis_of names x) → AllByRecursion (Contains (at_place (x ∷ xs))) (map (hypothesis_of names) (filter (counts mandatory) xs))
+      counted_by : counts mandatory x ≡ true → Contains (at_place (x ∷ xs)) (hypothesis_of names x)
+          → AllByRecursion (Contains (at_place (x ∷ xs))) (map (hypothesis_of names) (filter (counts mandatory) xs))
           → AllByRecursion (Contains (at_place (x ∷ xs))) (map (hypothesis_of names) (filter (counts mandatory) (x ∷ xs)))
-      counted_by d here rest = subst (λ (b : Bool). AllByRecursion (Contains (at_place (x ∷ xs))) (map (hypothesis_of names) (cond b (x ∷ filter (counts mandatory) xs) (filter (counts mandatory) xs)))) (sym d) (here, rest)
+      counted_by d here rest =
+          subst
+              (λ (b : Bool). AllByRecursion (Contains (at_place (x ∷ xs)))
+                  (map (hypothesis_of names) (cond b (x ∷ filter (counts mandatory) xs) (filter (counts mandatory) xs))))
+              (sym d) (here, rest)
 
       other_by : counts mandatory x ≡ false → AllByRecursion (Contains (at_place (x ∷ xs))) (map (hypothesis_of names) (filter (counts mandatory) xs))
           → AllByRecursion (Contains (at_place (x ∷ xs))) (map (hypothesis_of names) (filter (counts mandatory) (x ∷ xs)))
-      other_by d rest = subst (λ (b : Bool). AllByRecursion (Contains (at_place (x ∷ xs))) (map (hypothesis_of names) (cond b (x ∷ filter (counts mandatory) xs) (filter (counts mandatory) xs)))) (sym d) rest
+      other_by d rest =
+          subst
+              (λ (b : Bool). AllByRecursion (Contains (at_place (x ∷ xs)))
+                  (map (hypothesis_of names) (cond b (x ∷ filter (counts mandatory) xs) (filter (counts mandatory) xs))))
+              (sym d) rest
 
 module _ (kinds : Kinds) (text : List ℕ) (db : Database) (is : IsDatabaseOf kinds text db) (sound : database_fault text ≡ None) where
   abbrev ss : List Statement
@@ -232,7 +242,8 @@ module _ (kinds : Kinds) (text : List ℕ) (db : Database) (is : IsDatabaseOf ki
       let both : Some own.frame ≡ Some f = sym own.frame_is ∙ ap (frame_of ss) at.label_is ∙ sym (is.frame l) ∙ frame in
       let same : own.frame ≡ f = cc in
       let by = row_by provable own.frame r own.row_is in
-      row_apart db f (frame_is_apart l f frame) r f.formula (frame_is_apart l f frame).begins (frame_is_own l f frame).formula.leaves (subst (λ (x : Frame). row_with x x.formula ≡ Some r) same by.row)
+      row_apart db f (frame_is_apart l f frame) r f.formula (frame_is_apart l f frame).begins (frame_is_own l f frame).formula.leaves
+          (subst (λ (x : Frame). row_with x x.formula ≡ Some r) same by.row)
 
   frames_same : (name : Name) → frames_of db name ≡ option_and_then (frame_of ss) (label_named (labels ss) name)
   frames_same name = ap (λ ls. option_and_then db.frame (label_named ls name)) is.labels ∙ go (label_named (labels ss) name)
@@ -256,8 +267,10 @@ module _ (kinds : Kinds) (text : List ℕ) (db : Database) (is : IsDatabaseOf ki
             (no_floats ss place below' hs short (all-filter _ is_hypothesis (reverse (active (below ss place))) (declared_reversed ss place below')) x (sym (is.is_constant_at x place) ∙ c));
         known = subst (λ a. AllByRecursion (λ (h : Hyp). IsKnownAt db place h.formula) a.hyps) same
             (all_known_at_place ss place db is.symbols (is.active_at place) (λ x. is.is_constant_at x place) hs
-            (all_and (HypothesisKnown (below ss place)) (λ h. is_hypothesis h ≡ true) (λ h. FormulaKnown (below ss place) (symbols_in h)) (λ h k i. known_by (below ss place) h k (hypothesis_keyword h i)) hs
-            (all-filter (HypothesisKnown (below ss place)) is_hypothesis (reverse (active (below ss place))) (all-reverse (HypothesisKnown (below ss place)) (active (below ss place)) (hypotheses_known (below ss place) below')))
+            (all_and (HypothesisKnown (below ss place)) (λ h. is_hypothesis h ≡ true) (λ h. FormulaKnown (below ss place) (symbols_in h))
+                (λ h k i. known_by (below ss place) h k (hypothesis_keyword h i)) hs
+            (all-filter (HypothesisKnown (below ss place)) is_hypothesis (reverse (active (below ss place)))
+                (all-reverse (HypothesisKnown (below ss place)) (active (below ss place)) (hypotheses_known (below ss place) below')))
             (all_pass is_hypothesis (reverse (active (below ss place))))));
         short = subst (λ a. AllByRecursion ShortHyp a.hyps) same (are_short e each place below' short);
         labels = subst (λ a. AllByRecursion (λ (h : Hyp). Contains db.labels h.name) a.hyps) same

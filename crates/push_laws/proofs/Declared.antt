@@ -1,5 +1,6 @@
 -- What was declared as a constant is never a variable, and a label has bytes of labels alone.
-use Rattle.std.proofs.Common.{◌≡◌, ◌==◌, length, ℕ, Bool, true, false, not, cond, ◌||◌, List, [], ◌∷◌, ◌++◌, map, reverse, refl, sym, ap, ◌∙◌, subst, append_assoc, inl, inr, codes, flat_map}
+use Rattle.std.proofs.Common.{◌≡◌, ◌==◌, length, ℕ, Bool, true, false, not, cond, ◌||◌, List, [], ◌∷◌, ◌++◌, map, reverse, refl, sym, ap, ◌∙◌, subst}
+use Rattle.std.proofs.Common.{append_assoc, inl, inr, codes, flat_map}
 use Rattle.std.specs.List.{AllByRecursion, list_all, take_while}
 use Rattle.std.specs.Str.{bytes_eq}
 use Rattle.std.proofs.lemmas.Bool.{and_parts, and_from, or_parts, or_cases, or_right, both_ways, not-false, false_from_ne_true}
@@ -11,7 +12,9 @@ use Rattle.sheet_text.specs.Spellable.{is_token}
 use Rattle.sheet_laws.proofs.WordLaws.{tokens_at-tokens}
 use Rattle.mm_model.specs.Names.{Name}
 use Rattle.mm_model.specs.Words.{Word, words, is_white}
-use Rattle.mm_model.specs.Statements.{Statement, statements, ends_statement, is_word, is_empty, is_symbol_of, is_constant, is_variable, stands_in_statement, unended, ended, has_keyword, labels_in, labels, symbols_in, second, contains, constants, variables, variables_ever, with_keyword, active, path, redeclared, bad_label}
+use Rattle.mm_model.specs.Statements.{Statement, statements, ends_statement, is_word, is_empty, is_symbol_of, is_constant, is_variable}
+use Rattle.mm_model.specs.Statements.{stands_in_statement, unended, ended, has_keyword, labels_in, labels, symbols_in, second, contains, constants}
+use Rattle.mm_model.specs.Statements.{variables, variables_ever, with_keyword, active, path, redeclared, bad_label}
 use Rattle.mm_model.proofs.Lists.{added, constants-cons, variables_ever-cons}
 use Rattle.model_laws.proofs.Checked.{EachBefore, IsChecked, At, rules_fail}
 use Rattle.model_laws.proofs.Shapes.{shape, parts, AreWords, AtSymbol, before_symbol, at_symbol, at_split, LabelIsNew, label_is_new}
@@ -78,7 +81,8 @@ never_both (s ∷ e) h n c v = elim (or_cases _ _ (split_names (added (codes "$c
         | inl too ↦ both_ways (has_keyword (codes "$v") s) (one_keyword s (codes "$c") (codes "$v") one.0 refl) (added_has (codes "$v") s n too).0
         | inr old ↦
             both_ways (contains (variables_ever e) n)
-            (all_names (λ m. contains (variables_ever e) m ≡ false) (symbols_in s) n (each_symbol e s (codes "$c") h.0 one.0 refl (λ m. contains (variables_ever e) m ≡ false) (constant_new e)) one.1) old
+            (all_names (λ m. contains (variables_ever e) m ≡ false) (symbols_in s) n
+                (each_symbol e s (codes "$c") h.0 one.0 refl (λ m. contains (variables_ever e) m ≡ false) (constant_new e)) one.1) old
       ]
   | inr past ↦ elim (or_cases _ _ (split_names (added (codes "$v") symbols_in s) (variables_ever e) n (sym (ap (λ ns. contains ns n) (variables_ever-cons s e)) ∙ v))) [
     | inl new ↦
@@ -148,7 +152,8 @@ all_spelled : (e : List Statement) → EachBefore IsChecked e → AllByRecursion
 all_spelled [] h = tt
 all_spelled (s ∷ e) h = (statement_spelled e s h.0, all_spelled e h.1)
 
-append_all : (xs ys : List Word) → AllByRecursion IsSpelled (map (λ (w : Word). w.bytes) xs) → AllByRecursion IsSpelled (map (λ (w : Word). w.bytes) ys) → AllByRecursion IsSpelled (map (λ (w : Word). w.bytes) (xs ++ ys))
+append_all : (xs ys : List Word) → AllByRecursion IsSpelled (map (λ (w : Word). w.bytes) xs)
+    → AllByRecursion IsSpelled (map (λ (w : Word). w.bytes) ys) → AllByRecursion IsSpelled (map (λ (w : Word). w.bytes) (xs ++ ys))
 append_all [] ys h k = k
 append_all (x ∷ xs) ys h k = (h.0, append_all xs ys h.1 k)
 
@@ -190,7 +195,9 @@ full_statements : (before : List Word) → AllByRecursion IsFull before → AllB
 full_statements [] a = (tt, tt)
 full_statements (w ∷ before) a =
     let r = full_statements before a.1 in
-    elim (ends_statement w) as (λ t. AllByRecursion (AllByRecursion IsFull) (cond t ((unended before ++ w ∷ []) ∷ ended before) (ended before)) × AllByRecursion IsFull (cond t [] (unended before ++ w ∷ []))) [
+    elim (ends_statement w) as
+        (λ t. AllByRecursion (AllByRecursion IsFull) (cond t ((unended before ++ w ∷ []) ∷ ended before) (ended before))
+            × AllByRecursion IsFull (cond t [] (unended before ++ w ∷ []))) [
       | true ↦ ((full_push (unended before) w r.1 a.0, r.0), tt)
       | false ↦ (r.0, full_push (unended before) w r.1 a.0)
     ]
@@ -202,7 +209,8 @@ full_front (x ∷ xs) ys a = (a.0, full_front xs ys a.1)
 full_taken : (s : List Word) → AllByRecursion IsFull s → AllByRecursion IsFull (take_while is_word s)
 full_taken s a = let p = parts is_word s in subst (AllByRecursion IsFull) (sym p.taken) (full_front p.front p.rest (subst (AllByRecursion IsFull) p.whole a))
 
-full_names : (ws more : List Word) → AllByRecursion IsFull ws → AllByRecursion (λ n. is_token n ≡ true) (map (λ (w : Word). w.bytes) more) → AllByRecursion (λ n. is_token n ≡ true) (map (λ (w : Word). w.bytes) (ws ++ more))
+full_names : (ws more : List Word) → AllByRecursion IsFull ws → AllByRecursion (λ n. is_token n ≡ true) (map (λ (w : Word). w.bytes) more)
+    → AllByRecursion (λ n. is_token n ≡ true) (map (λ (w : Word). w.bytes) (ws ++ more))
 full_names [] more a b = b
 full_names (w ∷ ws) more a b = (a.0, full_names ws more a.1 b)
 

@@ -1,5 +1,6 @@
 -- Where a use has no clash and no lack, the variables of its values are active pairs of the theorem.
-use Rattle.std.specs.Prelude.{◌≡◌, ◌<◌, ◌==◌, ◌&&◌, ◌||◌, ℕ, Bool, true, false, not, List, [], ◌∷◌, ◌++◌, length, map, flat_map, filter, filter_map, find, fold, slice_get, Contains, nat_lt, Option, Some, None, refl}
+use Rattle.std.specs.Prelude.{◌≡◌, ◌<◌, ◌==◌, ◌&&◌, ◌||◌, ℕ, Bool, true, false, not, List, [], ◌∷◌, ◌++◌, length, map, flat_map, filter, filter_map}
+use Rattle.std.specs.Prelude.{find, fold, slice_get, Contains, nat_lt, Option, Some, None, refl}
 use Rattle.std.specs.List.{list_any, cons_option}
 use Rattle.std.proofs.Common.{sym, ap, subst, ◌∙◌, cond, inl, inr}
 use Rattle.std.proofs.lemmas.Bool.{cases_Bool, or_left, or_right, and_from, eq-eqb, not_from_false}
@@ -96,7 +97,8 @@ none_lacks allowed (q ∷ ps) p e h = elim (cases_Bool (is_pair_in allowed q)) [
   | inr d ↦ let bad : Some q ≡ None = subst (λ (b : Bool). cond (not b) (Some q) (find (λ r. not (is_pair_in allowed r)) ps) ≡ None) d e in absurd cc
 ]
 
-pub needed_is_written : (mode : DvMode) (allowed : List Pair) (es : List WrittenStep) (i : ℕ) (e : WrittenStep) (u : Use) (p : Pair) → slice_get es i ≡ Some e → e.by ≡ Some u → lack_of mode allowed u ≡ None
+pub needed_is_written : (mode : DvMode) (allowed : List Pair) (es : List WrittenStep) (i : ℕ) (e : WrittenStep) (u : Use) (p : Pair)
+    → slice_get es i ≡ Some e → e.by ≡ Some u → lack_of mode allowed u ≡ None
     → Contains (needed u) p → Contains (pairs_of mode allowed es) p
 needed_is_written dv.Given allowed es i e u p at by lack h = none_lacks allowed (needed u) p lack h
 needed_is_written dv.Add allowed es i e u p at by lack h =

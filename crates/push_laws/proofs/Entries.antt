@@ -8,7 +8,8 @@ use Rattle.mm_base.specs.declared.symbols.Sym.{Sym}
 use Rattle.mm_model.specs.declared.frames.Hyp.{Hyp}
 use Rattle.mm_model.specs.declared.frames.Frame.{Frame}
 use Rattle.proof_model.specs.declared.theorem.Theorem.{Theorem}
-use Rattle.proof_model.specs.Machine.{Formula, Entry, MachineFault, same_formula, is_float_of, substitute, substituted, differs_in_type, type_fault, type_differs, differs_in_formula, hyp_fault, hyp_differs, shared_fault, distinct_fault, entries_fault}
+use Rattle.proof_model.specs.Machine.{Formula, Entry, MachineFault, same_formula, is_float_of, substitute, substituted, differs_in_type, type_fault}
+use Rattle.proof_model.specs.Machine.{type_differs, differs_in_formula, hyp_fault, hyp_differs, shared_fault, distinct_fault, entries_fault}
 use Rattle.proof_laws.proofs.AcceptedLaw.{formula_self}
 
 pub same_symbol : (a b : Sym) → (a.0 == b.0) ≡ true → a ≡ b

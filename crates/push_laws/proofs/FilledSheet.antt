@@ -28,7 +28,9 @@ use Rattle.written_model.specs.WrittenSteps.{WrittenStep, WrittenItem, comment, 
 use Rattle.written_model.specs.Filled.{new_trees, fill, derived_names, made_step, written_place, wanted_by, use_of, filled_step, Filling, fill_item, filled_items}
 use Rattle.push_laws.proofs.Facts.{IsBook}
 use Rattle.push_laws.proofs.Lists.{all_of}
-use Rattle.push_laws.proofs.FilledSteps.{empty, IsSound, IsFilledStep, IsFilling, places_front, places_before, places_behind, behind_before, append_before, wanted_found, wanted_before, formula_ok, bound_stands, place_known, valued_is, valued_all, codes_are, one_more}
+use Rattle.push_laws.proofs.FilledSteps.{empty, IsSound, IsFilledStep, IsFilling, places_front, places_before, places_behind, behind_before}
+use Rattle.push_laws.proofs.FilledSteps.{append_before, wanted_found, wanted_before, formula_ok, bound_stands, place_known, valued_is, valued_all}
+use Rattle.push_laws.proofs.FilledSteps.{codes_are, one_more}
 use Rattle.push_laws.proofs.Filling.{order_by, steps_made}
 use Rattle.push_laws.proofs.Solved.{IsCandidate, IsAccepted, IsAssertionTree, accepted_at, accepted_in_all, conclusion_tree, hyp_trees, instance_sound}
 use Rattle.push_laws.proofs.StepProofs.{IsBefore, PlacesAre, HasUse}
@@ -64,7 +66,8 @@ module _ (db : Database) (book : IsBook db) (bound : Bound) (judgements : List J
   abbrev pub FillingOf : List WrittenStep → List ℕ → List SheetStep → Type 0
   FillingOf es numbers front = IsFilling db book bound judgements judged g the steps bounds spelled es numbers front
 
-  module _ (es : List WrittenStep) (numbers : List ℕ) (front rest : List SheetStep) (s : SheetStep) (filling : FillingOf es numbers front) (whole : steps ≡ front ++ (s ∷ rest)) (used : List Name) (used_qed : contains used (codes "qed") ≡ true) where
+  module _ (es : List WrittenStep) (numbers : List ℕ) (front rest : List SheetStep) (s : SheetStep) (filling : FillingOf es numbers front)
+      (whole : steps ≡ front ++ (s ∷ rest)) (used : List Name) (used_qed : contains used (codes "qed") ≡ true) where
     abbrev i : ℕ
     i = length numbers
 
@@ -137,8 +140,12 @@ module _ (db : Database) (book : IsBook db) (bound : Bound) (judgements : List J
         conclusion = valued_is db book bound judgements judged g the steps bounds spelled x h c.label c.usable x.assertion.tree (conclusion_tree db book c.label x.assertion c.usable)
             ∙ solves.conclusion ∙ ap (formula bound g) acc.1;
         places =
-            subst (λ ts. PlacesAre all ts e.places) (sym (valued_all db book bound judgements judged g the steps bounds spelled x h c.label c.usable x.assertion.hyps (hyp_trees db book c.label x.assertion c.usable)))
-            (places_front db book bound judgements judged g the steps bounds spelled es numbers front filling (more wanted) x.step x.assertion.hyps x.places (map (λ k. given.Step k) (map place wanted)) solves.places asked_known
+            subst (λ ts. PlacesAre all ts e.places)
+                (sym
+                    (valued_all db book bound judgements judged g the steps bounds spelled x h c.label c.usable x.assertion.hyps
+                        (hyp_trees db book c.label x.assertion c.usable)))
+            (places_front db book bound judgements judged g the steps bounds spelled es numbers front filling
+                (more wanted) x.step x.assertion.hyps x.places (map (λ k. given.Step k) (map place wanted)) solves.places asked_known
             (places_behind db book bound judgements judged g the steps bounds spelled all wanted place
             (wanted_found db book bound judgements judged g the steps bounds spelled es numbers front rest s filling whole wanted wanted_sound used)));
       }
@@ -146,7 +153,8 @@ module _ (db : Database) (book : IsBook db) (bound : Bound) (judgements : List J
       accepted_filled : FilledStep all (length all) e
       accepted_filled = record {
         earlier = append_before db book bound judgements judged g the steps bounds spelled (length all) (map (written_place numbers) x.places) (map (λ k. given.Step k) (map place wanted))
-            (places_before db book bound judgements judged g the steps bounds spelled es numbers front filling (length all) x.places (let n = length-append es (more wanted) in omega (arith, n)) asked_known)
+            (places_before db book bound judgements judged g the steps bounds spelled es numbers front filling (length all) x.places
+                (let n = length-append es (more wanted) in omega (arith, n)) asked_known)
             (behind_before db book bound judgements judged g the steps bounds spelled (length all) wanted place
             (wanted_before db book bound judgements judged g the steps bounds spelled es numbers front rest s filling whole wanted wanted_sound used));
         sound = formula_ok db book bound judgements judged g the steps bounds spelled es numbers front rest s filling whole;
@@ -165,10 +173,12 @@ module _ (db : Database) (book : IsBook db) (bound : Bound) (judgements : List J
 
     step_filled : (o : Judgement) → slice_index_or judgements i (stands verdict.NoRef) ≡ o → FillingOf (all_with o) (numbers_with o) (front ++ s ∷ [])
     step_filled (stands v) is =
-        one_more db book bound judgements judged g the steps bounds spelled es numbers front rest s filling whole [] tt used (step_with (stands v)) refl refl refl refl (stands_filled v (more []) []) used_qed
+        one_more db book bound judgements judged g the steps bounds spelled es numbers front rest s filling whole [] tt used
+            (step_with (stands v)) refl refl refl refl (stands_filled v (more []) []) used_qed
     step_filled (accepted x) is =
         let at = index_accepted judgements i x is in
-        one_more db book bound judgements judged g the steps bounds spelled es numbers front rest s filling whole (wanted x at) (wanted_sound x at) used (step_with (accepted x)) refl refl refl refl (accepted_filled x at) used_qed
+        one_more db book bound judgements judged g the steps bounds spelled es numbers front rest s filling whole (wanted x at)
+            (wanted_sound x at) used (step_with (accepted x)) refl refl refl refl (accepted_filled x at) used_qed
 
   -- all items
   module _ (names : List Name) (has_qed : contains names (codes "qed") ≡ true) where
@@ -186,7 +196,9 @@ module _ (db : Database) (book : IsBook db) (bound : Bound) (judgements : List J
         let next = step_filled es f.numbers front (filter_map step_of_item rest) s filling whole used used_qed o refl in
         items_filled rest (fill_item names bound g judgements f (item.Step s)) (front ++ s ∷ []) (whole ∙ sym (append_assoc front (s ∷ []) (filter_map step_of_item rest)))
         (subst (λ xs. FillingOf xs (numbers_with es f.numbers front (filter_map step_of_item rest) s filling whole used used_qed o) (front ++ s ∷ []))
-        (sym (items_steps f.items (more es f.numbers front (filter_map step_of_item rest) s filling whole used used_qed (wanted_by g o)) (step_with es f.numbers front (filter_map step_of_item rest) s filling whole used used_qed o))) next)
+        (sym
+            (items_steps f.items (more es f.numbers front (filter_map step_of_item rest) s filling whole used used_qed (wanted_by g o))
+                (step_with es f.numbers front (filter_map step_of_item rest) s filling whole used used_qed o))) next)
 
     no_steps : FillingOf [] [] []
     no_steps = record { each = λ j e at. absurd cc; own = λ k l. let bad : ⊥ = omega (arith, l) in absurd bad; count = refl; hyps = tt; shape = empty }

@@ -1,5 +1,6 @@
 -- Each step of a worksheet whose missing places are filled is sound.
-use Rattle.std.specs.Prelude.{◌≡◌, ◌<◌, ◌≤◌, ◌⊎◌, ◌||◌, ◌+◌, ℕ, zero, suc, Bool, true, false, List, [], ◌∷◌, ◌++◌, length, map, drop, filter, zip, slice_get, slice_index_or, Contains, Some, None, codes, refl}
+use Rattle.std.specs.Prelude.{◌≡◌, ◌<◌, ◌≤◌, ◌⊎◌, ◌||◌, ◌+◌, ℕ, zero, suc, Bool, true, false, List, [], ◌∷◌, ◌++◌, length, map, drop, filter, zip}
+use Rattle.std.specs.Prelude.{slice_get, slice_index_or, Contains, Some, None, codes, refl}
 use Rattle.std.specs.List.{AllZip, AllByRecursion, position_or_len}
 use Rattle.std.proofs.Common.{sym, ap, subst, ◌∙◌, cond, arith, inl, inr}
 use Rattle.std.proofs.lemmas.Bool.{cases_lt, or_parts, or_from}
@@ -119,7 +120,9 @@ module _ (db : Database) (book : IsBook db) (bound : Bound) (judgements : List J
         ap (value_of (use_of g x)) (sym e) ∙ t.2 ∙ same ∙ ap (λ y. g (copy x.step y v.code)) e ∙ ap (λ y. g (copy x.step s y)) d
 
     pub valued_is : (t : Tree) → IsAssertionTree db book l x.assertion usable t → valued (use_of g x) t ≡ instance g x.step t
-    valued_is t is = replace_alike db book x.assertion.frame.at (λ s c. value_of (use_of g x) s) (λ s c. g (copy x.step s c)) leaf_tree leaf_tree t is.typed (λ s c k. value_is s c (is.vars s c k)) (λ y o. refl)
+    valued_is t is =
+        replace_alike db book x.assertion.frame.at (λ s c. value_of (use_of g x) s) (λ s c. g (copy x.step s c)) leaf_tree leaf_tree t is.typed
+            (λ s c k. value_is s c (is.vars s c k)) (λ y o. refl)
 
     pub valued_all : (ts : List Tree) → AllByRecursion (IsAssertionTree db book l x.assertion usable) ts → map (valued (use_of g x)) ts ≡ map (instance g x.step) ts
     valued_all [] a = refl
@@ -138,7 +141,8 @@ module _ (db : Database) (book : IsBook db) (bound : Bound) (judgements : List J
   -- ---- places
 
   module _ (es : List WrittenStep) (numbers : List ℕ) (front : List SheetStep) (filling : IsFilling es numbers front) where
-    place_front : (more : List WrittenStep) (inst : Tree → Tree) (i : ℕ) (t : Tree) (k : ℕ) → k < length numbers → inst t ≡ formula bound g k → PlaceIs (es ++ more) (inst t) (written_place numbers (given.Step k))
+    place_front : (more : List WrittenStep) (inst : Tree → Tree) (i : ℕ) (t : Tree) (k : ℕ) → k < length numbers → inst t ≡ formula bound g k
+        → PlaceIs (es ++ more) (inst t) (written_place numbers (given.Step k))
     place_front more inst i t k l e =
         let j = filling.own k l in
         let at : slice_index_or numbers k 0 ≡ j.0 = index_get numbers k 0 j.0 j.1 in
@@ -166,7 +170,8 @@ module _ (db : Database) (book : IsBook db) (bound : Bound) (judgements : List J
         (omega (arith, at, within, long, less), places_before j gs less (λ m c. l m (later (given.Step m) (given.Step k) gs c)))
 
   -- the places of wanted trees
-  pub places_behind : (all : List WrittenStep) (ws : List Tree) (place : Tree → ℕ) → AllByRecursion (λ w. slice_get (trees all) (place w) ≡ Some w) ws → PlacesAre all ws (map (λ k. given.Step k) (map place ws))
+  pub places_behind : (all : List WrittenStep) (ws : List Tree) (place : Tree → ℕ) → AllByRecursion (λ w. slice_get (trees all) (place w) ≡ Some w) ws
+      → PlacesAre all ws (map (λ k. given.Step k) (map place ws))
   places_behind all [] place a = tt
   places_behind all (w ∷ ws) place a = (a.0, places_behind all ws place a.1)
 
@@ -209,9 +214,14 @@ module _ (db : Database) (book : IsBook db) (bound : Bound) (judgements : List J
   zip-append R (x ∷ xs) zs [] ws a b = absurd a
   zip-append R (x ∷ xs) zs (y ∷ ys) ws a b = (a.0, zip-append R xs zs ys ws a.1 b)
 
-  one_hyp : (e : WrittenStep) (s : SheetStep) (b : Bool) → e.hyp ≡ b → s.hyp ≡ b → IsHypOf e s → AllZip IsHypOf (filter (λ (x : WrittenStep). x.hyp) (e ∷ [])) (filter (λ (x : SheetStep). x.hyp) (s ∷ []))
-  one_hyp e s true p q h = subst (λ (b : Bool). AllZip IsHypOf (cond b (e ∷ []) []) (filter (λ (x : SheetStep). x.hyp) (s ∷ []))) (sym p) (subst (λ (b : Bool). AllZip IsHypOf (e ∷ []) (cond b (s ∷ []) [])) (sym q) (h, tt))
-  one_hyp e s false p q h = subst (λ (b : Bool). AllZip IsHypOf (cond b (e ∷ []) []) (filter (λ (x : SheetStep). x.hyp) (s ∷ []))) (sym p) (subst (λ (b : Bool). AllZip IsHypOf [] (cond b (s ∷ []) [])) (sym q) tt)
+  one_hyp : (e : WrittenStep) (s : SheetStep) (b : Bool) → e.hyp ≡ b → s.hyp ≡ b → IsHypOf e s
+      → AllZip IsHypOf (filter (λ (x : WrittenStep). x.hyp) (e ∷ [])) (filter (λ (x : SheetStep). x.hyp) (s ∷ []))
+  one_hyp e s true p q h =
+      subst (λ (b : Bool). AllZip IsHypOf (cond b (e ∷ []) []) (filter (λ (x : SheetStep). x.hyp) (s ∷ []))) (sym p)
+          (subst (λ (b : Bool). AllZip IsHypOf (e ∷ []) (cond b (s ∷ []) [])) (sym q) (h, tt))
+  one_hyp e s false p q h =
+      subst (λ (b : Bool). AllZip IsHypOf (cond b (e ∷ []) []) (filter (λ (x : SheetStep). x.hyp) (s ∷ []))) (sym p)
+          (subst (λ (b : Bool). AllZip IsHypOf [] (cond b (s ∷ []) [])) (sym q) tt)
 
   module _ (es : List WrittenStep) (numbers : List ℕ) (front rest : List SheetStep) (s : SheetStep) (filling : IsFilling es numbers front) (whole : steps ≡ front ++ (s ∷ rest)) where
     abbrev pub i : ℕ
@@ -287,7 +297,8 @@ module _ (db : Database) (book : IsBook db) (bound : Bound) (judgements : List J
             last zero y p =
                 let same : e ≡ y = cc in
                 subst (λ z. IsFilledStep all (length (es ++ made) + 0) z) same
-                (subst (λ (m : ℕ). IsFilledStep all m e) (let q : length (es ++ made) ≡ length (es ++ made) + 0 = omega arith in q) (more_steps (es ++ made) (e ∷ []) (length (es ++ made)) e e_filled))
+                (subst (λ (m : ℕ). IsFilledStep all m e) (let q : length (es ++ made) ≡ length (es ++ made) + 0 = omega arith in q)
+                    (more_steps (es ++ made) (e ∷ []) (length (es ++ made)) e e_filled))
             last (suc k) y p = absurd cc
 
         own_tree : slice_get (trees all) (length es + length filled.made) ≡ Some (formula bound g i)
@@ -315,7 +326,8 @@ module _ (db : Database) (book : IsBook db) (bound : Bound) (judgements : List J
           hyps =
               subst (λ xs. AllZip IsHypOf xs (filter (λ (x : SheetStep). x.hyp) (front ++ s ∷ []))) (sym hyps_split)
               (subst (AllZip IsHypOf (filter (λ (x : WrittenStep). x.hyp) es ++ filter (λ (x : WrittenStep). x.hyp) (e ∷ []))) (sym (filter-append (λ (x : SheetStep). x.hyp) front (s ∷ [])))
-              (zip-append IsHypOf (filter (λ (x : WrittenStep). x.hyp) es) (filter (λ (x : WrittenStep). x.hyp) (e ∷ [])) (filter (λ (x : SheetStep). x.hyp) front) (filter (λ (x : SheetStep). x.hyp) (s ∷ []))
+              (zip-append IsHypOf (filter (λ (x : WrittenStep). x.hyp) es) (filter (λ (x : WrittenStep). x.hyp) (e ∷ []))
+                  (filter (λ (x : SheetStep). x.hyp) front) (filter (λ (x : SheetStep). x.hyp) (s ∷ []))
               filling.hyps (one_hyp e s s.hyp e_hyp refl (record { name = e_name; reference = e_reference; place = i; stands = step_stands; tree = e_tree }))));
           shape = ends (es ++ made) e front s e_name (λ h.
               ap (λ ns. contains ns (codes "qed")) (map-append (λ (x : WrittenStep). x.name) es made)

@@ -32,7 +32,8 @@ get_mid [] y ys = refl
 get_mid (x ∷ xs) y ys = get_mid xs y ys
 
 -- an element of two lists stands in the first, or in the second by so many places before
-pub get_parts : {X : Type 0} (P : ℕ → X → Type 0) (xs ys : List X) (n : ℕ) → ((k : ℕ) (x : X) → slice_get xs k ≡ Some x → P (n + k) x) → ((k : ℕ) (x : X) → slice_get ys k ≡ Some x → P (n + length xs + k) x)
+pub get_parts : {X : Type 0} (P : ℕ → X → Type 0) (xs ys : List X) (n : ℕ) → ((k : ℕ) (x : X) → slice_get xs k ≡ Some x → P (n + k) x)
+    → ((k : ℕ) (x : X) → slice_get ys k ≡ Some x → P (n + length xs + k) x)
     → (k : ℕ) (x : X) → slice_get (xs ++ ys) k ≡ Some x → P (n + k) x
 get_parts P [] ys n f g k x e = subst (λ (m : ℕ). P m x) (let q : n + 0 + k ≡ n + k = omega arith in q) (g k x e)
 get_parts P (y ∷ xs) ys n f g zero x e = f 0 x e
@@ -136,7 +137,10 @@ one_quiet : (used : List Name) → contains used (codes "qed") ≡ true → byte
 one_quiet used h = by_find (map (λ n. codes "d" ++ decimal n) (range_with_len 1 (suc (length used))))
   where
     by_name : (n : Name) → not (contains used n) ≡ true → bytes_eq (codes "qed") n ≡ false
-    by_name n i = false_from_ne_true (bytes_eq (codes "qed") n) (λ e. both_ways (contains used n) (not-true (contains used n) i) (subst (λ m. contains used m ≡ true) ((bytes_eq-Decides (codes "qed") n).0 e) h))
+    by_name n i =
+        false_from_ne_true (bytes_eq (codes "qed") n)
+            (λ e. both_ways (contains used n) (not-true (contains used n) i)
+                (subst (λ m. contains used m ≡ true) ((bytes_eq-Decides (codes "qed") n).0 e) h))
 
     by_test : (n : Name) (b : Bool) (o : Option Name) → not (contains used n) ≡ b → bytes_eq (codes "qed") (unwrap_or o []) ≡ false → bytes_eq (codes "qed") (unwrap_or (cond b (Some n) o) []) ≡ false
     by_test n true o i k = by_name n i

@@ -236,7 +236,9 @@ module _ (ss : List Statement) (at : ℕ) (each : EachBefore IsChecked (below ss
           let tails = any_known (with_keyword (codes "$e") (active b)) essentials_known h in
           let some = any-filter (λ x. contains (drop 1 (symbols_in x)) n) (has_keyword (codes "$e")) (active b) tails in
           let turned = any-back (λ x. has_keyword (codes "$e") x && contains (drop 1 (symbols_in x)) n) (active b) some in
-          let marked = any-with (λ x. has_keyword (codes "$e") x && contains (drop 1 (symbols_in x)) n) (λ x. counts mandatory x && (not (is_float x) && stands_in (symbol_in names n) (formula_of names x)))
+          let marked =
+              any-with (λ x. has_keyword (codes "$e") x && contains (drop 1 (symbols_in x)) n)
+                  (λ x. counts mandatory x && (not (is_float x) && stands_in (symbol_in names n) (formula_of names x)))
           (λ x d.
           let two = and_parts (has_keyword (codes "$e") x) (contains (drop 1 (symbols_in x)) n) d in
           and_from (counts mandatory x) _ (or_left (has_keyword (codes "$e") x) _ two.0)
@@ -260,7 +262,9 @@ module _ (ss : List Statement) (at : ℕ) (each : EachBefore IsChecked (below ss
             | inr d ↦ or_right _ _ (essential_stands n two.0 d)
           ]
 
-      all_used : (vars : List TypedVariable) → ((k : ℕ) (v : TypedVariable) → slice_get vars k ≡ Some v → (n : Name) × (contains mandatory n ≡ true) × (v.sym ≡ symbol_in names n)) → AllByRecursion (IsUsed f) vars
+      all_used : (vars : List TypedVariable)
+          → ((k : ℕ) (v : TypedVariable) → slice_get vars k ≡ Some v → (n : Name) × (contains mandatory n ≡ true) × (v.sym ≡ symbol_in names n))
+          → AllByRecursion (IsUsed f) vars
       all_used [] g = tt
       all_used (v ∷ vars) g =
           let n = g 0 v refl in (
@@ -275,5 +279,8 @@ module _ (ss : List Statement) (at : ℕ) (each : EachBefore IsChecked (below ss
         begins = begins_by (symbols_in s) formula_known_here;
         hyps_begin = all_begin counting (mandatory_known mandatory b each);
         pairs = pairs_by (with_keyword (codes "$d") (active b)) mandatory own_names;
-        used = all_used (typed_variables f.hyps) (λ k v e. typed_from names mandatory (floats_of mandatory b) (floats_mandatory mandatory b each) k v (subst (λ vs. slice_get vs k ≡ Some v) (typed_at ss l at s) e));
+        used =
+            all_used (typed_variables f.hyps)
+                (λ k v e. typed_from names mandatory (floats_of mandatory b) (floats_mandatory mandatory b each) k v
+                    (subst (λ vs. slice_get vs k ≡ Some v) (typed_at ss l at s) e));
       }

@@ -6,7 +6,8 @@ use Rattle.std.proofs.lemmas.Bool.{cases_Bool}
 use Rattle.mm_base.specs.declared.symbols.Sym.{Sym}
 use Rattle.mm_base.specs.declared.symbols.Pair.{Pair}
 use Rattle.proof_model.specs.declared.theorem.Theorem.{Theorem}
-use Rattle.proof_model.specs.Machine.{Formula, Entry, MachineFault, shared, not_distinct, is_variable, variable_pairs, first_pair, or_later, least, substitute, is_shared, is_active_pair, shared_fault, distinct_fault}
+use Rattle.proof_model.specs.Machine.{Formula, Entry, MachineFault, shared, not_distinct, is_variable, variable_pairs, first_pair, or_later, least}
+use Rattle.proof_model.specs.Machine.{substitute, is_shared, is_active_pair, shared_fault, distinct_fault}
 use Rattle.push_laws.proofs.Lists.{first, later}
 
 append_all : (P : Sym × Sym → Type 0) (xs ys : List (Sym × Sym)) → AllByRecursion P xs → AllByRecursion P ys → AllByRecursion P (xs ++ ys)
@@ -50,7 +51,8 @@ abbrev pub PairIsDistinct : Theorem → List Entry → Pair → Type 0
 PairIsDistinct thm entries p =
     (v w : Sym) → Contains (substitute entries p.a) v → is_variable thm v ≡ true → Contains (substitute entries p.b) w → is_variable thm w ≡ true → AreDistinct thm v w
 
-pairs_pass : (test : Sym × Sym → Bool) (thm : Theorem) (entries : List Entry) (ps : List Pair) → ((v w : Sym) → AreDistinct thm v w → test (v, w) ≡ false) → AllByRecursion (PairIsDistinct thm entries) ps
+pairs_pass : (test : Sym × Sym → Bool) (thm : Theorem) (entries : List Entry) (ps : List Pair)
+    → ((v w : Sym) → AreDistinct thm v w → test (v, w) ≡ false) → AllByRecursion (PairIsDistinct thm entries) ps
     → AllByRecursion (λ p. AllByRecursion (λ vw. test vw ≡ false) (variable_pairs thm entries p)) ps
 pairs_pass test thm entries [] h a = tt
 pairs_pass test thm entries (p ∷ ps) h a =

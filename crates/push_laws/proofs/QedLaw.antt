@@ -60,7 +60,9 @@ module _ (db : Database) (hyps : List Hyp) where
   index_last (x ∷ xs) y d = index_last xs y d
 
   -- the last proof is that of the last step
-  last_proof : (pre : List WrittenStep) (e : WrittenStep) → unwrap_or (last_or None (step_proofs db hyps (pre ++ e ∷ []))) no_proof ≡ slice_index_or (step_proofs db hyps (pre ++ e ∷ [])) (length pre) no_proof
+  last_proof : (pre : List WrittenStep) (e : WrittenStep)
+      → unwrap_or (last_or None (step_proofs db hyps (pre ++ e ∷ []))) no_proof
+          ≡ slice_index_or (step_proofs db hyps (pre ++ e ∷ [])) (length pre) no_proof
   last_proof pre e =
       let xs = from [] pre in
       let y = step_proof db hyps xs e in
@@ -104,7 +106,9 @@ record Shape (xs : List WrittenStep) (ts : List SheetStep) : Type 0 where
   quiet : contains (map (λ (t : SheetStep). t.name) before) (codes "qed") ≡ false → contains (names_of pre) (codes "qed") ≡ false
 
 module _ (db : Database) (book : IsBook db) (words : List ℕ) (options : Options) (w : Writing) (wr : Writes db words options w) where
-  shape_of : (xs : List WrittenStep) (ts : List SheetStep) → HasShape db book w.bound w.judgements wr.judged w.value wr.most_general (steps w.read) (bounds db book words options w wr) (spelled db book words options w wr) xs ts
+  shape_of : (xs : List WrittenStep) (ts : List SheetStep)
+      → HasShape db book w.bound w.judgements wr.judged w.value wr.most_general (steps w.read) (bounds db book words options w wr)
+          (spelled db book words options w wr) xs ts
       → contains (map (λ (t : SheetStep). t.name) ts) (codes "qed") ≡ true → Shape xs ts
   shape_of [] [] empty h = absurd cc
   shape_of xs ts (ends pre e before s named f) h = record { pre = pre; last = e; before = before; step = s; whole = refl; read = refl; named = named; quiet = f }
@@ -162,7 +166,8 @@ module _ (db : Database) (book : IsBook db) (words : List ℕ) (options : Option
       some_is : (a b : Name) → Some a ≡ Some b → a ≡ b
       some_is a b e = cc
 
-  find_last : (pre : List WrittenStep) (e : WrittenStep) → contains (names_of pre) (codes "qed") ≡ false → e.name ≡ codes "qed" → find is_qed (map (written_step db) (pre ++ e ∷ [])) ≡ Some (written_step db e)
+  find_last : (pre : List WrittenStep) (e : WrittenStep) → contains (names_of pre) (codes "qed") ≡ false → e.name ≡ codes "qed"
+      → find is_qed (map (written_step db) (pre ++ e ∷ [])) ≡ Some (written_step db e)
   find_last [] e q n = ap (λ (b : Bool). cond b (Some (written_step db e)) None) ((bytes_eq-Decides e.name (codes "qed")).1 n)
   find_last (x ∷ pre) e q n =
       let two = or_parts (bytes_eq (codes "qed") x.name) (contains (names_of pre) (codes "qed")) q in

@@ -1,5 +1,6 @@
 -- The hypotheses of a worksheet without faults over its database, as they were read.
-use Rattle.std.specs.Prelude.{◌≡◌, ◌<◌, ◌≤◌, ◌&&◌, ◌||◌, ℕ, zero, suc, Bool, true, false, not, List, [], ◌∷◌, ◌++◌, length, take, drop, filter, nat_le, slice_get, is_some, Contains, Option, Some, None, option_map, option_and_then, position, refl}
+use Rattle.std.specs.Prelude.{◌≡◌, ◌<◌, ◌≤◌, ◌&&◌, ◌||◌, ℕ, zero, suc, Bool, true, false, not, List, [], ◌∷◌, ◌++◌, length, take, drop, filter}
+use Rattle.std.specs.Prelude.{nat_le, slice_get, is_some, Contains, Option, Some, None, option_map, option_and_then, position, refl}
 use Rattle.std.specs.List.{AllByRecursion, list_any}
 use Rattle.std.specs.Option.{option_map_or}
 use Rattle.std.specs.Str.{bytes_eq}
@@ -180,7 +181,8 @@ module _ (db : Database) (book : IsBook db) (s : Sheet) (sound : (line code : �
 
   -- ---- the given `$e` are active at the place
 
-  existing_by : (o : Option Frame) → option_and_then (λ (f : Frame). cond f.is_axiom None (Some f)) o ≡ existing db s → (f : Frame) → option_and_then (λ (f : Frame). cond f.is_axiom None (Some f)) o ≡ Some f → o ≡ Some f
+  existing_by : (o : Option Frame) → option_and_then (λ (f : Frame). cond f.is_axiom None (Some f)) o ≡ existing db s → (f : Frame)
+      → option_and_then (λ (f : Frame). cond f.is_axiom None (Some f)) o ≡ Some f → o ≡ Some f
   existing_by None i f e = absurd cc
   existing_by (Some h) i f e = go h.is_axiom e
     where
@@ -196,7 +198,8 @@ module _ (db : Database) (book : IsBook db) (s : Sheet) (sound : (line code : �
   given_by None e =
       let given : given_hyps db s ≡ essentials (db.active_at (place_of db s)).hyps = ap (λ o. option_map_or (λ (f : Frame). essentials f.hyps) o (essentials (db.active_at (place_of db s)).hyps)) e in
       subst (AllByRecursion (Contains (db.active_at (place_of db s)).hyps)) (sym given)
-      (all_in (Contains (db.active_at (place_of db s)).hyps) (essentials (db.active_at (place_of db s)).hyps) (λ h c. (filter_from (λ (x : Hyp). not x.floating) (db.active_at (place_of db s)).hyps h c).0))
+      (all_in (Contains (db.active_at (place_of db s)).hyps) (essentials (db.active_at (place_of db s)).hyps)
+          (λ h c. (filter_from (λ (x : Hyp). not x.floating) (db.active_at (place_of db s)).hyps h c).0))
   given_by (Some f) e =
       let given : given_hyps db s ≡ essentials f.hyps = ap (λ o. option_map_or (λ (f : Frame). essentials f.hyps) o (essentials (db.active_at (place_of db s)).hyps)) e in
       let place : place_of db s ≡ f.at = ap (λ o. option_map_or (λ (f : Frame). f.at) o (new_place db s.loc)) e in

@@ -45,7 +45,8 @@ module _ (db : Database) (book : IsBook db) (before : ℕ) where
   Typed t = IsTyped db.rows before t
 
   -- a child's text stands in the text of a typed node
-  pub text_child : (l : Label) (c : Typecode) (ts : List Tree) (k : ℕ) (t : Tree) (x : Leaf) → Typed (Node l c ts) → slice_get ts k ≡ Some t → Contains (text db.rows t) x → Contains (text db.rows (Node l c ts)) x
+  pub text_child : (l : Label) (c : Typecode) (ts : List Tree) (k : ℕ) (t : Tree) (x : Leaf) → Typed (Node l c ts) → slice_get ts k ≡ Some t
+      → Contains (text db.rows t) x → Contains (text db.rows (Node l c ts)) x
   text_child l c ts k t x typed e h =
       let here = typed_here db.rows before l c ts typed in
       let frame = book.facts.rows l here.0 here.1 in
@@ -74,7 +75,9 @@ module _ (db : Database) (book : IsBook db) (before : ℕ) where
 
   module _ (place : ℕ) (at_var : Sym → Typecode → Tree) (at_open : Open → Tree) where
     abbrev Kept : Tree → Type 0
-    Kept t = Typed t → before ≤ place → ((s : Sym) (c : Typecode) → HasVar t s c → IsTypedAs db.rows place c (at_var s c)) → ((x : Open) → Occurs x t → IsTypedAs db.rows place (open_code x) (at_open x))
+    Kept t =
+        Typed t → before ≤ place → ((s : Sym) (c : Typecode) → HasVar t s c → IsTypedAs db.rows place c (at_var s c))
+            → ((x : Open) → Occurs x t → IsTypedAs db.rows place (open_code x) (at_open x))
         → IsTypedAs db.rows place (code_of t) (replace at_var at_open t)
 
     typed_as : (c d : Typecode) (t u : Tree) → c ≡ d → t ≡ u → IsTypedAs db.rows place d u → IsTypedAs db.rows place c t

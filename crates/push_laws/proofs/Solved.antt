@@ -1,5 +1,6 @@
 -- The formulas of a worksheet, valued: they are typed, and their variables are declared at its place.
-use Rattle.std.specs.Prelude.{◌≡◌, ◌<◌, ◌≤◌, ◌==◌, ℕ, zero, suc, Bool, true, false, not, List, [], ◌∷◌, length, find, drop, take, slice_get, slice_index_or, nat_lt, nat_le, Contains, Option, Some, None, option_map, refl}
+use Rattle.std.specs.Prelude.{◌≡◌, ◌<◌, ◌≤◌, ◌==◌, ℕ, zero, suc, Bool, true, false, not, List, [], ◌∷◌, length, find, drop, take, slice_get}
+use Rattle.std.specs.Prelude.{slice_index_or, nat_lt, nat_le, Contains, Option, Some, None, option_map, refl}
 use Rattle.std.specs.List.{AllZip, AllByRecursion}
 use Rattle.std.proofs.Common.{sym, ap, subst, ◌∙◌, cond, arith, inl, inr}
 use Rattle.std.proofs.lemmas.Bool.{ltb-true, leb-true, not-false, not_from_true}
@@ -113,7 +114,8 @@ module _ (db : Database) (bound : Bound) (judgements : List Judgement) (judged :
   first_contains P (y ∷ ys) x (inl h) = first x y ys (let same : y ≡ x = cc in same)
   first_contains P (y ∷ ys) x (inr h) = later x y ys (first_contains P ys x h.1)
 
-  judged_accepted : (i : ℕ) (s : BoundStep) (before : List Asked) (st : Standing) (o : Judgement) (x : Asked) → standing db bound.place s ≡ st → slice_get bound.steps i ≡ Some s → IsJudgement db bound before i s st o → o ≡ accepted x
+  judged_accepted : (i : ℕ) (s : BoundStep) (before : List Asked) (st : Standing) (o : Judgement) (x : Asked) → standing db bound.place s ≡ st
+      → slice_get bound.steps i ≡ Some s → IsJudgement db bound before i s st o → o ≡ accepted x
       → IsAccepted x × (x.step ≡ i)
   judged_accepted i s before (settled v) (stands w) x is at other e = absurd cc
   judged_accepted i s before (settled v) (accepted y) x is at j e = elim j [ ]
@@ -133,7 +135,9 @@ module _ (db : Database) (bound : Bound) (judgements : List Judgement) (judged :
   is_asked [] x h = absurd (nothing x h)
   is_asked (j ∷ js) x h = go j h (λ l. is_asked js x l)
     where
-      go : (j : Judgement) → Contains (accepted_in (j ∷ js)) x → (Contains (accepted_in js) x → (k : Judgement) × Contains js k × (asked_of k ≡ Some x)) → (k : Judgement) × Contains (j ∷ js) k × (asked_of k ≡ Some x)
+      go : (j : Judgement) → Contains (accepted_in (j ∷ js)) x
+          → (Contains (accepted_in js) x → (k : Judgement) × Contains js k × (asked_of k ≡ Some x))
+          → (k : Judgement) × Contains (j ∷ js) k × (asked_of k ≡ Some x)
       go (stands v) i f = let r = f i in (r.0, later r.0 (stands v) js r.1, r.2)
       go (accepted y) i f = elim (parted x y (accepted_in js) i) [
         | inl e ↦ (accepted y, first (accepted y) (accepted y) js refl, ap (λ z. Some z) e)
@@ -214,7 +218,8 @@ module _ (db : Database) (book : IsBook db) (l : Label) (a : Assertion) (usable 
   pub hyp_trees : AllByRecursion IsAssertionTree a.hyps
   hyp_trees = go (essentials a.frame.hyps) a.hyps (book.own l a.frame is_usable.frame).hyps is_usable.hyps
     where
-      go : (hs : List Hyp) (ts : List Tree) → AllByRecursion (λ (h : Hyp). IsOwnFormula db a.frame h.formula) hs → AllZip (λ (h : Hyp) t. IsRead db a.frame.at h.formula t) hs ts → AllByRecursion IsAssertionTree ts
+      go : (hs : List Hyp) (ts : List Tree) → AllByRecursion (λ (h : Hyp). IsOwnFormula db a.frame h.formula) hs
+          → AllZip (λ (h : Hyp) t. IsRead db a.frame.at h.formula t) hs ts → AllByRecursion IsAssertionTree ts
       go [] [] o z = tt
       go [] (t ∷ ts) o z = absurd z
       go (h ∷ hs) [] o z = absurd z

@@ -1,5 +1,6 @@
 -- The laws of the proofs of the steps below `qed`.
-use Rattle.std.specs.Prelude.{◌≡◌, ◌<◌, ◌==◌, ℕ, zero, suc, Bool, true, false, List, [], ◌∷◌, ◌++◌, length, map, drop, filter, filter_map, flat_map, find, slice_get, slice_index_or, unwrap_or, Contains, is_some, Option, Some, None, option_map, refl}
+use Rattle.std.specs.Prelude.{◌≡◌, ◌<◌, ◌==◌, ℕ, zero, suc, Bool, true, false, List, [], ◌∷◌, ◌++◌, length, map, drop, filter, filter_map, flat_map}
+use Rattle.std.specs.Prelude.{find, slice_get, slice_index_or, unwrap_or, Contains, is_some, Option, Some, None, option_map, refl}
 use Rattle.std.specs.List.{AllByRecursion, list_any, cons_option}
 use Rattle.std.proofs.Common.{sym, ap, subst, ◌∙◌, cond, arith, inl, inr}
 use Rattle.std.proofs.lemmas.Bool.{or_cases, eqb-true}
@@ -109,7 +110,8 @@ module _ (db : Database) (book : IsBook db) (place : ℕ) where
     no_work = λ c n m. elim (parted (leaf.Work c n) x xs m) [ inl i ↦ f c n i | inr l ↦ h.no_work c n l ];
   }
 
-  said_by : (s : Sym) (a b : Bool) (o : Option Typecode) (xs : List Leaf) (ss : List Sym) → is_some (cond a (Some (leaf.Const s)) (cond b (option_map (λ c. leaf.Var s c) o) None)) ≡ true → IsSaid xs ss
+  said_by : (s : Sym) (a b : Bool) (o : Option Typecode) (xs : List Leaf) (ss : List Sym)
+      → is_some (cond a (Some (leaf.Const s)) (cond b (option_map (λ c. leaf.Var s c) o) None)) ≡ true → IsSaid xs ss
       → IsSaid (cons_option (cond a (Some (leaf.Const s)) (cond b (option_map (λ c. leaf.Var s c) o) None)) xs) (s ∷ ss)
   said_by s true b o xs ss e h = one_said s (leaf.Const s) xs ss refl (const_no_work s) h
   said_by s false true None xs ss e h = absurd cc
@@ -117,7 +119,8 @@ module _ (db : Database) (book : IsBook db) (place : ℕ) where
   said_by s false false o xs ss e h = absurd cc
 
   -- the names of known symbols say these symbols
-  said : (ss : List Sym) → AllByRecursion (λ (s : Sym). s.0 < length db.symbols) ss → AllByRecursion (λ s. is_some (declared_leaf db place s) ≡ true) ss → IsSaid (filter_map (leaf_of db place) (map (symbol_name db) ss)) ss
+  said : (ss : List Sym) → AllByRecursion (λ (s : Sym). s.0 < length db.symbols) ss
+      → AllByRecursion (λ s. is_some (declared_leaf db place s) ≡ true) ss → IsSaid (filter_map (leaf_of db place) (map (symbol_name db) ss)) ss
   said [] a k = record { symbols = refl; no_work = λ c n m. nothing (leaf.Work c n) m }
   said (s ∷ ss) a k =
       let back : leaf_of db place (symbol_name db s) ≡ declared_leaf db place s = ap (leaf_by db place (symbol_name db s)) (symbol_back db.symbols book.facts.symbols s.0 a.0) in
@@ -130,7 +133,8 @@ module _ (db : Database) (book : IsBook db) (place : ℕ) where
     formula : g ≡ p ∷ tree_symbols db t
     closed : IsClosedTree t
 
-  given_tree : (p : Sym) (g : List Sym) (t : Tree) → symbol_of db db.provable ≡ Some p → IsKnownAt db place g → begins_with_token db.provable (names_of db g) ≡ true → IsTheTree db place (names_of db g) t → IsGivenTree p g t
+  given_tree : (p : Sym) (g : List Sym) (t : Tree) → symbol_of db db.provable ≡ Some p → IsKnownAt db place g
+      → begins_with_token db.provable (names_of db g) ≡ true → IsTheTree db place (names_of db g) t → IsGivenTree p g t
   given_tree p [] t provable known begins is = absurd cc
   given_tree p (c ∷ rest) t provable known begins is =
       let name : symbol_name db c ≡ db.provable = (bytes_eq-Decides (symbol_name db c) db.provable).0 begins in
@@ -232,18 +236,22 @@ module _ (db : Database) (book : IsBook db) (words : List ℕ) (options : Option
     pub formula_is : (i : ℕ) (e : WrittenStep) → slice_get all i ≡ Some e → is_ground e.tree ≡ true → symbols_from db (formula_tokens db e.tree) ≡ p ∷ tree_symbols db e.tree
     formula_is i e at ground = let g = good i e at ground in symbols_are db book thm.at p provable e.tree g.typed g.closed g.named
 
-    by_tree : (e : WrittenStep) (h : Hyp) (x : SheetStep) (read : IsHypRead db book words options w wr e x) (b : BoundStep) (o : Option Tree) → b.tree ≡ o → slice_get w.bound.steps read.place ≡ Some b
-        → HasTree db w.bound.place (names_of db h.formula) o → IsKnownAt db w.bound.place h.formula → begins_with_token db.provable (names_of db h.formula) ≡ true → h.formula ≡ p ∷ tree_symbols db e.tree
+    by_tree : (e : WrittenStep) (h : Hyp) (x : SheetStep) (read : IsHypRead db book words options w wr e x) (b : BoundStep) (o : Option Tree)
+        → b.tree ≡ o → slice_get w.bound.steps read.place ≡ Some b
+        → HasTree db w.bound.place (names_of db h.formula) o → IsKnownAt db w.bound.place h.formula
+            → begins_with_token db.provable (names_of db h.formula) ≡ true → h.formula ≡ p ∷ tree_symbols db e.tree
     by_tree e h x read b None is at none known begins = absurd (let bad : false ≡ true = ap (begins_with_token db.provable) (sym none) ∙ begins in cc)
     by_tree e h x read b (Some t) is at the known begins =
         let g = given_tree db book w.bound.place p h.formula t provable known begins the in
         let tree : (slice_index_or w.bound.steps read.place no_step).tree ≡ Some t = ap (λ (y : BoundStep). y.tree) (index_get w.bound.steps read.place no_step b at) ∙ is in
         let same : e.tree ≡ t =
-        read.tree ∙ ap (λ o. name_tree w.names (formula_value w.value read.place o)) tree ∙ ap (name_tree w.names) (stays_closed (open_value w.value) t g.closed) ∙ stays_closed (name_leaf w.names) t g.closed in
+        read.tree ∙ ap (λ o. name_tree w.names (formula_value w.value read.place o)) tree
+            ∙ ap (name_tree w.names) (stays_closed (open_value w.value) t g.closed) ∙ stays_closed (name_leaf w.names) t g.closed in
         g.formula ∙ ap (λ y. p ∷ tree_symbols db y) (sym same)
 
     -- the formula of a given hypothesis is that of its step
-    given_formula : (e : WrittenStep) (t : SheetStep) (m : ℕ) (h : Hyp) → Contains (db.active_at (place_of db s)).hyps h → slice_get (hyp_steps db book s wr.binds.sound) m ≡ Some t → slice_get H m ≡ Some e
+    given_formula : (e : WrittenStep) (t : SheetStep) (m : ℕ) (h : Hyp) → Contains (db.active_at (place_of db s)).hyps h
+        → slice_get (hyp_steps db book s wr.binds.sound) m ≡ Some t → slice_get H m ≡ Some e
         → t.formula ≡ names_of db h.formula → h.formula ≡ p ∷ tree_symbols db e.tree
     given_formula e t m h active stands at is =
         let r = zip_get (HypRead db book words options w wr) H (hyp_steps db book s wr.binds.sound) m e (hyps_read db book words options w wr) at in
@@ -253,11 +261,15 @@ module _ (db : Database) (book : IsBook db) (words : List ℕ) (options : Option
         let read = r.2.1 in
         let tokens : x.formula ≡ names_of db h.formula = ap (λ (y : SheetStep). y.formula) r.2.2 ∙ ap (λ (y : SheetStep). y.formula) same ∙ is in
         let b = zip_get (IsBoundStep db w.bound.place) (steps w.read) w.bound.steps read.place x (bounds db book words options w wr) read.stands in
-        let known = subst (λ (n : ℕ). IsKnownAt db n h.formula) (sym wr.binds.place) (all_of (λ (y : Hyp). IsKnownAt db (place_of db s) y.formula) (db.active_at (place_of db s)).hyps h (book.hyps_apart (place_of db s)).known active) in
+        let known =
+            subst (λ (n : ℕ). IsKnownAt db n h.formula) (sym wr.binds.place)
+                (all_of (λ (y : Hyp). IsKnownAt db (place_of db s) y.formula) (db.active_at (place_of db s)).hyps h
+                    (book.hyps_apart (place_of db s)).known active) in
         let begins : begins_with_token db.provable (names_of db h.formula) ≡ true = subst (λ f. begins_with_token db.provable f ≡ true) is (hyp_begins db book s wr.binds.sound m t stands) in
         by_tree e h x read b.0 b.0.tree refl b.1 (subst (λ f. HasTree db w.bound.place f b.0.tree) tokens b.2.tree) known begins
 
-    found_formula : (i : ℕ) (e : WrittenStep) → slice_get all i ≡ Some e → is_ground e.tree ≡ true → (f : HypFound db book s wr.binds.sound H (hyps_zip db book words options w wr) e) → f.hyp.formula ≡ p ∷ tree_symbols db e.tree
+    found_formula : (i : ℕ) (e : WrittenStep) → slice_get all i ≡ Some e → is_ground e.tree ≡ true
+        → (f : HypFound db book s wr.binds.sound H (hyps_zip db book words options w wr) e) → f.hyp.formula ≡ p ∷ tree_symbols db e.tree
     found_formula i e at ground f = elim f.source [
       | inl new ↦ ap (λ (h : Hyp). h.formula) new ∙ formula_is i e at ground
       | inr given ↦ given_formula e given.0 given.1 f.hyp given.2 given.3 given.4 given.5

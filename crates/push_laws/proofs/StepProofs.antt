@@ -1,5 +1,6 @@
 -- In a finished worksheet the proof of each step below `qed` pushes its formula, from what is known of each step.
-use Rattle.std.specs.Prelude.{◌≡◌, ◌<◌, ◌+◌, ◌==◌, ◌&&◌, ℕ, zero, suc, true, false, List, [], ◌∷◌, ◌++◌, length, map, find, fold, is_none, slice_get, slice_index_or, unwrap_or, Contains, Option, Some, None, refl}
+use Rattle.std.specs.Prelude.{◌≡◌, ◌<◌, ◌+◌, ◌==◌, ◌&&◌, ℕ, zero, suc, true, false, List, [], ◌∷◌, ◌++◌, length, map, find, fold, is_none, slice_get}
+use Rattle.std.specs.Prelude.{slice_index_or, unwrap_or, Contains, Option, Some, None, refl}
 use Rattle.std.specs.List.{AllZip, AllByRecursion, list_all}
 use Rattle.std.proofs.Common.{sym, ap, subst, ◌∙◌, arith, inl, inr, append_assoc}
 use Rattle.std.proofs.lemmas.Bool.{and_parts, or_cases, eqb-true}

@@ -79,7 +79,8 @@ typed_any s hs some =
 pub typed_float : (s : Sym) (hs : List Hyp) (c : Typecode) → float_of s hs ≡ Some c → list_any (is_float_of s) hs ≡ true
 typed_float s hs c e = go (find (λ (v : TypedVariable). v.sym.0 == s.0) (typed_variables hs)) refl e
   where
-    go : (o : Option TypedVariable) → find (λ (v : TypedVariable). v.sym.0 == s.0) (typed_variables hs) ≡ o → option_map (λ (v : TypedVariable). v.code) o ≡ Some c → list_any (is_float_of s) hs ≡ true
+    go : (o : Option TypedVariable) → find (λ (v : TypedVariable). v.sym.0 == s.0) (typed_variables hs) ≡ o
+        → option_map (λ (v : TypedVariable). v.code) o ≡ Some c → list_any (is_float_of s) hs ≡ true
     go None i j = absurd cc
     go (Some v) i j = typed_any s hs (found_any (λ (w : TypedVariable). w.sym.0 == s.0) (typed_variables hs) v i)
 

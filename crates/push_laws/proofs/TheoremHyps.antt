@@ -1,5 +1,6 @@
 -- The hypotheses of a written theorem: each is found by its label, and each variable of its formulas by its `$f`.
-use Rattle.std.specs.Prelude.{◌≡◌, ◌<◌, ◌≤◌, ◌⊎◌, ◌+◌, ◌-◌, ◌==◌, ◌&&◌, ◌||◌, ℕ, zero, suc, Bool, true, false, List, [], ◌∷◌, ◌++◌, length, map, drop, find, flat_map, slice_get, unwrap_or, Contains, Option, Some, None, option_map, option_and_then, refl}
+use Rattle.std.specs.Prelude.{◌≡◌, ◌<◌, ◌≤◌, ◌⊎◌, ◌+◌, ◌-◌, ◌==◌, ◌&&◌, ◌||◌, ℕ, zero, suc, Bool, true, false, List, [], ◌∷◌, ◌++◌, length, map, drop}
+use Rattle.std.specs.Prelude.{find, flat_map, slice_get, unwrap_or, Contains, Option, Some, None, option_map, option_and_then, refl}
 use Rattle.std.specs.List.{AllZip, AllByRecursion, list_any}
 use Rattle.std.specs.Str.{bytes_eq}
 use Rattle.std.proofs.Common.{sym, ap, subst, ◌∙◌, cond, arith, inl, inr}
@@ -46,7 +47,8 @@ find_right : {X : Type 0} (p : X → Bool) (xs ys : List X) → AllByRecursion (
 find_right p [] ys a = refl
 find_right p (x ∷ xs) ys a = ap (λ (b : Bool). cond b (Some x) (find p (xs ++ ys))) a.0 ∙ find_right p xs ys a.1
 
-find_at : {X : Type 0} (p : X → Bool) (xs : List X) (k : ℕ) (x : X) → slice_get xs k ≡ Some x → p x ≡ true → ((j : ℕ) (y : X) → j < k → slice_get xs j ≡ Some y → p y ≡ false) → find p xs ≡ Some x
+find_at : {X : Type 0} (p : X → Bool) (xs : List X) (k : ℕ) (x : X) → slice_get xs k ≡ Some x → p x ≡ true
+    → ((j : ℕ) (y : X) → j < k → slice_get xs j ≡ Some y → p y ≡ false) → find p xs ≡ Some x
 find_at p [] k x e h f = absurd cc
 find_at p (y ∷ xs) zero x e h f = let same : y ≡ x = cc in ap (λ (b : Bool). cond b (Some y) (find p xs)) (ap p same ∙ h) ∙ ap (λ z. Some z) same
 find_at p (y ∷ xs) (suc k) x e h f =
@@ -106,7 +108,11 @@ float_by h hs s c (a ∷ []) fl is short e f = skip h hs s c (and_false h.floati
 float_by h hs s c (a ∷ v ∷ []) fl is short e f = elim (cases_Bool (v.0 == s.0)) [
   | inl d ↦
       let same : v ≡ s = same_symbol v s d in
-      let one : Some (typecode a) ≡ Some c = subst (λ (b : Bool). option_map (λ (x : TypedVariable). x.code) (cond b (Some (record { sym = v; code = typecode a })) (find (λ (x : TypedVariable). x.sym.0 == s.0) (typed_variables hs))) ≡ Some c) d e in
+      let one : Some (typecode a) ≡ Some c =
+          subst
+              (λ (b : Bool). option_map (λ (x : TypedVariable). x.code)
+                  (cond b (Some (record { sym = v; code = typecode a })) (find (λ (x : TypedVariable). x.sym.0 == s.0) (typed_variables hs)))
+                  ≡ Some c) d e in
       let code : typecode a ≡ c = cc in
       let test : is_float_of s h ≡ true = and_from h.floating _ fl (ap (λ g. list_any (λ (x : Sym). x.0 == s.0) (drop 1 g)) is ∙ or_left (v.0 == s.0) false d) in
       record {
@@ -117,7 +123,10 @@ float_by h hs s c (a ∷ v ∷ []) fl is short e f = elim (cases_Bool (v.0 == s.
       }
   | inr d ↦
       let rest : code_in s (typed_variables hs) ≡ Some c =
-      subst (λ (b : Bool). option_map (λ (x : TypedVariable). x.code) (cond b (Some (record { sym = v; code = typecode a })) (find (λ (x : TypedVariable). x.sym.0 == s.0) (typed_variables hs))) ≡ Some c) d e in
+      subst
+          (λ (b : Bool). option_map (λ (x : TypedVariable). x.code)
+              (cond b (Some (record { sym = v; code = typecode a })) (find (λ (x : TypedVariable). x.sym.0 == s.0) (typed_variables hs)))
+              ≡ Some c) d e in
       let test : list_any (λ (x : Sym). x.0 == s.0) (drop 1 h.formula) ≡ false = ap (λ g. list_any (λ (x : Sym). x.0 == s.0) (drop 1 g)) is ∙ ap (λ (b : Bool). b || false) d in
       skip h hs s c (and_false h.floating _ test) (f rest)
 ]
@@ -131,7 +140,8 @@ float_found : (hs : List Hyp) (s : Sym) (c : Typecode) → AllByRecursion ShortH
 float_found [] s c a e = absurd cc
 float_found (h ∷ hs) s c a e = elim (cases_Bool h.floating) [
   | inl d ↦
-      let split : code_in s (typed_by h.formula ++ typed_variables hs) ≡ Some c = subst (λ (b : Bool). code_in s (flat_map (λ (x : Hyp). typed_by x.formula) (cond b (h ∷ floats hs) (floats hs))) ≡ Some c) d e in
+      let split : code_in s (typed_by h.formula ++ typed_variables hs) ≡ Some c =
+          subst (λ (b : Bool). code_in s (flat_map (λ (x : Hyp). typed_by x.formula) (cond b (h ∷ floats hs) (floats hs))) ≡ Some c) d e in
       float_by h hs s c h.formula d refl (a.0 d) split (λ i. float_found hs s c a.1 i)
   | inr d ↦
       let rest : float_of s hs ≡ Some c = subst (λ (b : Bool). code_in s (flat_map (λ (x : Hyp). typed_by x.formula) (cond b (h ∷ floats hs) (floats hs))) ≡ Some c) d e in
@@ -259,9 +269,12 @@ module _ (db : Database) (book : IsBook db) (s : Sheet) (sound : (line code : �
       pub hyp : Hyp
       pub stands : find (is_named (unwrap_or e.reference [])) all_hyps ≡ Some hyp
       pub plain : IsNoGap (unwrap_or e.reference [])
-      pub source : (hyp ≡ new_of e) ⊎ ((t : SheetStep) × (m : ℕ) × Contains active hyp × (slice_get (hyp_steps db book s sound) m ≡ Some t) × (slice_get written m ≡ Some e) × (t.formula ≡ names_of db hyp.formula))
+      pub source : (hyp ≡ new_of e)
+          ⊎ ((t : SheetStep) × (m : ℕ) × Contains active hyp × (slice_get (hyp_steps db book s sound) m ≡ Some t) × (slice_get written m ≡ Some e)
+              × (t.formula ≡ names_of db hyp.formula))
 
-    given_found : (m : ℕ) (e : WrittenStep) (t : SheetStep) (h : Hyp) → slice_get written m ≡ Some e → slice_get (hyp_steps db book s sound) m ≡ Some t → IsRead e t → slice_get (given_hyps db s) m ≡ Some h → HypFound e
+    given_found : (m : ℕ) (e : WrittenStep) (t : SheetStep) (h : Hyp) → slice_get written m ≡ Some e
+        → slice_get (hyp_steps db book s sound) m ≡ Some t → IsRead e t → slice_get (given_hyps db s) m ≡ Some h → HypFound e
     given_found m e t h at stands r g =
         let is = given_is db book s sound m h t g stands in
         let member = all_of (Contains active) (given_hyps db s) h (given_active db book s sound) (get_contains (given_hyps db s) m h g) in
@@ -307,6 +320,7 @@ module _ (db : Database) (book : IsBook db) (s : Sheet) (sound : (line code : �
         let t = zip_get IsRead written (hyp_steps db book s sound) at.0 e read at.1 in
         go at.0 at.1 t.0 t.1 t.2 (slice_get (given_hyps db s) at.0) refl
       where
-        go : (m : ℕ) → slice_get written m ≡ Some e → (t : SheetStep) → slice_get (hyp_steps db book s sound) m ≡ Some t → IsRead e t → (o : Option Hyp) → slice_get (given_hyps db s) m ≡ o → HypFound e
+        go : (m : ℕ) → slice_get written m ≡ Some e → (t : SheetStep) → slice_get (hyp_steps db book s sound) m ≡ Some t → IsRead e t
+            → (o : Option Hyp) → slice_get (given_hyps db s) m ≡ o → HypFound e
         go m at t stands r None g = new_found m e at g
         go m at t stands r (Some h) g = given_found m e t h at stands r g

@@ -64,7 +64,9 @@ module _ (db : Database) (book : IsBook db) (before : ℕ) where
       let symbols = (book.facts.frames l frame.0 frame.1).formula.symbols in
       let symbols' = subst (AllByRecursion (λ (x : Sym). x.0 < length db.symbols)) frame.2.formula symbols in
       let named = items_named (typed_variables frame.0.hyps) r.items symbols'.1 in
-      elim (item_cases IsNamed (map (text db.rows) ts) (leaf.Const s) r.items named (subst (λ xs. Contains xs (leaf.Const s)) (text-Node db.rows l c ts ∙ ap (row_text (map (text db.rows) ts)) here.1) h)) [
+      elim
+          (item_cases IsNamed (map (text db.rows) ts) (leaf.Const s) r.items named
+              (subst (λ xs. Contains xs (leaf.Const s)) (text-Node db.rows l c ts ∙ ap (row_text (map (text db.rows) ts)) here.1) h)) [
         | inl d ↦ subst (λ (x : Sym). x.0 < length db.symbols) (same_const s d.0 d.1) d.2
         | inr d ↦
             let t = child_at (text db.rows) ts d.0 (leaf.Const s) d.1 in
@@ -116,7 +118,8 @@ module _ (db : Database) (book : IsBook db) (before : ℕ) where
       let b = token_back x a.0 in
       ap (λ o. cons_option o (filter_map (symbol_of db) (map (leaf_name db) xs))) b.1 ∙ ap (λ ss. b.0 ∷ ss) (tokens_back xs a.1) ∙ sym (ap (λ ys. ys ++ flat_map leaf_symbols xs) b.2)
 
-  spoken_all : (t : Tree) → IsTyped db.rows before t → open_leaves t ≡ [] → ((s : Sym) (c : Typecode) → Contains (text db.rows t) (leaf.Var s c) → s.0 < length db.symbols) → AllByRecursion Spoken (text db.rows t)
+  spoken_all : (t : Tree) → IsTyped db.rows before t → open_leaves t ≡ []
+      → ((s : Sym) (c : Typecode) → Contains (text db.rows t) (leaf.Var s c) → s.0 < length db.symbols) → AllByRecursion Spoken (text db.rows t)
   spoken_all t typed closed vars = all_spoken (text db.rows t) (λ x h. h)
     where
       spoken : (x : Leaf) → Contains (text db.rows t) x → Spoken x

@@ -1,5 +1,6 @@
 -- The proof of a tree pushes its typecode and its text.
-use Rattle.std.specs.Prelude.{◌≡◌, ◌<◌, ◌==◌, ℕ, zero, suc, Bool, true, false, not, List, [], ◌∷◌, ◌++◌, length, map, filter, find, flat_map, drop, zip, slice_get, slice_index_or, Contains, nat_lt, Option, Some, None, option_and_then, refl}
+use Rattle.std.specs.Prelude.{◌≡◌, ◌<◌, ◌==◌, ℕ, zero, suc, Bool, true, false, not, List, [], ◌∷◌, ◌++◌, length, map, filter, find, flat_map, drop}
+use Rattle.std.specs.Prelude.{zip, slice_get, slice_index_or, Contains, nat_lt, Option, Some, None, option_and_then, refl}
 use Rattle.std.specs.List.{AllZip, AllByRecursion, list_any}
 use Rattle.std.specs.Option.{option_map_or}
 use Rattle.std.proofs.Common.{sym, ap, subst, ◌∙◌, cond, arith, inl, inr}
@@ -65,7 +66,8 @@ slots_within n (slot.Const s ∷ items) f = (tt, slots_within n items f)
 slots_within n (slot.Slot k ∷ items) f = (f 0 (omega arith), slots_within n items (λ j l. f (suc j) (omega (arith, l))))
 
 -- the text of a child stands in the text of its row
-slot_text : (xs : List (List Leaf)) (k : ℕ) (x : Leaf) (items : List Item) → place_of k (slot_order items) < length (slot_order items) → Contains (slice_index_or xs k []) x → Contains (items_text xs items) x
+slot_text : (xs : List (List Leaf)) (k : ℕ) (x : Leaf) (items : List Item) → place_of k (slot_order items) < length (slot_order items)
+    → Contains (slice_index_or xs k []) x → Contains (items_text xs items) x
 slot_text xs k x [] l h = let bad : ⊥ = omega (arith, l) in absurd bad
 slot_text xs k x (slot.Const s ∷ items) l h = later x (leaf.Const s) (items_text xs items) (slot_text xs k x items l h)
 slot_text xs k x (slot.Slot j ∷ items) l h = go (k == j) refl (λ m. slot_text xs k x items m h) l
@@ -123,7 +125,9 @@ float_at : (hs : List Hyp) (k : ℕ) (h : Hyp) → filter (λ (x : Hyp). not x.f
 float_at [] k h e i = absurd cc
 float_at (x ∷ hs) k h e i = go x.floating refl (λ d j i. float_at hs j h d i) e k i
   where
-    go : (b : Bool) → x.floating ≡ b → (filter (λ (y : Hyp). not y.floating) hs ≡ [] → (j : ℕ) → slice_get hs j ≡ Some h → h.floating ≡ true) → cond (not b) (x ∷ filter (λ (y : Hyp). not y.floating) hs) (filter (λ (y : Hyp). not y.floating) hs) ≡ [] → (k : ℕ) → slice_get (x ∷ hs) k ≡ Some h → h.floating ≡ true
+    go : (b : Bool) → x.floating ≡ b → (filter (λ (y : Hyp). not y.floating) hs ≡ [] → (j : ℕ) → slice_get hs j ≡ Some h → h.floating ≡ true)
+        → cond (not b) (x ∷ filter (λ (y : Hyp). not y.floating) hs) (filter (λ (y : Hyp). not y.floating) hs) ≡ [] → (k : ℕ)
+        → slice_get (x ∷ hs) k ≡ Some h → h.floating ≡ true
     go false is f d k i = absurd cc
     go true is f d zero i = let same : x ≡ h = cc in subst (λ (y : Hyp). y.floating ≡ true) same is
     go true is f d (suc k) i = f d k i
@@ -152,7 +156,9 @@ no_essential entries [] (f ∷ fs) e l = let bad : ⊥ = omega (arith, l) in abs
 no_essential entries (h ∷ hs) [] e l = let bad : ⊥ = omega (arith, l) in absurd bad
 no_essential entries (h ∷ hs) (f ∷ fs) e l = go h.floating refl (λ k. no_essential entries hs fs k (omega (arith, l))) e
   where
-    go : (b : Bool) → h.floating ≡ b → (filter (λ (x : Hyp). not x.floating) hs ≡ [] → AllZip (IsEssentialTaken entries) hs fs) → cond (not b) (h ∷ filter (λ (x : Hyp). not x.floating) hs) (filter (λ (x : Hyp). not x.floating) hs) ≡ [] → AllZip (IsEssentialTaken entries) (h ∷ hs) (f ∷ fs)
+    go : (b : Bool) → h.floating ≡ b → (filter (λ (x : Hyp). not x.floating) hs ≡ [] → AllZip (IsEssentialTaken entries) hs fs)
+        → cond (not b) (h ∷ filter (λ (x : Hyp). not x.floating) hs) (filter (λ (x : Hyp). not x.floating) hs) ≡ []
+        → AllZip (IsEssentialTaken entries) (h ∷ hs) (f ∷ fs)
     go true is r k = ((λ no_float. let bad : true ≡ false = sym is ∙ no_float in absurd cc), r k)
     go false is r k = absurd cc
 
@@ -188,7 +194,9 @@ module _ (db : Database) (book : IsBook db) (thm : Theorem) (apart : AreApart db
   var_proof s c floats =
       let h = floats s c (subst (λ xs. Contains xs (leaf.Var s c)) (sym (text-Var db.rows s c)) (first (leaf.Var s c) (leaf.Var s c) [] refl)) in
       let label : float_label thm.hyps s ≡ h.hyp.name = ap (λ (o : Option Hyp). option_map_or (λ (x : Hyp). x.name) o []) h.is_float in
-      let formula : h.hyp.formula ≡ tree_formula db (Var s c) = h.formula ∙ ap (λ (d : Typecode). d.0 ∷ s ∷ []) (sym (code-Var s c)) ∙ ap (λ xs. (code_of (Var s c)).0 ∷ flat_map leaf_symbols xs) (sym (text-Var db.rows s c)) in
+      let formula : h.hyp.formula ≡ tree_formula db (Var s c) =
+          h.formula ∙ ap (λ (d : Typecode). d.0 ∷ s ∷ []) (sym (code-Var s c))
+              ∙ ap (λ xs. (code_of (Var s c)).0 ∷ flat_map leaf_symbols xs) (sym (text-Var db.rows s c)) in
       subst (λ p. The p (tree_formula db (Var s c))) (sym (syntax-Var db thm.hyps s c ∙ ap (λ (n : Name). by n none) label))
       (subst (The (by h.hyp.name none)) formula (hyp_proof (frames_of db) thm h.hyp.name h.hyp h.named h.no_gap))
 

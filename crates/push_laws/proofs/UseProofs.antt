@@ -1,5 +1,6 @@
 -- The proof of a use of an assertion pushes the formula of its conclusion.
-use Rattle.std.specs.Prelude.{◌≡◌, ◌<◌, ◌⊎◌, ◌==◌, ℕ, suc, Bool, true, false, not, ◌&&◌, ◌||◌, List, [], ◌∷◌, length, drop, map, flat_map, zip, slice_get, slice_index_or, Contains, nat_lt, is_some, Option, Some, None, option_map, option_and_then, refl}
+use Rattle.std.specs.Prelude.{◌≡◌, ◌<◌, ◌⊎◌, ◌==◌, ℕ, suc, Bool, true, false, not, ◌&&◌, ◌||◌, List, [], ◌∷◌, length, drop, map, flat_map, zip}
+use Rattle.std.specs.Prelude.{slice_get, slice_index_or, Contains, nat_lt, is_some, Option, Some, None, option_map, option_and_then, refl}
 use Rattle.std.specs.List.{AllZip, AllByRecursion, list_any}
 use Rattle.std.proofs.Common.{sym, ap, subst, ◌∙◌, cond, arith, inl, inr}
 use Rattle.std.proofs.lemmas.Bool.{cases_Bool, and_parts, or_cases, lt-ltb, both_ways, not-true, eq-eqb}
@@ -33,7 +34,8 @@ use Rattle.written_model.specs.Written.{frames_of}
 use Rattle.push_laws.proofs.ActiveHyps.{label_stands_at}
 use Rattle.push_laws.proofs.Entries.{IsTaken, IsFloatTaken, IsEssentialTaken, substitute-float, no_type_fault, no_hyp_fault, no_entries_fault, same_symbol}
 use Rattle.push_laws.proofs.Facts.{IsBook, FrameIsApart, IsUsed, PairHasFloats, Begins, stands_in, IsOwnFormula}
-use Rattle.push_laws.proofs.Lists.{first, later, nothing, parted, all_of, all_in, get_contains, contains_get, filter_contains, any_contains, any_of_contains, filter_map_contains, map_get, get_mapped, zip_get, zip_left, zip_length, zip_weaker, zip_mapped}
+use Rattle.push_laws.proofs.Lists.{first, later, nothing, parted, all_of, all_in, get_contains, contains_get, filter_contains, any_contains}
+use Rattle.push_laws.proofs.Lists.{any_of_contains, filter_map_contains, map_get, get_mapped, zip_get, zip_left, zip_length, zip_weaker, zip_mapped}
 use Rattle.push_laws.proofs.Pairs.{AreDistinct, PairIsDistinct, no_shared_fault, no_distinct_fault}
 use Rattle.push_laws.proofs.Parts.{IsGood, good_part, fine_text}
 use Rattle.push_laws.proofs.Runs.{IsProofOf, frame_proof}
@@ -158,7 +160,8 @@ module _ (db : Database) (book : IsBook db) (thm : Theorem) (apart : AreApart db
   float_any k v e = typed_any v.sym f.hyps (any_of_contains (λ (w : TypedVariable). w.sym.0 == v.sym.0) vars v (get_contains vars k v e) (eq-eqb v.sym.0 v.sym.0 refl))
 
   -- a variable that stands in a formula stands in the text of its tree
-  stands_in_text : (g : Formula) (t : Tree) (s : Sym) → own_expression db f g ≡ text db.rows t → AllByRecursion (λ x. is_some (own_leaf db f x) ≡ true) (drop 1 g) → list_any (is_float_of s) f.hyps ≡ true
+  stands_in_text : (g : Formula) (t : Tree) (s : Sym) → own_expression db f g ≡ text db.rows t
+      → AllByRecursion (λ x. is_some (own_leaf db f x) ≡ true) (drop 1 g) → list_any (is_float_of s) f.hyps ≡ true
       → stands_in s g ≡ true → (c : Typecode) × Contains (text db.rows t) (leaf.Var s c)
   stands_in_text g t s e some float h =
       let x = any_contains (λ (v : Sym). v.0 == s.0) (drop 1 g) h in
@@ -179,7 +182,10 @@ module _ (db : Database) (book : IsBook db) (thm : Theorem) (apart : AreApart db
 
   -- so its value can be proved
   value_good : (k : ℕ) (v : TypedVariable) → slice_get vars k ≡ Some v → IsGood db book thm apart (value v.sym)
-  value_good k v e = elim (or_cases (stands_in v.sym f.formula) (list_any (λ (h : Hyp). not h.floating && stands_in v.sym h.formula) f.hyps) (all_of (IsUsed f) vars v frame_is_apart.used (get_contains vars k v e))) [
+  value_good k v e =
+      elim
+          (or_cases (stands_in v.sym f.formula) (list_any (λ (h : Hyp). not h.floating && stands_in v.sym h.formula) f.hyps)
+              (all_of (IsUsed f) vars v frame_is_apart.used (get_contains vars k v e))) [
     | inl d ↦
         let own = (book.own use'.label f frame).formula in
         let c = stands_in_text f.formula a.tree v.sym (read_text f.formula a.tree is_usable.conclusion own) own.leaves (float_any k v e) d in
@@ -250,9 +256,11 @@ module _ (db : Database) (book : IsBook db) (thm : Theorem) (apart : AreApart db
 
     taken : AllZip (IsTaken values) f.hyps taken_formulas
     taken =
-        hyps_taken (IsTaken values) float_formula_of f.hyps (map hyp_formula a.hyps) (all_in (λ (h : Hyp). h.floating ≡ true → IsTaken values h (float_formula_of h)) f.hyps (λ h c e i. float_taken h c e))
+        hyps_taken (IsTaken values) float_formula_of f.hyps (map hyp_formula a.hyps)
+            (all_in (λ (h : Hyp). h.floating ≡ true → IsTaken values h (float_formula_of h)) f.hyps (λ h c e i. float_taken h c e))
         (zip_mapped (IsTaken values) hyp_formula (essentials f.hyps) a.hyps
-        (zip_left (λ (h : Hyp) t. IsRead db f.at h.formula t) (λ h t. IsTaken values h (hyp_formula t)) (λ (h : Hyp). not h.floating ≡ true) (λ h t n r i. absurd (both_ways h.floating (not-true h.floating n) i))
+        (zip_left (λ (h : Hyp) t. IsRead db f.at h.formula t) (λ h t. IsTaken values h (hyp_formula t)) (λ (h : Hyp). not h.floating ≡ true)
+            (λ h t n r i. absurd (both_ways h.floating (not-true h.floating n) i))
         (essentials f.hyps) a.hyps (all_pass (λ (h : Hyp). not h.floating) f.hyps) is_usable.hyps))
 
     begins_provable : (g : Formula) (t : Tree) → IsRead db f.at g t → Begins db f.at g → (rest : Formula) × (g ≡ p ∷ rest) × (db.is_constant_at p f.at ≡ true)

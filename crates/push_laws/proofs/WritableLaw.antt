@@ -122,7 +122,8 @@ number_within : {X : Type 0} (test : X → Bool) (xs : List X) (k : ℕ) → fir
 number_within test [] k e = absurd cc
 number_within test (x ∷ xs) k e = go (test x) refl (first_number test xs) refl (λ j i. number_within test xs j i) e
   where
-    go : (b : Bool) → test x ≡ b → (o : Option ℕ) → first_number test xs ≡ o → ((j : ℕ) → first_number test xs ≡ Some j → j < length xs) → cond b (Some 0) (option_map suc o) ≡ Some k → k < suc (length xs)
+    go : (b : Bool) → test x ≡ b → (o : Option ℕ) → first_number test xs ≡ o → ((j : ℕ) → first_number test xs ≡ Some j → j < length xs)
+        → cond b (Some 0) (option_map suc o) ≡ Some k → k < suc (length xs)
     go true i o j f h = let same : 0 ≡ k = cc in omega (arith, same)
     go false i None j f h = absurd cc
     go false i (Some l) j f h = let same : suc l ≡ k = cc in let less = f l j in omega (arith, same, less)
@@ -176,7 +177,8 @@ module _ (mandatory labels : List Name) (places : List Proof) where
     marks = after-append 0 c.steps (step (what.Again k) false ∷ []) ∙ i.marks;
   }
 
-  by_again : (p : Proof) (o : Option ℕ) (c : Coding) (rest : Coding → Coding) → first_number (same_proof p) c.marked ≡ o → IsCounted c → ((d : Coding) → IsCounted d → IsCounted (rest d)) → IsCounted (again_or o c rest)
+  by_again : (p : Proof) (o : Option ℕ) (c : Coding) (rest : Coding → Coding) → first_number (same_proof p) c.marked ≡ o → IsCounted c
+      → ((d : Coding) → IsCounted d → IsCounted (rest d)) → IsCounted (again_or o c rest)
   by_again p None c rest e i f = f c i
   by_again p (Some k) c rest e i f = again_counted k c (number_within (same_proof p) c.marked k e) i
 

@@ -1,5 +1,7 @@
 -- The first label that fits, with its first order, among all labels with all orders of a step's places.
-use Rattle.std.proofs.Common.{◌≡◌, ◌↔◌, ℕ, zero, suc, ◌+◌, ◌<◌, ◌≤◌, ◌==◌, ◌&&◌, Bool, true, false, List, [], ◌∷◌, ◌++◌, length, map, get_or, nat_le, nat_lt, if◌then◌else◌, Option, Some, None, option_map, refl, sym, ap, subst, ◌∙◌, inl, inr, arith, Result, Ok, Err, IfOk}
+use Rattle.std.proofs.Common.{◌≡◌, ◌↔◌, ℕ, zero, suc, ◌+◌, ◌<◌, ◌≤◌, ◌==◌, ◌&&◌, Bool, true, false, List, [], ◌∷◌, ◌++◌, length, map, get_or, nat_le}
+use Rattle.std.proofs.Common.{nat_lt, if◌then◌else◌, Option, Some, None, option_map, refl, sym, ap, subst, ◌∙◌, inl, inr, arith, Result, Ok, Err}
+use Rattle.std.proofs.Common.{IfOk}
 use Rattle.std.proofs.lemmas.Bool.{cases_Bool}
 use Rattle.std.proofs.lemmas.Bool.Decides.{nat_tests}
 use Rattle.std.proofs.lemmas.List.{length-map, get_or-map, map-append}
@@ -84,7 +86,8 @@ orders_same e = by (nat_le 2 (length e.places)) (nat_le (length e.places) 6) ref
     alone = ap (λ gs. gs ∷ []) (sym whole)
 
     by : (b c : Bool) → nat_le 2 (length e.places) ≡ b → nat_le (length e.places) 6 ≡ c
-        → (if b && c then orders (length e.places) e.places else e.places ∷ []) ≡ map (places_at e) (if c then orders (length e.places) (range_with_len 0 (length e.places)) else range_with_len 0 (length e.places) ∷ [])
+        → (if b && c then orders (length e.places) e.places else e.places ∷ [])
+            ≡ map (places_at e) (if c then orders (length e.places) (range_with_len 0 (length e.places)) else range_with_len 0 (length e.places) ∷ [])
     by true true x y =
         ap (orders (length e.places)) (sym whole) ∙ orders_map (λ k. slice_index_or e.places k given.Gap) (length e.places) (range_with_len 0 (length e.places))
     by true false x y = alone
@@ -112,7 +115,8 @@ module _ {X : Type 0} (P : X → Type 0) (F : ℕ → List X) where
   none_range a (suc m) h =
       append_none P (F a) (flat_map F (range_with_len (a + 1) m)) None (h a (omega arith) (omega arith)) (none_range (a + 1) m (λ k l u. h k (omega arith) (omega arith)))
 
-  some_range : (a m k : ℕ) (x : X) → a ≤ k → k < a + m → ((j : ℕ) → a ≤ j → j < k → IsFirstOrNone P (F j) None) → IsFirstOrNone P (F k) (Some x) → IsFirstOrNone P (flat_map F (range_with_len a m)) (Some x)
+  some_range : (a m k : ℕ) (x : X) → a ≤ k → k < a + m → ((j : ℕ) → a ≤ j → j < k → IsFirstOrNone P (F j) None) → IsFirstOrNone P (F k) (Some x)
+      → IsFirstOrNone P (flat_map F (range_with_len a m)) (Some x)
   some_range a zero k x l u before here = absurd (omega arith)
   some_range a (suc m) k x l u before here = elim (cases_Bool (a == k)) [
     | inl is ↦ append_some P (F a) (flat_map F (range_with_len (a + 1) m)) x (subst (λ j. IsFirstOrNone P (F j) (Some x)) (sym (same_number a k is)) here)
@@ -134,7 +138,8 @@ all_units (x ∷ xs) = (tt, all_units xs)
 
 -- ---- one step
 
-module _ (db : Database) (place : ℕ) (mode : DvMode) (pairs : List Pair) (es : List WrittenStep) (e : WrittenStep) (w : Wanted) (allowed : Option (List Pair)) (is_allowed : IsAllowed mode pairs allowed)
+module _ (db : Database) (place : ℕ) (mode : DvMode) (pairs : List Pair) (es : List WrittenStep) (e : WrittenStep) (w : Wanted)
+    (allowed : Option (List Pair)) (is_allowed : IsAllowed mode pairs allowed)
     (wanted : IsWantedBy es e w) where
   lack_same : (u : Use) → lack_of mode pairs u ≡ lack_in allowed u
   lack_same u = by mode is_allowed
@@ -240,7 +245,8 @@ module _ (db : Database) (place : ℕ) (mode : DvMode) (pairs : List Pair) (es :
               let a = h.found.fits.values in (
                 a.0,
                 to_use f.label f.order
-                    (first_is_one (FitsLabel db allowed w f.label) (IsOrder (length w.hyps) (length w.hyps)) (orders_of (length w.hyps)) f.order (all_orders (length w.hyps)) h.found.fits.first) there a.0 f.trees a.1,
+                    (first_is_one (FitsLabel db allowed w f.label) (IsOrder (length w.hyps) (length w.hyps)) (orders_of (length w.hyps)) f.order
+                        (all_orders (length w.hyps)) h.found.fits.first) there a.0 f.trees a.1,
               );
         }
 
@@ -259,7 +265,8 @@ answer_of d place bound w allowed count first (Ok o) h = λ kinds text mode pair
     answered (book kinds text d) place mode pairs es e w allowed is_allowed wanted bound most
     (λ l k.
     let both = first l (omega (arith, k, labels)) in
-    (λ x. subst (λ (c : Contents). slice_index_or c.positions l 0 < place) opened.contents (both.0 x), λ x. both.1 (subst (λ (c : Contents). slice_index_or c.positions l 0 < place) (sym opened.contents) x)))
+    (λ x. subst (λ (c : Contents). slice_index_or c.positions l 0 < place) opened.contents (both.0 x),
+        λ x. both.1 (subst (λ (c : Contents). slice_index_or c.positions l 0 < place) (sym opened.contents) x)))
     o (h kinds text opened)
 
 -- ---- what is found is sound

@@ -1,5 +1,6 @@
 -- How one assertion fits the wanted trees.
-use Rattle.std.proofs.Common.{◌≡◌, ℕ, zero, suc, ◌+◌, ◌<◌, ◌≤◌, Bool, true, false, List, [], ◌∷◌, length, map, get_or, nat_le, Option, Some, None, option_map, refl, sym, ap, subst, ◌∙◌, inl, inr, arith, Result, Ok, Err, IfOk}
+use Rattle.std.proofs.Common.{◌≡◌, ℕ, zero, suc, ◌+◌, ◌<◌, ◌≤◌, Bool, true, false, List, [], ◌∷◌, length, map, get_or, nat_le, Option, Some, None}
+use Rattle.std.proofs.Common.{option_map, refl, sym, ap, subst, ◌∙◌, inl, inr, arith, Result, Ok, Err, IfOk}
 use Rattle.std.proofs.lemmas.Bool.Decides.{nat_tests}
 use Rattle.std.specs.List.{AllByRecursion, range_with_len}
 use Rattle.mm_base.specs.declared.errors.Memory.{Memory}
@@ -113,7 +114,8 @@ module _ (a : Assertion) (given : Option (List Pair)) (w : Wanted) where
 
 -- ---- what the calls say, put together
 
-module _ (given : Option (List Pair)) (frame : Frame) (vars others : List Sym) (old new : List Binding) (tree : Tree) (hyps : List Tree) (w : Wanted) (fits : Bool) (none : old ≡ []) (same : others ≡ vars)
+module _ (given : Option (List Pair)) (frame : Frame) (vars others : List Sym) (old new : List Binding) (tree : Tree) (hyps : List Tree) (w : Wanted)
+    (fits : Bool) (none : old ≡ []) (same : others ≡ vars)
     (m : IsMatched others (Becomes tree w.formula) old new fits) where
   matched : (a : Assertion) (b : Bool) → a.tree ≡ tree → fits ≡ b → IsMatched vars (Becomes a.tree w.formula) [] new b
   matched a b e f =

@@ -1,5 +1,6 @@
 -- All labels that fit, in order.
-use Rattle.std.proofs.Common.{◌≡◌, ◌↔◌, ℕ, zero, suc, ◌+◌, ◌<◌, ◌≤◌, ◌==◌, Bool, true, false, List, [], ◌∷◌, ◌++◌, length, nat_lt, map, fold, take, drop, get_or, Option, Some, None, is_some, refl, sym, ap, subst, ◌∙◌, ◌⊎◌, inl, inr, add-one, arith, Result, IfOk}
+use Rattle.std.proofs.Common.{◌≡◌, ◌↔◌, ℕ, zero, suc, ◌+◌, ◌<◌, ◌≤◌, ◌==◌, Bool, true, false, List, [], ◌∷◌, ◌++◌, length, nat_lt, map, fold, take}
+use Rattle.std.proofs.Common.{drop, get_or, Option, Some, None, is_some, refl, sym, ap, subst, ◌∙◌, ◌⊎◌, inl, inr, add-one, arith, Result, IfOk}
 use Rattle.std.specs.BTreeSet.{insert_key}
 use Rattle.std.specs.List.{AllByRecursion, Contains, range_with_len, slice_index_or}
 use Rattle.std.specs.Ordering.{nat_cmp}
@@ -155,7 +156,8 @@ module _ (db : Database) (given : Option (List Pair)) (w : Wanted) (bound : ℕ)
   no_longer : (l : Label) → NoFit db given w l → FitsBelow db given w bound l → ⊥
   no_longer l n p = let does = p.does in none_among (FitsLabel db given w l) (orders_of (length w.hyps)) does.order n does.among does.fits
 
-  pub label_looked_at : i < length labels → (get_or labels i d).0 < bound → (fits : Bool) → IsFitting db given w (get_or labels i d) fits → (new : List Label) → new ≡ put_if fits found (get_or labels i d)
+  pub label_looked_at : i < length labels → (get_or labels i d).0 < bound → (fits : Bool) → IsFitting db given w (get_or labels i d) fits
+      → (new : List Label) → new ≡ put_if fits found (get_or labels i d)
       → AreFittingAmong db given w bound (take (i + 1) labels) new
   label_looked_at h b fits is new e = record {
     those = subst (λ (xs : List Label). AreThoseWith (FitsBelow db given w bound) xs new) (sym (front_more labels i d h))
@@ -270,7 +272,8 @@ module _ (kinds : Kinds) (text : List ℕ) (d : Opened) (given : Option (List Pa
         subst (AreAllBelow (book kinds text d) given w bound) (sym numbers_are) (record {
           rise = labels_rise late (fold put_label [] early) (labels_rise early [] tt);
           each = labels_all (FitsBelow (book kinds text d) given w bound) late (fold put_label [] early) each
-              (labels_all (FitsBelow (book kinds text d) given w bound) early [] (all_with (FitsBelow (book kinds text d) given w bound) (by_head d.parsed None (length w.hyps)) early are_early.those) tt);
+              (labels_all (FitsBelow (book kinds text d) given w bound) early []
+                  (all_with (FitsBelow (book kinds text d) given w bound) (by_head d.parsed None (length w.hyps)) early are_early.those) tt);
           none_left_out = λ n p. no_longer_in (label n) (all_in (label n)) p;
         })
 
@@ -294,7 +297,8 @@ least low n (x ∷ xs) r c = elim (parted n x xs c) [
 ]
 
 module _ (P : Label → Type 0) where
-  those_in_range : (a m : ℕ) (ns : List ℕ) → NumbersRise a ns → AllByRecursion (λ n. n < a + m) ns → AllByRecursion (λ n. P (label n)) ns → ((n : ℕ) → a ≤ n → n < a + m → P (label n) → Contains ns n)
+  those_in_range : (a m : ℕ) (ns : List ℕ) → NumbersRise a ns → AllByRecursion (λ n. n < a + m) ns → AllByRecursion (λ n. P (label n)) ns
+      → ((n : ℕ) → a ≤ n → n < a + m → P (label n) → Contains ns n)
       → AreThoseWith P (map label (range_with_len a m)) (map label ns)
   those_in_range a zero [] r u p c = refl
   those_in_range a zero (n ∷ ns) r u p c = absurd (omega (arith, r.0, u.0))
@@ -323,7 +327,8 @@ module _ (P : Label → Type 0) where
       bounds [] h = tt
       bounds (k ∷ ks) h = (let x = h.0 in omega (arith, x), bounds ks h.1)
 
-module _ (db : Database) (place : ℕ) (mode : DvMode) (pairs : List Pair) (es : List WrittenStep) (e : WrittenStep) (w : Wanted) (allowed : Option (List Pair)) (is_allowed : IsAllowed mode pairs allowed)
+module _ (db : Database) (place : ℕ) (mode : DvMode) (pairs : List Pair) (es : List WrittenStep) (e : WrittenStep) (w : Wanted)
+    (allowed : Option (List Pair)) (is_allowed : IsAllowed mode pairs allowed)
     (wanted : IsWantedBy es e w) (bound : ℕ) (within : bound ≤ length db.labels) (before : (l : ℕ) → l < length db.labels → (l < bound) ↔ (position_of db (label l) < place)) where
   orders_wanted : search_orders e ≡ map (places_at e) (orders_of (length w.hyps))
   orders_wanted = orders_same e ∙ ap (λ n. map (places_at e) (orders_of n)) (as_many db place mode pairs es e w allowed is_allowed wanted)
@@ -381,5 +386,6 @@ answer_of_all d place bound w allowed count before numbers h ls is = subst (AreA
     all_answered (book kinds text d) place mode pairs es e w allowed is_allowed wanted bound most
     (λ l k.
     let both = before l (omega (arith, k, labels)) in
-    (λ x. subst (λ (c : Contents). slice_index_or c.positions l 0 < place) opened.contents (both.0 x), λ x. both.1 (subst (λ (c : Contents). slice_index_or c.positions l 0 < place) (sym opened.contents) x)))
+    (λ x. subst (λ (c : Contents). slice_index_or c.positions l 0 < place) opened.contents (both.0 x),
+        λ x. both.1 (subst (λ (c : Contents). slice_index_or c.positions l 0 < place) (sym opened.contents) x)))
     numbers (h kinds text opened))

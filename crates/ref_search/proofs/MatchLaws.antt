@@ -1,5 +1,6 @@
 -- How bindings grow, and what they say of the values that agree with them.
-use Rattle.std.proofs.Common.{◌≡◌, ℕ, zero, suc, ◌+◌, ◌<◌, ◌≤◌, ◌==◌, Bool, true, false, not, List, [], ◌∷◌, ◌++◌, length, map, get_or, drop, drop-cons, Some, None, refl, sym, ap, subst, ◌∙◌, inl, inr, add-one, append_assoc, arith, Result, Ok, Err, IfOk}
+use Rattle.std.proofs.Common.{◌≡◌, ℕ, zero, suc, ◌+◌, ◌<◌, ◌≤◌, ◌==◌, Bool, true, false, not, List, [], ◌∷◌, ◌++◌, length, map, get_or, drop}
+use Rattle.std.proofs.Common.{drop-cons, Some, None, refl, sym, ap, subst, ◌∙◌, inl, inr, add-one, append_assoc, arith, Result, Ok, Err, IfOk}
 use Rattle.std.proofs.lemmas.Bool.{cases_Bool}
 use Rattle.std.proofs.lemmas.List.{append-nil, length-append, length-map}
 use Rattle.std.specs.List.{AllByRecursion}
@@ -69,7 +70,8 @@ module _ (vars : List Sym) (Has : (Sym → Tree) → Type 0) where
       → IsMatched vars Has bs bs fits
   settled bs fits h k = record { longer = stays bs; bound = λ b. b; agrees = λ e f o a p. a; has = h; none = k }
 
-  pub refused : (old new : List Binding) → IsLonger old new → (AreBound vars old → AreBound vars new) → ((f : Sym → Tree) → IsOver vars f → Agrees f old → Has f → ⊥) → IsMatched vars Has old new false
+  pub refused : (old new : List Binding) → IsLonger old new → (AreBound vars old → AreBound vars new)
+      → ((f : Sym → Tree) → IsOver vars f → Agrees f old → Has f → ⊥) → IsMatched vars Has old new false
   refused old new l b h = record { longer = l; bound = b; agrees = λ e. absurd (cc); has = λ e. absurd (cc); none = λ e. h }
 
   pub refused_here : (bs : List Binding) → ((f : Sym → Tree) → Has f → ⊥) → IsMatched vars Has bs bs false
@@ -269,7 +271,9 @@ list_matched vars ps ts a b n h e m = renamed vars (BecomeTo n ps ts) (AllBecome
 ground_parts : (ts : List Tree) → (length (flatten (map open_leaves ts)) == 0) ≡ true → AllByRecursion (λ t. is_ground t ≡ true) ts
 ground_parts [] h = tt
 ground_parts (t ∷ ts) h =
-    let both : length (open_leaves t) + length (flatten (map open_leaves ts)) ≡ 0 = sym (length-append (open_leaves t) (flatten (map open_leaves ts))) ∙ same_number (length (open_leaves t ++ flatten (map open_leaves ts))) 0 h in
+    let both : length (open_leaves t) + length (flatten (map open_leaves ts)) ≡ 0 =
+        sym (length-append (open_leaves t) (flatten (map open_leaves ts)))
+            ∙ same_number (length (open_leaves t ++ flatten (map open_leaves ts))) 0 h in
     let one : length (open_leaves t) ≡ 0 = omega (arith, both) in
     let rest : length (flatten (map open_leaves ts)) ≡ 0 = omega (arith, both) in
     (rw one refl, ground_parts ts (rw rest refl))

@@ -1,5 +1,6 @@
 -- Values with the same variables or with none: what does not clash and lacks nothing still does so.
-use Rattle.std.proofs.Common.{◌≡◌, ◌⊎◌, Bool, false, not, List, [], ◌∷◌, ◌++◌, map, filter, filter_map, flat_map, fold, find, slice_get, Option, Some, None, refl, sym, ap, subst, ◌∙◌, inl, inr}
+use Rattle.std.proofs.Common.{◌≡◌, ◌⊎◌, Bool, false, not, List, [], ◌∷◌, ◌++◌, map, filter, filter_map, flat_map, fold, find, slice_get, Option, Some}
+use Rattle.std.proofs.Common.{None, refl, sym, ap, subst, ◌∙◌, inl, inr}
 use Rattle.std.specs.List.{cons_option, Contains}
 use Rattle.std.proofs.lemmas.Bool.{cases_Bool}
 use Rattle.std.proofs.lemmas.List.{map-append}
@@ -125,4 +126,6 @@ module _ (a : Assertion) (fewer more : List Tree) (same : (s : Sym) → IsSameOr
 
   pub lack_none : PairSetHoldsSame → (given : Option (List Pair)) → lack_in given (use_of a more) ≡ None → lack_in given (use_of a fewer) ≡ None
   lack_none holds None h = refl
-  lack_none holds (Some given) h = all_pass (λ p. not (is_pair_in given p)) (needed (use_of a fewer)) (λ x k. none_passes (λ p. not (is_pair_in given p)) (needed (use_of a more)) h x (needed_more holds x k))
+  lack_none holds (Some given) h =
+      all_pass (λ p. not (is_pair_in given p)) (needed (use_of a fewer))
+          (λ x k. none_passes (λ p. not (is_pair_in given p)) (needed (use_of a more)) h x (needed_more holds x k))

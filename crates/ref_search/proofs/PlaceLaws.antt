@@ -1,5 +1,6 @@
 -- The first order in which trees fit, order by order.
-use Rattle.std.proofs.Common.{◌≡◌, ℕ, zero, suc, ◌+◌, ◌<◌, ◌≤◌, Bool, true, false, List, [], ◌∷◌, ◌++◌, length, map, take, drop, drop-cons, get_or, Option, Some, None, option_map, refl, sym, ap, subst, ◌∙◌, inl, inr, add-one, arith, Result, Ok, Err, IfOk}
+use Rattle.std.proofs.Common.{◌≡◌, ℕ, zero, suc, ◌+◌, ◌<◌, ◌≤◌, Bool, true, false, List, [], ◌∷◌, ◌++◌, length, map, take, drop, drop-cons, get_or}
+use Rattle.std.proofs.Common.{Option, Some, None, option_map, refl, sym, ap, subst, ◌∙◌, inl, inr, add-one, arith, Result, Ok, Err, IfOk}
 use Rattle.std.proofs.lemmas.List.{drop_all, length-map, get_or-map, get_or_default}
 use Rattle.std.specs.List.{AllByRecursion, flat_map, remove}
 use Rattle.mm_base.specs.declared.errors.Memory.{Memory}
@@ -87,7 +88,8 @@ cons_tail x y xs ys e = cc
 pub rule_over : (a : Assertion) (frame : Frame) (vars : List Sym) (values : List Tree) → IsRule a frame vars → IsOver vars (value_of (use_of a values))
 rule_over a frame vars values rule = subst (λ vs. IsOver vs (value_of (use_of a values))) (sym rule.vars_are) (values_over a.vars values)
 
-module _ (a : Assertion) (given : Option (List Pair)) (frame : Frame) (vars : List Sym) (rule : IsRule a frame vars) (old new : List Binding) (h : Tree) (hs : List Tree) (t : Tree) (ts : List Tree) where
+module _ (a : Assertion) (given : Option (List Pair)) (frame : Frame) (vars : List Sym) (rule : IsRule a frame vars) (old new : List Binding)
+    (h : Tree) (hs : List Tree) (t : Tree) (ts : List Tree) where
   pub other_fails : IsMatched vars (Becomes h t) old new false → (values : List Tree) → Completes a given old (h ∷ hs) (t ∷ ts) values → ⊥
   other_fails m values c =
       let head : valued_by (value_of (use_of a values)) h ≡ t = cons_head (valued_by (value_of (use_of a values)) h) t (map (valued_by (value_of (use_of a values))) hs) ts c.hyps_are in
@@ -140,8 +142,11 @@ module _ (frame : Frame) (vars : List Sym) (old now : List Binding) (h : Tree) (
 
     none_begun : IsMatched vars (Becomes h t) old new false → IsFirstOrNone (CanComplete a given old (h ∷ hs) wanted) (begun_with (length hs) (at, remove places i)) None
     none_begun m =
-        first_map (CanComplete a given old (h ∷ hs) wanted) (λ order. CanComplete a given old (h ∷ hs) wanted (at ∷ order)) (λ order. at ∷ order) (λ order c. c) (λ order c. c) (orders (length hs) (remove places i)) None
-        (all_none (λ order. CanComplete a given old (h ∷ hs) wanted (at ∷ order)) (λ order c. other_fails a given frame vars rule old new h hs t (trees_at wanted order) m c.0 (from_tree order c.0 c.1)) (orders (length hs) (remove places i)))
+        first_map (CanComplete a given old (h ∷ hs) wanted) (λ order. CanComplete a given old (h ∷ hs) wanted (at ∷ order)) (λ order. at ∷ order)
+            (λ order c. c) (λ order c. c) (orders (length hs) (remove places i)) None
+        (all_none (λ order. CanComplete a given old (h ∷ hs) wanted (at ∷ order))
+            (λ order c. other_fails a given frame vars rule old new h hs t (trees_at wanted order) m c.0 (from_tree order c.0 c.1))
+            (orders (length hs) (remove places i)))
 
     first_begun : IsMatched vars (Becomes h t) old new true → (o : Option (List ℕ)) → IsFirstOrNone (CanComplete a given new hs wanted) (orders (length hs) (remove places i)) o
         → IsFirstOrNone (CanComplete a given old (h ∷ hs) wanted) (begun_with (length hs) (at, remove places i)) (option_map (λ order. at ∷ order) o)
@@ -160,7 +165,8 @@ module _ (frame : Frame) (vars : List Sym) (old now : List Binding) (h : Tree) (
     found_here : AreBound vars old → (order : List ℕ) → IsFirstOrNone (CanComplete a given old (h ∷ hs) wanted) (begun_with (length hs) (at, remove places i)) (Some order)
         → IsFirstOrNone (CanComplete a given old (h ∷ hs) wanted) (flat_map (begun_with (length hs)) (picks places)) (Some order)
     found_here bound order some =
-        reached (CanComplete a given old (h ∷ hs) wanted) (begun_with (length hs)) (picks places) (flat_map (begun_with (length hs)) (picks places)) i (at, places) order within (so_far.first a rule bound)
+        reached (CanComplete a given old (h ∷ hs) wanted) (begun_with (length hs)) (picks places) (flat_map (begun_with (length hs)) (picks places)) i
+            (at, places) order within (so_far.first a rule bound)
         (subst (λ p. IsFirstOrNone (CanComplete a given old (h ∷ hs) wanted) (begun_with (length hs) p) (Some order)) (sym the_pick) some)
 
   pub place_differs : (new cut : List Binding) → IsMatched vars (Becomes h t) old new false → cut ≡ old → IsPlacedTo frame vars old cut h hs wanted places given (i + 1)
@@ -183,7 +189,9 @@ pub place_none : (frame : Frame) (vars : List Sym) (old now : List Binding) (h :
     → IsPlacedTo frame vars old now h hs wanted places given i → (a : Assertion) → IsRule a frame vars → AreBound vars old
     → IsFirstFit a given old (h ∷ hs) wanted (orders (suc (length hs)) places) None
 place_none frame vars old now h hs wanted places given i le so_far a rule bound = record {
-  first = passed (CanComplete a given old (h ∷ hs) wanted) (begun_with (length hs)) (picks places) (flat_map (begun_with (length hs)) (picks places)) i (rw length-picks le) (so_far.first a rule bound);
+  first =
+      passed (CanComplete a given old (h ∷ hs) wanted) (begun_with (length hs)) (picks places) (flat_map (begun_with (length hs)) (picks places)) i
+          (rw length-picks le) (so_far.first a rule bound);
   values = tt;
 }
 
@@ -203,13 +211,17 @@ of_whole a given bs hyps h hs wanted places o e f = subst (λ xs. IsFirstFit a g
 
 pub of_parts : (a : Assertion) (given : Option (List Pair)) (bs : List Binding) (hs wanted : List Tree) (places left : List ℕ) (o p : Option Fit) → places ≡ left → o ≡ p
     → IsFirstFit a given bs hs wanted (orders (length hs) places) o → IsFirstFit a given bs hs wanted (orders (length hs) left) p
-of_parts a given bs hs wanted places left o p e f x = subst (λ q. IsFirstFit a given bs hs wanted (orders (length hs) left) q) f (subst (λ ps. IsFirstFit a given bs hs wanted (orders (length hs) ps) o) e x)
+of_parts a given bs hs wanted places left o p e f x =
+    subst (λ q. IsFirstFit a given bs hs wanted (orders (length hs) left) q) f
+        (subst (λ ps. IsFirstFit a given bs hs wanted (orders (length hs) ps) o) e x)
 
 no_elements : {X : Type 0} (xs : List X) → length xs ≡ 0 → xs ≡ []
 no_elements [] e = refl
 no_elements (x ∷ xs) e = absurd (omega (arith, e))
 
-pub end_placed : (frame : Frame) (vars : List Sym) (given : Option (List Pair)) (bs other : List Binding) (hyps wanted : List Tree) (places : List ℕ) (r : Result (Option Fit) Memory) → length hyps ≡ 0 → other ≡ bs
+pub end_placed : (frame : Frame) (vars : List Sym) (given : Option (List Pair)) (bs other : List Binding) (hyps wanted : List Tree) (places : List ℕ)
+    (r : Result (Option Fit) Memory)
+    → length hyps ≡ 0 → other ≡ bs
     → IfOk r (λ o. (a : Assertion) (ts : List Tree) → IsRule a frame vars → AreBound vars other → IsFirstFit a given other [] ts ([] ∷ []) o)
     → IfOk r (λ o. (a : Assertion) → IsRule a frame vars → AreBound vars bs → IsFirstFit a given bs hyps wanted (orders (length hyps) places) o)
 end_placed frame vars given bs other hyps wanted places (Err m) e f h = h

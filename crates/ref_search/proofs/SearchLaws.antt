@@ -1,5 +1,6 @@
 -- The first label that fits among some, and among all.
-use Rattle.std.proofs.Common.{◌≡◌, ℕ, zero, suc, ◌+◌, ◌<◌, ◌≤◌, ◌==◌, ◌&&◌, Bool, true, false, List, [], ◌∷◌, length, map, filter, take, get_or, slice_get, Option, Some, None, option_and_then, refl, sym, ap, subst, ◌∙◌, ◌⊎◌, inl, inr, add-one, arith, Result, IfOk}
+use Rattle.std.proofs.Common.{◌≡◌, ℕ, zero, suc, ◌+◌, ◌<◌, ◌≤◌, ◌==◌, ◌&&◌, Bool, true, false, List, [], ◌∷◌, length, map, filter, take, get_or}
+use Rattle.std.proofs.Common.{slice_get, Option, Some, None, option_and_then, refl, sym, ap, subst, ◌∙◌, ◌⊎◌, inl, inr, add-one, arith, Result, IfOk}
 use Rattle.std.proofs.lemmas.Bool.{cases_Bool}
 use Rattle.std.proofs.lemmas.Bool.Decides.{nat_tests}
 use Rattle.std.specs.List.{AllByRecursion, range_with_len}
@@ -104,7 +105,8 @@ pub stands_there : (N : Label → Type 0) (parsed : List (Option Parsed)) (head 
     → has_head head p.tree ≡ true → length p.hyps ≡ n → N l
 stands_there N parsed head n l p h e t c =
     let below = within parsed l.0 p e in
-    filter_has N (λ (l : Label). stands_by head n (parsed_at parsed l)) 0 (length parsed) l.0 h (omega arith) (omega (arith, below)) (ap (stands_by head n) e ∙ passes (has_head head p.tree) (length p.hyps) t c)
+    filter_has N (λ (l : Label). stands_by head n (parsed_at parsed l)) 0 (length parsed) l.0 h (omega arith) (omega (arith, below))
+        (ap (stands_by head n) e ∙ passes (has_head head p.tree) (length p.hyps) t c)
   where
     passes : (b : Bool) (k : ℕ) → b ≡ true → k ≡ n → (b && k == n) ≡ true
     passes true k x y = grind (arith, nat_tests, y)
@@ -172,7 +174,8 @@ module _ (kinds : Kinds) (text : List ℕ) (d : Opened) (given : Option (List Pa
     same_head_all v k m e =
         subst (λ x. AllByRecursion (λ (l : Label). l.0 < v → NoFit (book kinds text d) given w l) (by_head d.parsed (Some x) (length w.hyps))) (some_is_some (head_of w.formula) h m head e) k
 
-    pub early_first : (o : Option Found) → o ≡ None → IsFirstAmong (book kinds text d) given w (by_head d.parsed (Some h) (length w.hyps)) middle o → IsFirstBelow (book kinds text d) given w bound early
+    pub early_first : (o : Option Found) → o ≡ None → IsFirstAmong (book kinds text d) given w (by_head d.parsed (Some h) (length w.hyps)) middle o
+        → IsFirstBelow (book kinds text d) given w bound early
     early_first o none late = record {
       before = no_label kinds text d given w closed (upto bound early) among.before
           (same_head_all (upto bound early) (subst (λ v. AllByRecursion (λ (l : Label). l.0 < v → NoFit (book kinds text d) given w l) (by_head d.parsed (Some h) (length w.hyps)))

@@ -146,7 +146,8 @@ coded_values (v ∷ vs) (w ∷ ws) d e =
     let head : code_of w ≡ v.code = cc in
     let rest : map code_of ws ≡ map (λ (x : TypedVariable). x.code) vs = cc in (
       ap code_of (value_first v vs w ws v.sym (self_number v.sym.0)) ∙ head,
-      all_both (λ (x : TypedVariable). (v.sym.0 == x.sym.0) ≡ false) (λ (x : TypedVariable). code_of (value_in vs ws x.sym) ≡ x.code) (λ (x : TypedVariable). code_of (value_in (v ∷ vs) (w ∷ ws) x.sym) ≡ x.code)
+      all_both (λ (x : TypedVariable). (v.sym.0 == x.sym.0) ≡ false) (λ (x : TypedVariable). code_of (value_in vs ws x.sym) ≡ x.code)
+          (λ (x : TypedVariable). code_of (value_in (v ∷ vs) (w ∷ ws) x.sym) ≡ x.code)
           (λ x a b. ap code_of (value_later v vs w ws x.sym a) ∙ b) vs (first_differs v vs d) (coded_values vs ws (later_differ v vs d) rest),
     )
 
@@ -158,7 +159,8 @@ some_values f bs (v ∷ vs) a h =
     let rest = some_values f bs vs a h.1 in
     (here.0 ∷ rest.0, ap (λ o. with_value o (values_for bs vs)) here.1 ∙ ap (with_value (Some here.0)) rest.1)
 
-module _ (vs : List TypedVariable) (bs : List Binding) (ws : List Tree) (differ : VariablesDiffer vs) (codes : map code_of ws ≡ map (λ (v : TypedVariable). v.code) vs) (agrees : Agrees (value_in vs ws) bs) where
+module _ (vs : List TypedVariable) (bs : List Binding) (ws : List Tree) (differ : VariablesDiffer vs)
+    (codes : map code_of ws ≡ map (λ (v : TypedVariable). v.code) vs) (agrees : Agrees (value_in vs ws) bs) where
   pub values_exist : (trees : List Tree) × (values_for bs vs ≡ Some trees)
   values_exist = some_values (value_in vs ws) bs vs agrees (coded_values vs ws differ codes)
 

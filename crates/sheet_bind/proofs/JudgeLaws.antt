@@ -1,5 +1,6 @@
 -- What is taken in of one step, and of the items one by one.
-use Rattle.std.specs.Prelude.{◌≡◌, ◌<◌, ◌≤◌, ◌+◌, ℕ, ◌⊎◌, ◌&&◌, ◌==◌, nat_lt, not, Bool, true, false, List, [], ◌∷◌, ◌++◌, length, take, drop, Option, Some, None, option_map, refl}
+use Rattle.std.specs.Prelude.{◌≡◌, ◌<◌, ◌≤◌, ◌+◌, ℕ, ◌⊎◌, ◌&&◌, ◌==◌, nat_lt, not, Bool, true, false, List, [], ◌∷◌, ◌++◌, length, take, drop, Option}
+use Rattle.std.specs.Prelude.{Some, None, option_map, refl}
 use Rattle.std.proofs.Common.{arith, lit≤, sym, subst, ◌∙◌, inl, inr, get_or}
 use Rattle.std.proofs.lemmas.Bool.{cases_Bool}
 use Rattle.std.proofs.lemmas.Bool.Decides.{nat_tests}
@@ -18,7 +19,8 @@ use Rattle.formula_parse.specs.Answers.{IsOnly}
 use Rattle.sheet_bind.specs.declared.hyps.HypSteps.{HypSteps}
 use Rattle.sheet_bind.specs.declared.steps.Trees.{Trees}
 use Rattle.sheet_bind.specs.declared.steps.Trees.TheVariants as answer
-use Rattle.sheet_bind.specs.Judging.{IsFirstWith, AreTrees, with_trees, tree_in, TreeFault, Scene, scene, IsTreeIn, asks_in, StepStands, HasTreeIn, IsTreeOr, IsTreeJudged, IsStepJudged, is_worth, State, IsAdded, Runs}
+use Rattle.sheet_bind.specs.Judging.{IsFirstWith, AreTrees, with_trees, tree_in, TreeFault, Scene, scene, IsTreeIn, asks_in, StepStands, HasTreeIn}
+use Rattle.sheet_bind.specs.Judging.{IsTreeOr, IsTreeJudged, IsStepJudged, is_worth, State, IsAdded, Runs}
 use Rattle.sheet_bind.specs.Rules.{step_tests, asks, not_provable}
 use Rattle.sheet_bind.specs.Seen.{are_known, expression_at}
 use Rattle.sheet_bind.specs.Tests.{first_true, HoldsIn}

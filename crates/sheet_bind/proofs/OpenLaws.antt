@@ -39,7 +39,8 @@ use Rattle.sheet_bind.proofs.TokenLaws.{kept, SaysConstants}
 
 -- ---- over what is kept
 
-module _ (kinds : Kinds) (facts : PlaceFacts) (d : Opened) (s : Sheet) (says : SaysConstants kinds facts d (place kinds facts d s) (frame kinds facts d s)) (within : place kinds facts d s ≤ length d.contents.entries)
+module _ (kinds : Kinds) (facts : PlaceFacts) (d : Opened) (s : Sheet)
+    (says : SaysConstants kinds facts d (place kinds facts d s) (frame kinds facts d s)) (within : place kinds facts d s ≤ length d.contents.entries)
     (has_frame : (l : Label) (p : Parsed) → parsed_at d.parsed l ≡ Some p → (f : Frame) × (frame_at d.contents l ≡ Some f)) where
   abbrev db : Database
   db = base kinds facts d s
@@ -50,7 +51,8 @@ module _ (kinds : Kinds) (facts : PlaceFacts) (d : Opened) (s : Sheet) (says : S
   pairs_are : pairs_in d s ≡ given_pairs db s
   pairs_are = pairs_put d.contents.symbols s.pairs []
 
-  with_hyps : (hs ks : List Hyp) (ps qs : List Pair) → hs ≡ ks → ps ≡ qs → theorem_with (place kinds facts d s) (qed_formula db s) hs ps ≡ theorem_with (place kinds facts d s) (qed_formula db s) ks qs
+  with_hyps : (hs ks : List Hyp) (ps qs : List Pair) → hs ≡ ks → ps ≡ qs
+      → theorem_with (place kinds facts d s) (qed_formula db s) hs ps ≡ theorem_with (place kinds facts d s) (qed_formula db s) ks qs
   with_hyps hs ks ps qs e f =
       ap (λ (h : List Hyp). theorem_with (place kinds facts d s) (qed_formula db s) h ps) e ∙ ap (λ (p : List Pair). theorem_with (place kinds facts d s) (qed_formula db s) ks p) f
 

@@ -1,5 +1,6 @@
 -- The rules of a step, by what is kept of the theorem's place and of the steps before it, are those of the definitions.
-use Rattle.std.specs.Prelude.{◌≡◌, ◌≤◌, ℕ, zero, suc, ◌⊎◌, ◌&&◌, ◌||◌, not, Bool, true, false, List, [], ◌∷◌, length, map, take, filter, nat_lt, nat_le, slice_get, unwrap_or, Option, Some, None, option_map, is_some, is_none, refl}
+use Rattle.std.specs.Prelude.{◌≡◌, ◌≤◌, ℕ, zero, suc, ◌⊎◌, ◌&&◌, ◌||◌, not, Bool, true, false, List, [], ◌∷◌, length, map, take, filter, nat_lt}
+use Rattle.std.specs.Prelude.{nat_le, slice_get, unwrap_or, Option, Some, None, option_map, is_some, is_none, refl}
 use Rattle.std.specs.List.{list_all, list_any}
 use Rattle.std.specs.Option.{option_map_or}
 use Rattle.std.specs.Str.{bytes_eq}
@@ -89,7 +90,10 @@ module _ (kinds : Kinds) (facts : PlaceFacts) (d : Opened) (s : Sheet) where
 
   -- a fault of the step of a number
   abbrev pub StepAt : ℕ → SheetStep → ℕ → ℕ → Type 0
-  StepAt i t l c = (l ≡ t.line) × (HoldsIn (tested (λ (rule : ℕ → SheetStep → Bool). rule i t) (step_rules base s)) c ⊎ ((asks_for_tree base s t ≡ true) × TreeFault (IsTreeOf base place t.formula) c))
+  StepAt i t l c =
+      (l ≡ t.line)
+          × (HoldsIn (tested (λ (rule : ℕ → SheetStep → Bool). rule i t) (step_rules base s)) c
+              ⊎ ((asks_for_tree base s t ≡ true) × TreeFault (IsTreeOf base place t.formula) c))
 
   module _ (says : SaysConstants kinds facts d place frame) (within : place ≤ length d.contents.entries) where
     pub asks_same : (t : SheetStep) → asks kinds.provable (are_known d.contents (kept kinds facts d place frame) t.formula) t ≡ asks_for_tree base s t

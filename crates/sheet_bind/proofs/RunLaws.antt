@@ -1,5 +1,6 @@
 -- The items of a worksheet taken in one by one are its steps, and what is taken in is the first of their faults.
-use Rattle.std.specs.Prelude.{◌≡◌, ◌≤◌, ◌+◌, ℕ, zero, suc, ◌⊎◌, ◌&&◌, ◌||◌, ◌==◌, not, Bool, true, false, List, [], ◌∷◌, ◌++◌, length, take, filter, filter_map, slice_get, unwrap_or, Option, Some, None, refl}
+use Rattle.std.specs.Prelude.{◌≡◌, ◌≤◌, ◌+◌, ℕ, zero, suc, ◌⊎◌, ◌&&◌, ◌||◌, ◌==◌, not, Bool, true, false, List, [], ◌∷◌, ◌++◌, length, take, filter}
+use Rattle.std.specs.Prelude.{filter_map, slice_get, unwrap_or, Option, Some, None, refl}
 use Rattle.std.specs.List.{AllZip}
 use Rattle.std.specs.Str.{bytes_eq}
 use Rattle.std.proofs.Common.{arith, sym, ap, subst, ◌∙◌, inl, inr, cond, append-nil, append_assoc}
@@ -131,7 +132,9 @@ is_true : (b : Bool) → (not b ≡ true → ⊥) → b ≡ true
 is_true true h = refl
 is_true false h = absurd (h refl)
 
-module _ (kinds : Kinds) (facts : PlaceFacts) (d : Opened) (s : Sheet) (says : SaysConstants kinds facts d (place kinds facts d s) (frame kinds facts d s)) (within : place kinds facts d s ≤ length d.contents.entries) where
+module _ (kinds : Kinds) (facts : PlaceFacts) (d : Opened) (s : Sheet)
+    (says : SaysConstants kinds facts d (place kinds facts d s) (frame kinds facts d s))
+    (within : place kinds facts d s ≤ length d.contents.entries) where
   -- the steps from a number on
   abbrev pub Among : ℕ → List SheetStep → ℕ → ℕ → Type 0
   Among n [] l c = ⊥
@@ -163,9 +166,15 @@ module _ (kinds : Kinds) (facts : PlaceFacts) (d : Opened) (s : Sheet) (says : S
       → HasTree (base kinds facts d s) (place kinds facts d s) t.formula o
   read_tree hyps t None no_fault h =
       let provable = not_true (not_provable kinds.provable t) (λ e. no_fault t.line 65 (refl, inl (3, ap (λ (b : Bool). let p : ℕ × Bool = (65, b) in Some p) e))) in
-      let known = is_true (are_known d.contents (kept kinds facts d (place kinds facts d s) (frame kinds facts d s)) t.formula) (λ e. no_fault t.line 66 (refl, inl (4, ap (λ (b : Bool). let p : ℕ × Bool = (66, b) in Some p) e))) in
+      let known =
+          is_true (are_known d.contents (kept kinds facts d (place kinds facts d s) (frame kinds facts d s)) t.formula)
+              (λ e. no_fault t.line 66 (refl, inl (4, ap (λ (b : Bool). let p : ℕ × Bool = (66, b) in Some p) e))) in
       let short = not_true (formula_long t) (λ e. no_fault t.line 71 (refl, inl (6, ap (λ (b : Bool). let p : ℕ × Bool = (71, b) in Some p) e))) in
-      blank_nil t.formula (flip (is_blank t) (all_asked (not (is_blank t)) (not (not_provable kinds.provable t)) (are_known d.contents (kept kinds facts d (place kinds facts d s) (frame kinds facts d s)) t.formula) (not (formula_long t)) h provable known short))
+      blank_nil t.formula
+          (flip (is_blank t)
+              (all_asked (not (is_blank t)) (not (not_provable kinds.provable t))
+                  (are_known d.contents (kept kinds facts d (place kinds facts d s) (frame kinds facts d s)) t.formula)
+                  (not (formula_long t)) h provable known short))
   read_tree hyps t (Some u) no_fault h =
       let P = λ (e : List Leaf) (v : Tree). Parses d.rows (place kinds facts d s) e (logic_code (base kinds facts d s)) v in
       let same = expression_is kinds facts d (place kinds facts d s) (frame kinds facts d s) says within t.formula in
@@ -183,12 +192,16 @@ module _ (kinds : Kinds) (facts : PlaceFacts) (d : Opened) (s : Sheet) (says : S
   nothing_taken : (n : ℕ) (a b : State) → b ≡ a → AreTaken n [] a b
   nothing_taken n a b e = subst (AreTaken n [] a) (sym e) (record { first = none_more a.first (Among n []) (λ l c x. x); added = []; steps_are = sym (append-nil a.steps); read = λ z. tt })
 
-  one_taken : (n : ℕ) (t : SheetStep) (ts : List SheetStep) (a m b : State) → AreNoted a.hyps (take n (steps s)) → IsStepAdded (here kinds facts d s) t a m → AreTaken (suc n) ts m b → AreTaken n (t ∷ ts) a b
+  one_taken : (n : ℕ) (t : SheetStep) (ts : List SheetStep) (a m b : State) → AreNoted a.hyps (take n (steps s))
+      → IsStepAdded (here kinds facts d s) t a m → AreTaken (suc n) ts m b → AreTaken n (t ∷ ts) a b
   one_taken n t ts a m b are step rest =
       let first_is : m.first ≡ step.after = ap (λ (x : State). x.first) step.new_is in
       let steps_is : m.steps ≡ a.steps ++ bound_of t step.tree ∷ [] = ap (λ (x : State). x.steps) step.new_is in
-      let judged : IsFirstWith a.first (StepStands (here kinds facts d s) a.hyps t) m.first = subst (IsFirstWith a.first (StepStands (here kinds facts d s) a.hyps t)) (sym first_is) step.judged.first in
-      let one = same_more (StepStands (here kinds facts d s) a.hyps t) (StepAt kinds facts d s n t) a.first m.first (step_there kinds facts d s says within n t a.hyps are) (step_back kinds facts d s says within n t a.hyps are) judged in
+      let judged : IsFirstWith a.first (StepStands (here kinds facts d s) a.hyps t) m.first =
+          subst (IsFirstWith a.first (StepStands (here kinds facts d s) a.hyps t)) (sym first_is) step.judged.first in
+      let one =
+          same_more (StepStands (here kinds facts d s) a.hyps t) (StepAt kinds facts d s n t) a.first m.first
+              (step_there kinds facts d s says within n t a.hyps are) (step_back kinds facts d s says within n t a.hyps are) judged in
       record {
         first = both_more (StepAt kinds facts d s n t) (Among (suc n) ts) a.first m.first b.first one rest.first;
         added = bound_of t step.tree ∷ rest.added;
@@ -196,7 +209,9 @@ module _ (kinds : Kinds) (facts : PlaceFacts) (d : Opened) (s : Sheet) (says : S
         read = λ z.
             let none = none_before m.first (Among (suc n) ts) b.first rest.first z in
             let tree = step.judged.tree_is (sym first_is ∙ none) in
-            (record { hyp = refl; name = refl; places = refl; reference = refl; tree = read_tree a.hyps t step.tree (none_stands a.first (StepStands (here kinds facts d s) a.hyps t) m.first judged none) tree }, rest.read z);
+            (record { hyp = refl; name = refl; places = refl; reference = refl;
+                tree = read_tree a.hyps t step.tree (none_stands a.first (StepStands (here kinds facts d s) a.hyps t) m.first judged none) tree },
+                rest.read z);
       }
 
   -- the steps of the items, one by one

@@ -18,7 +18,9 @@ use Rattle.solve_model.specs.Bound.{Standing, settled, candidate, standing_of_re
 use Rattle.sheet_bind.specs.Shown.{PlaceFacts, shown}
 use Rattle.sheet_bind.specs.Sizes.{usable_at, candidate_of, parsed_size, size_at, size_in}
 
-module _ (kinds : Kinds) (facts : PlaceFacts) (d : Opened) (has_frame : (l : Label) (p : Parsed) → parsed_at d.parsed l ≡ Some p → (f : Frame) × (frame_at d.contents l ≡ Some f)) (place : ℕ) (b : BoundStep) where
+module _ (kinds : Kinds) (facts : PlaceFacts) (d : Opened)
+    (has_frame : (l : Label) (p : Parsed) → parsed_at d.parsed l ≡ Some p → (f : Frame) × (frame_at d.contents l ≡ Some f)) (place : ℕ)
+    (b : BoundStep) where
   abbrev db : Database
   db = shown kinds facts d
 
@@ -47,7 +49,9 @@ module _ (kinds : Kinds) (facts : PlaceFacts) (d : Opened) (has_frame : (l : Lab
     sizes false None q h = refl
     sizes false (Some f) q h = refl
 
-    picked : (t : Bool) → option_map_or (λ (m : Label). size_at d m (length b.places)) (cond t (Some l) None) 0 ≡ option_map_or (λ (m : Label). parsed_size (length b.places) (parsed_at d.parsed l)) (cond t (Some l) None) 0
+    picked : (t : Bool)
+        → option_map_or (λ (m : Label). size_at d m (length b.places)) (cond t (Some l) None) 0
+            ≡ option_map_or (λ (m : Label). parsed_size (length b.places) (parsed_at d.parsed l)) (cond t (Some l) None) 0
     picked true = refl
     picked false = refl
 
@@ -65,7 +69,9 @@ module _ (kinds : Kinds) (facts : PlaceFacts) (d : Opened) (has_frame : (l : Lab
   by_reference None = refl
   by_reference (Some r) = by_name (label_named d.contents.labels r)
 
-  by_kind : (t : Bool) → option_map_or (λ (m : Label). size_at d m (length b.places)) (cond t None (candidate_of d place b.reference)) 0 ≡ standing_size (cond t (settled verdict.Hyp) (standing_of_reference db place b b.reference))
+  by_kind : (t : Bool)
+      → option_map_or (λ (m : Label). size_at d m (length b.places)) (cond t None (candidate_of d place b.reference)) 0
+          ≡ standing_size (cond t (settled verdict.Hyp) (standing_of_reference db place b b.reference))
   by_kind true = refl
   by_kind false = by_reference b.reference
 

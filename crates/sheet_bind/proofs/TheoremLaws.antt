@@ -200,7 +200,9 @@ module _ (formula : List Sym) (hs : List Hyp) where
   needed_var w = used_has formula hs w.0
 
   -- some variable of the `$f` stands in the formulas
-  vars_needed : (vars : List Sym) → list_any (has_number (used_in formula hs)) vars ≡ list_any (λ (f : List Sym). list_any (λ (v : Sym). list_any (λ (w : Sym). w.0 == v.0) vars) f) (formula ∷ formulas_of hs)
+  vars_needed : (vars : List Sym)
+      → list_any (has_number (used_in formula hs)) vars
+          ≡ list_any (λ (f : List Sym). list_any (λ (v : Sym). list_any (λ (w : Sym). w.0 == v.0) vars) f) (formula ∷ formulas_of hs)
   vars_needed vars =
       ap (λ (p : Sym → Bool). list_any p vars) (fun_ext needed_var)
       ∙ any_swapped (λ (w : Sym) (f : List Sym). stands w.0 f) vars (formula ∷ formulas_of hs)
@@ -214,7 +216,8 @@ module _ (formula : List Sym) (hs : List Hyp) where
   needed_is : (h : Hyp) → is_needed (used_in formula hs) h ≡ is_mandatory (formula ∷ formulas_of hs) h
   needed_is h = by_kind h.floating (drop 1 h.formula)
 
-  names_put : (p : Hyp → Bool) (xs : List Hyp) (acc : List Name) → fold (λ (names : List Name) (h : Hyp). cond (p h) (names ++ h.name ∷ []) names) acc xs ≡ acc ++ map (λ (h : Hyp). h.name) (filter p xs)
+  names_put : (p : Hyp → Bool) (xs : List Hyp) (acc : List Name)
+      → fold (λ (names : List Name) (h : Hyp). cond (p h) (names ++ h.name ∷ []) names) acc xs ≡ acc ++ map (λ (h : Hyp). h.name) (filter p xs)
   names_put p [] acc = sym (append-nil acc)
   names_put p (h ∷ xs) acc = elim (cases_Bool (p h)) [
     | inl e ↦ rw e (names_put p xs (acc ++ h.name ∷ []) ∙ append_assoc acc (h.name ∷ []) (map (λ (h : Hyp). h.name) (filter p xs)))

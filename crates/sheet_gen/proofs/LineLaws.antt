@@ -1,5 +1,6 @@
 -- The lines of a block, from their pieces.
-use Rattle.std.proofs.Common.{◌≡◌, ◌≢◌, ◌==◌, ◌+◌, ◌-◌, ℕ, zero, suc, List, [], ◌∷◌, ◌++◌, cond, Bool, true, false, refl, sym, ◌∙◌, ap, append_assoc, codes, arith, add-one, add-zero}
+use Rattle.std.proofs.Common.{◌≡◌, ◌≢◌, ◌==◌, ◌+◌, ◌-◌, ℕ, zero, suc, List, [], ◌∷◌, ◌++◌, cond, Bool, true, false, refl, sym, ◌∙◌, ap, append_assoc}
+use Rattle.std.proofs.Common.{codes, arith, add-one, add-zero}
 use Rattle.std.proofs.lemmas.Bool.Decides.{nat_tests}
 use Rattle.std.proofs.lemmas.List.{append-nil}
 use Rattle.std.specs.List.{flat_map, range_with_len}
@@ -27,7 +28,9 @@ flat-append [] ys = refl
 flat-append (x ∷ xs) ys = ap (λ (bs : List ℕ). ended x ++ bs) (flat-append xs ys) ∙ sym (append_assoc (ended x) (flat_map ended xs) (flat_map ended ys))
 
 -- the lines of `( F -> F )`: the four first, the last one's name, and what stands behind it
-pub identity_is : (k : ℕ) (last : Name) (f : List Name) → flat_map ended (first_lines k f) ++ (last ++ behind_name (in_block (codes "a") k) (in_block (codes "e") k) (provable (implies f f))) ≡ flat_map ended (identity_lines k last f)
+pub identity_is : (k : ℕ) (last : Name) (f : List Name)
+    → flat_map ended (first_lines k f) ++ (last ++ behind_name (in_block (codes "a") k) (in_block (codes "e") k) (provable (implies f f)))
+        ≡ flat_map ended (identity_lines k last f)
 identity_is k last f =
     ap (λ (bs : List ℕ). flat_map ended (first_lines k f) ++ bs) (sym (two_places last (in_block (codes "a") k) (in_block (codes "e") k) (provable (implies f f))) ∙ sym (append-nil _))
     ∙ sym (flat-append (first_lines k f) (step_line last (in_block (codes "a") k ∷ in_block (codes "e") k ∷ []) (codes "ax-mp") (provable (implies f f)) ∷ []))
@@ -46,10 +49,16 @@ first_block count k e = rw e refl
 later : (k : ℕ) → k ≢ 1 → (k == 1) ≡ false
 later k h = grind (arith, nat_tests)
 
-pub later_block : (count k : ℕ) → k ≢ 1 → flat_map ended (identity_lines k (in_block (codes "f") k) (trial_formula (k - 1))) ++ flat_map ended (joining_lines k (end_name count k)) ≡ flat_map ended (block_lines count k)
+pub later_block : (count k : ℕ) → k ≢ 1
+    → flat_map ended (identity_lines k (in_block (codes "f") k) (trial_formula (k - 1))) ++ flat_map ended (joining_lines k (end_name count k))
+        ≡ flat_map ended (block_lines count k)
 later_block count k h =
     sym (flat-append (identity_lines k (in_block (codes "f") k) (trial_formula (k - 1))) (joining_lines k (end_name count k)))
-    ∙ ap (λ (b : Bool). flat_map ended (cond b (identity_lines k (end_name count k) (trial_formula (k - 1))) (identity_lines k (in_block (codes "f") k) (trial_formula (k - 1)) ++ joining_lines k (end_name count k)))) (sym (later k h))
+    ∙ ap
+        (λ (b : Bool). flat_map ended
+            (cond b (identity_lines k (end_name count k) (trial_formula (k - 1)))
+                (identity_lines k (in_block (codes "f") k) (trial_formula (k - 1)) ++ joining_lines k (end_name count k))))
+        (sym (later k h))
 
 -- ---- worksheets
 

@@ -1,12 +1,14 @@
 -- The forms of a header and of a step that were laid out.
-use Rattle.std.proofs.Common.{◌≡◌, ℕ, Bool, true, false, cond, not, ◌||◌, eqb, List, [], ◌∷◌, ◌++◌, length, map, Option, Some, None, refl, sym, ap, ◌∙◌, subst, inl, inr, append_assoc, codes, unwrap_or}
+use Rattle.std.proofs.Common.{◌≡◌, ℕ, Bool, true, false, cond, not, ◌||◌, eqb, List, [], ◌∷◌, ◌++◌, length, map, Option, Some, None, refl, sym, ap}
+use Rattle.std.proofs.Common.{◌∙◌, subst, inl, inr, append_assoc, codes, unwrap_or}
 use Rattle.std.proofs.lemmas.Bool.{cases_Bool}
 use Rattle.std.specs.Bool.{then_some}
 use Rattle.std.specs.Option.{option_map_or}
 use Rattle.std.specs.List.{list_all, slice_split, join_with_byte}
 use Rattle.mm_model.specs.Labels.{is_label_byte, is_label}
 use Rattle.sheet_text.specs.declared.sheet.SheetStep.{SheetStep}
-use Rattle.sheet_text.specs.Forms.{Header, header_of, header_with, loc_of, after_prefix, StepForm, marked_name, is_gap, is_entry, entry_of, parts_of, is_reference, reference_of, step_with, step_parts, step_of}
+use Rattle.sheet_text.specs.Forms.{Header, header_of, header_with, loc_of, after_prefix, StepForm, marked_name, is_gap, is_entry, entry_of, parts_of}
+use Rattle.sheet_text.specs.Forms.{is_reference, reference_of, step_with, step_parts, step_of}
 use Rattle.sheet_text.specs.Layout.{place_text, step_token}
 use Rattle.sheet_text.specs.Spellable.{is_token}
 use Rattle.sheet_laws.proofs.Tests.{and_left, and_right, both_true, both_false, true_not, not_true, not_empty, cond_else, all_append}
@@ -32,7 +34,8 @@ header_tokens theorem loc = codes "$(" ∷ more_header_tokens theorem loc
 abbrev pub header : List ℕ → Option (List ℕ) → Header
 header theorem loc = record { theorem = theorem; loc = loc }
 
-pub header_of-tokens : (theorem : List ℕ) (loc : Option (List ℕ)) → is_token theorem ≡ true → option_map_or is_label loc true ≡ true → header_of (header_tokens theorem loc) ≡ Some (header theorem loc)
+pub header_of-tokens : (theorem : List ℕ) (loc : Option (List ℕ)) → is_token theorem ≡ true → option_map_or is_label loc true ≡ true
+    → header_of (header_tokens theorem loc) ≡ Some (header theorem loc)
 header_of-tokens [] loc h k = absurd (cc)
 header_of-tokens (b ∷ bs) None h k = refl
 header_of-tokens (b ∷ bs) (Some l) h k = ap (header_with (Some (b ∷ bs))) (label_loc l k)
@@ -77,7 +80,8 @@ reference_of-written : (hyp : Bool) (r : Option (List ℕ)) → option_map_or is
 reference_of-written hyp None h = refl
 reference_of-written hyp (Some l) h = rw h refl
 
-reference_all : (p : ℕ → Bool) → ((b : ℕ) → is_label_byte b ≡ true → p b ≡ true) → (hyp : Bool) (r : Option (List ℕ)) → option_map_or is_label r (not hyp) ≡ true → list_all p (unwrap_or r []) ≡ true
+reference_all : (p : ℕ → Bool) → ((b : ℕ) → is_label_byte b ≡ true → p b ≡ true) → (hyp : Bool) (r : Option (List ℕ))
+    → option_map_or is_label r (not hyp) ≡ true → list_all p (unwrap_or r []) ≡ true
 reference_all p f hyp None h = refl
 reference_all p f hyp (Some l) h = label_all p f l h
 

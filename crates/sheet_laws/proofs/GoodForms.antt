@@ -1,5 +1,6 @@
 -- What holds of a header and of a step that tokens have the form of.
-use Rattle.std.proofs.Common.{◌≡◌, ◌⊎◌, ℕ, suc, zero, Bool, true, false, cond, not, ◌&&◌, ◌||◌, eqb, List, [], ◌∷◌, length, map, drop, Option, Some, None, refl, sym, ap, ◌∙◌, subst, inl, inr, codes}
+use Rattle.std.proofs.Common.{◌≡◌, ◌⊎◌, ℕ, suc, zero, Bool, true, false, cond, not, ◌&&◌, ◌||◌, eqb, List, [], ◌∷◌, length, map, drop, Option, Some}
+use Rattle.std.proofs.Common.{None, refl, sym, ap, ◌∙◌, subst, inl, inr, codes}
 use Rattle.std.proofs.lemmas.Bool.{cases_Bool}
 use Rattle.std.specs.Prelude.{option_and_then}
 use Rattle.std.specs.Bool.{then_some}
@@ -8,7 +9,8 @@ use Rattle.std.specs.List.{list_all, slice_split}
 use Rattle.std.specs.Str.{bytes_eq}
 use Rattle.mm_model.specs.Labels.{is_label}
 use Rattle.sheet_text.specs.Lines.{Line, tokens, tokens_of}
-use Rattle.sheet_text.specs.Forms.{Header, header_of, header_with, loc_of, loc_in, after_prefix, StepForm, marked_name, is_gap, entry_of, parts_of, is_reference, reference_of, step_with, step_parts, step_of}
+use Rattle.sheet_text.specs.Forms.{Header, header_of, header_with, loc_of, loc_in, after_prefix, StepForm, marked_name, is_gap, entry_of, parts_of}
+use Rattle.sheet_text.specs.Forms.{is_reference, reference_of, step_with, step_parts, step_of}
 use Rattle.sheet_text.specs.Spellable.{is_token}
 use Rattle.sheet_laws.proofs.Tests.{and_left, and_right, both_true, not_true, not_empty, cond_then, cond_else, all_append}
 use Rattle.sheet_laws.proofs.SplitLaws.{is_inked}

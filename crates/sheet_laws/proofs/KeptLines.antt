@@ -70,7 +70,8 @@ good_lines n (l ∷ ls) h =
     let more = good_lines (suc n) ls (and_right _ _ h) in
     let first = line n (trim_end l) in let rest = filter (λ m. not (is_blank m)) (numbered_from (suc n) ls) in
     elim (cases_Bool (not (is_blank first))) [
-      | inl e ↦ subst (λ t. list_all is_good t ≡ true) (sym (cond_then (not (is_blank first)) (first ∷ rest) rest e)) (both_true _ _ (good_line (trim_end l) (trim_is_trimmed l) (trim_no_end l (and_left _ _ h)) e) more)
+      | inl e ↦ subst (λ t. list_all is_good t ≡ true) (sym (cond_then (not (is_blank first)) (first ∷ rest) rest e))
+          (both_true _ _ (good_line (trim_end l) (trim_is_trimmed l) (trim_no_end l (and_left _ _ h)) e) more)
       | inr e ↦ subst (λ t. list_all is_good t ≡ true) (sym (cond_else (not (is_blank first)) (first ∷ rest) rest e)) more
     ]
 
@@ -112,7 +113,9 @@ kept_where false (l ∷ ls) h =
       | inr e ↦ subst (AllByRecursion IsKept) (sym (cond_else (opens_proof l) proof other e))
           (elim (cases_Bool (begins l)) [
             | inl f ↦ subst (AllByRecursion IsKept) (sym (cond_then (begins l) plain (statements_where false ls) f))
-                (record { lines = both_true _ _ (and_left _ _ h) (taken_all is_good (λ m. not (begins m)) ls (and_right _ _ h)); more = taken_pass (λ m. not (begins m)) ls }, kept_where false ls (and_right _ _ h))
+                (record { lines = both_true _ _ (and_left _ _ h) (taken_all is_good (λ m. not (begins m)) ls (and_right _ _ h));
+                    more = taken_pass (λ m. not (begins m)) ls },
+                    kept_where false ls (and_right _ _ h))
             | inr f ↦ subst (AllByRecursion IsKept) (sym (cond_else (begins l) plain (statements_where false ls) f)) (kept_where false ls (and_right _ _ h))
           ])
     ]
@@ -141,7 +144,8 @@ items_spellable (s ∷ ss) done k =
       | inr e ↦
           ap (λ (o : Option StepForm). list_all is_item_spellable (items_at done s o (items_from ss))) e
           ∙ elim (cases_Bool (is_comment s)) [
-            | inl c ↦ ap (list_all is_item_spellable) (cond_then (is_comment s) (comment_of s ∷ items_from ss done) (items_from ss done) c) ∙ both_true _ _ (comment_spellable s k.0 c) (items_spellable ss done k.1)
+            | inl c ↦ ap (list_all is_item_spellable) (cond_then (is_comment s) (comment_of s ∷ items_from ss done) (items_from ss done) c)
+                ∙ both_true _ _ (comment_spellable s k.0 c) (items_spellable ss done k.1)
             | inr c ↦ ap (list_all is_item_spellable) (cond_else (is_comment s) (comment_of s ∷ items_from ss done) (items_from ss done) c) ∙ items_spellable ss done k.1
           ]
     ]
@@ -168,6 +172,8 @@ pairs_spellable (s ∷ ss) before a =
     let more = pairs_spellable ss (s ∷ before) a.1 in
     let pair : PairLine = record { line = line_of s; names = symbols_of (tokens_in s) } in
     elim (cases_Bool (is_distinct s)) [
-      | inl e ↦ ap (λ (o : Option PairLine). list_all is_pair_spellable (cons_option o (filter_map pairs_at ss))) (cond_then (is_distinct s) (Some pair) None e) ∙ both_true _ _ (pair_spellable before s a.0 e) more
+      | inl e ↦ ap (λ (o : Option PairLine). list_all is_pair_spellable (cons_option o (filter_map pairs_at ss)))
+          (cond_then (is_distinct s) (Some pair) None e)
+          ∙ both_true _ _ (pair_spellable before s a.0 e) more
       | inr e ↦ ap (λ (o : Option PairLine). list_all is_pair_spellable (cons_option o (filter_map pairs_at ss))) (cond_else (is_distinct s) (Some pair) None e) ∙ more
     ]

@@ -1,5 +1,6 @@
 -- What the statements of a layout are.
-use Rattle.std.proofs.Common.{◌≡◌, ℕ, suc, true, false, cond, not, eqb, ltb, List, [], ◌∷◌, ◌++◌, length, map, Option, Some, None, refl, sym, ap, ◌∙◌, subst, append-nil, codes, slice_get, unwrap_or}
+use Rattle.std.proofs.Common.{◌≡◌, ℕ, suc, true, false, cond, not, eqb, ltb, List, [], ◌∷◌, ◌++◌, length, map, Option, Some, None, refl, sym, ap, ◌∙◌}
+use Rattle.std.proofs.Common.{subst, append-nil, codes, slice_get, unwrap_or}
 use Rattle.std.specs.Prelude.{flat_map}
 use Rattle.std.specs.Option.{option_map_or}
 use Rattle.std.specs.List.{list_all, list_any, last_or}
@@ -162,7 +163,9 @@ proof_tokens proof =
     ∙ ap (λ (l : List (List ℕ)). codes "$=" ∷ l) (tokens_at-parted 3 proof 32 (codes "$.") refl ∙ ap (λ (l : List (List ℕ)). tokens_at 3 proof ++ l) (tokens_at-token _ (codes "$.") refl))
 
 proof_ends : (n : ℕ) (proof : List ℕ) → ends_proof (line n (spaced (codes "$=" ∷ proof ∷ codes "$." ∷ []))) ≡ true
-proof_ends n proof = ap (λ (l : List (List ℕ)). is_word (codes "$.") (last_or None l)) (proof_tokens proof) ∙ ap (is_word (codes "$.")) (last_or-append (Some (codes "$=")) (tokens_at 3 proof) (codes "$.") [])
+proof_ends n proof =
+    ap (λ (l : List (List ℕ)). is_word (codes "$.") (last_or None l)) (proof_tokens proof)
+        ∙ ap (is_word (codes "$.")) (last_or-append (Some (codes "$=")) (tokens_at 3 proof) (codes "$.") [])
 
 pub proof_in : (n : ℕ) (proof : List ℕ) → tokens_in (statement_at n (proof_piece proof)) ≡ codes "$=" ∷ (tokens_at 3 proof ++ codes "$." ∷ [])
 proof_in n proof = append-nil (tokens (line n (spaced (codes "$=" ∷ proof ∷ codes "$." ∷ [])))) ∙ proof_tokens proof

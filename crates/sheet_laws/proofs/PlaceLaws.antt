@@ -1,5 +1,6 @@
 -- Steps among the steps before them: their names and places.
-use Rattle.std.proofs.Common.{◌≡◌, ◌<◌, ℕ, suc, zero, Bool, true, false, not, ◌&&◌, ◌||◌, List, [], ◌∷◌, ◌++◌, length, map, get_or, Option, Some, None, option_map, refl, sym, ap, ◌∙◌, arith, subst, inl, inr, append_assoc, codes, length-append, unwrap_or}
+use Rattle.std.proofs.Common.{◌≡◌, ◌<◌, ℕ, suc, zero, Bool, true, false, not, ◌&&◌, ◌||◌, List, [], ◌∷◌, ◌++◌, length, map, get_or, Option, Some}
+use Rattle.std.proofs.Common.{None, option_map, refl, sym, ap, ◌∙◌, arith, subst, inl, inr, append_assoc, codes, length-append, unwrap_or}
 use Rattle.std.proofs.lemmas.Bool.{cases_Bool}
 use Rattle.std.proofs.lemmas.Bool.Decides.{nat_tests}
 use Rattle.std.specs.Prelude.{filter_map}
@@ -142,7 +143,9 @@ places_read done later (g ∷ gs) h t b =
     let more = places_read done later gs h t (and_right _ _ b) in
     record {
       entries = both_true _ _ one.entry more.entries;
-      known = any_cons (λ e. not (contains done e)) (entry_of (place_text (done ++ later) g)) (filter_map (λ (e : Option (List ℕ)). e) (map entry_of (map (place_text (done ++ later)) gs))) one.known more.known;
+      known =
+          any_cons (λ e. not (contains done e)) (entry_of (place_text (done ++ later) g))
+              (filter_map (λ (e : Option (List ℕ)). e) (map entry_of (map (place_text (done ++ later)) gs))) one.known more.known;
       given = cons_same _ _ _ _ one.given more.given;
     }
 

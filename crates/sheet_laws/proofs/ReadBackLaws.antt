@@ -90,7 +90,8 @@ comment_same : (n : ℕ) (lines : List (List ℕ)) → is_comment_spellable line
 comment_same n [] h = absurd (cc)
 comment_same n (l ∷ ls) h = ap (λ t. item.Comment (l ∷ t)) (plain_bytes (suc n) ls)
 
-items_read : (full done : List (List ℕ)) (n : ℕ) (items : List SheetItem) (rest : List Piece) → AreItemsAt full done items → ((m : ℕ) (names : List (List ℕ)) → items_from (numbered m rest) names ≡ [])
+items_read : (full done : List (List ℕ)) (n : ℕ) (items : List SheetItem) (rest : List Piece) → AreItemsAt full done items
+    → ((m : ℕ) (names : List (List ℕ)) → items_from (numbered m rest) names ≡ [])
     → map unnumbered_item (items_from (numbered n (item_pieces full items ++ rest)) done) ≡ map unnumbered_item items
 items_read full done n [] rest a k = ap (map unnumbered_item) (k n done)
 items_read full done n (item.Comment lines ∷ items) rest a k =
@@ -108,7 +109,8 @@ pairs_no_items (p ∷ ps) m names h =
     let is = pair-is m p.names (and_left _ _ (and_left _ _ h)) (true_not _ (and_right _ _ (and_left _ _ h))) in
     pass_read names (statement_at m (pair_piece p.names)) (items_from (numbered (suc m + 0) (pair_pieces ps))) is.plain is.form ∙ pairs_no_items ps (suc m + 0) names (and_right _ _ h)
 
-tail_no_items : (proof : Option (List ℕ)) (ps : List PairLine) (m : ℕ) (names : List (List ℕ)) → list_all is_pair_spellable ps ≡ true → items_from (numbered m (proof_pieces proof ++ pair_pieces ps)) names ≡ []
+tail_no_items : (proof : Option (List ℕ)) (ps : List PairLine) (m : ℕ) (names : List (List ℕ)) → list_all is_pair_spellable ps ≡ true
+    → items_from (numbered m (proof_pieces proof ++ pair_pieces ps)) names ≡ []
 tail_no_items None ps m names h = pairs_no_items ps m names h
 tail_no_items (Some proof) ps m names h =
     let is = proof-is m proof in
@@ -133,15 +135,20 @@ pairs_read n (p ∷ ps) h =
     ap (map unnumbered_pairs) (one_pair s (numbered (suc n + 0) (pair_pieces ps)) is.distinct)
     ∙ cons_same _ _ _ _ (ap (λ (names : List (List ℕ)). unnumbered_pairs (record { line = n; names = names })) is.symbols) (pairs_read (suc n + 0) ps (and_right _ _ h))
 
-tail_pairs : (n : ℕ) (proof : Option (List ℕ)) (ps : List PairLine) → list_all is_pair_spellable ps ≡ true → map unnumbered_pairs (pairs_of (numbered n (proof_pieces proof ++ pair_pieces ps))) ≡ map unnumbered_pairs ps
+tail_pairs : (n : ℕ) (proof : Option (List ℕ)) (ps : List PairLine) → list_all is_pair_spellable ps ≡ true
+    → map unnumbered_pairs (pairs_of (numbered n (proof_pieces proof ++ pair_pieces ps))) ≡ map unnumbered_pairs ps
 tail_pairs n None ps h = pairs_read n ps h
-tail_pairs n (Some proof) ps h = ap (map unnumbered_pairs) (no_pair (statement_at n (proof_piece proof)) (numbered (suc n + 0) (pair_pieces ps)) (proof-is n proof).distinct) ∙ pairs_read (suc n + 0) ps h
+tail_pairs n (Some proof) ps h =
+    ap (map unnumbered_pairs) (no_pair (statement_at n (proof_piece proof)) (numbered (suc n + 0) (pair_pieces ps)) (proof-is n proof).distinct)
+        ∙ pairs_read (suc n + 0) ps h
 
 items_pairs : (full done : List (List ℕ)) (n : ℕ) (items : List SheetItem) (rest : List Piece) (pairs : List PairLine) → AreItemsAt full done items
     → ((m : ℕ) → map unnumbered_pairs (pairs_of (numbered m rest)) ≡ pairs) → map unnumbered_pairs (pairs_of (numbered n (item_pieces full items ++ rest))) ≡ pairs
 items_pairs full done n [] rest pairs a k = k n
 items_pairs full done n (item.Comment lines ∷ items) rest pairs a k =
-    ap (map unnumbered_pairs) (no_pair (statement_at n (comment_piece lines)) (numbered (suc n + length (comment_piece lines).more) (item_pieces full items ++ rest)) (comment-is n lines a.0).distinct)
+    ap (map unnumbered_pairs)
+        (no_pair (statement_at n (comment_piece lines)) (numbered (suc n + length (comment_piece lines).more) (item_pieces full items ++ rest))
+            (comment-is n lines a.0).distinct)
     ∙ items_pairs full done (suc n + length (comment_piece lines).more) items rest pairs a.1 k
 items_pairs full done n (item.Step t ∷ items) rest pairs a k =
     ap (map unnumbered_pairs) (no_pair (statement_at n (step_piece full t)) (numbered (suc n + 0) (item_pieces full items ++ rest)) (step-is full t n a.0.writable).distinct)

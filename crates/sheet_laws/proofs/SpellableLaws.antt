@@ -1,5 +1,6 @@
 -- What a text without a fault says can be spelled.
-use Rattle.std.proofs.Common.{◌≡◌, ℕ, true, false, cond, not, ◌&&◌, List, [], ◌∷◌, ◌++◌, Option, Some, None, refl, sym, ap, ◌∙◌, subst, inl, inr, codes, append-nil, append_assoc, is_none, slice_get}
+use Rattle.std.proofs.Common.{◌≡◌, ℕ, true, false, cond, not, ◌&&◌, List, [], ◌∷◌, ◌++◌, Option, Some, None, refl, sym, ap, ◌∙◌, subst, inl, inr}
+use Rattle.std.proofs.Common.{codes, append-nil, append_assoc, is_none, slice_get}
 use Rattle.std.proofs.lemmas.Bool.{cases_Bool}
 use Rattle.std.specs.Prelude.{filter_map, take_while}
 use Rattle.std.specs.List.{AllByRecursion}
@@ -27,7 +28,8 @@ use Rattle.sheet_laws.proofs.KeptLines.{IsKept, statements_kept, items_spellable
 abbrev HasQed : List (List ℕ) → List Statement → Type 0
 HasQed done ss = contains (done ++ names_in (steps_in (items_from ss done))) (codes "qed") ≡ true
 
-qed_there : (past : ℕ) (ls : List Line) (ss before : List Statement) (done : List (List ℕ)) → closing_fault past ls ss ≡ None → AreSound before ss → SameNames before done → HasQed done (before_footer ss)
+qed_there : (past : ℕ) (ls : List Line) (ss before : List Statement) (done : List (List ℕ)) → closing_fault past ls ss ≡ None → AreSound before ss
+    → SameNames before done → HasQed done (before_footer ss)
 qed_there past ls [] before done c a same = absurd (cc)
 qed_there past ls (s ∷ ss) before done c a same =
     elim (cases_Bool (is_footer s)) [
@@ -79,7 +81,8 @@ spellable_of past ls s ss h k a c e =
       each_pair = pairs_spellable front [] sound;
     }
 
-spellable_from : (past : ℕ) (ls : List Line) (ss : List Statement) (s : Sheet) → AllByRecursion IsKept ss → statement_fault ss ≡ None → closing_fault past ls ss ≡ None → sheet_in ss ≡ Some s → IsSpellable s
+spellable_from : (past : ℕ) (ls : List Line) (ss : List Statement) (s : Sheet) → AllByRecursion IsKept ss → statement_fault ss ≡ None
+    → closing_fault past ls ss ≡ None → sheet_in ss ≡ Some s → IsSpellable s
 spellable_from past ls [] s k f c e = absurd (cc)
 spellable_from past ls (h ∷ ss) s k f c e =
     let sound = header_sound h ss f in

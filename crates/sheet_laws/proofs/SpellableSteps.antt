@@ -1,5 +1,6 @@
 -- The steps of a text without a fault can be spelled.
-use Rattle.std.proofs.Common.{◌≡◌, ◌<◌, ℕ, suc, Bool, true, false, cond, not, ◌&&◌, ◌||◌, List, [], ◌∷◌, ◌++◌, length, map, Option, Some, None, option_map, refl, sym, ap, ◌∙◌, arith, subst, inl, inr, codes, append-nil, append_assoc, length-append, unwrap_or}
+use Rattle.std.proofs.Common.{◌≡◌, ◌<◌, ℕ, suc, Bool, true, false, cond, not, ◌&&◌, ◌||◌, List, [], ◌∷◌, ◌++◌, length, map, Option, Some, None}
+use Rattle.std.proofs.Common.{option_map, refl, sym, ap, ◌∙◌, arith, subst, inl, inr, codes, append-nil, append_assoc, length-append, unwrap_or}
 use Rattle.std.proofs.lemmas.Bool.{cases_Bool}
 use Rattle.std.proofs.lemmas.Bool.Decides.{nat_tests}
 use Rattle.std.specs.Prelude.{filter_map}
@@ -139,7 +140,8 @@ more_fine done line f steps h k none =
           elim (cases_Bool (contains (done ++ f.name ∷ []) (codes "qed"))) [
             | inl e ↦
                 let empty = none e in
-                let named : contains (f.name ∷ []) (codes "qed") ≡ true = ap (λ b. b || contains (f.name ∷ []) (codes "qed")) (sym n) ∙ sym (any_append (bytes_eq (codes "qed")) done (f.name ∷ [])) ∙ e in
+                let named : contains (f.name ∷ []) (codes "qed") ≡ true =
+                    ap (λ b. b || contains (f.name ∷ []) (codes "qed")) (sym n) ∙ sym (any_append (bytes_eq (codes "qed")) done (f.name ∷ [])) ∙ e in
                 let is : codes "qed" ≡ f.name = same_bytes (codes "qed") f.name (only _ named) in
                 let qed : is_qed f ≡ true = ap (λ (t : List ℕ). bytes_eq t (codes "qed")) (sym is) in
                 let hyp : f.hyp ≡ false = ap (λ b. b && f.hyp) (sym qed) ∙ h.qed in (

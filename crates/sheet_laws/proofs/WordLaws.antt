@@ -12,7 +12,10 @@ use Rattle.sheet_laws.proofs.Tests.{and_left, and_right, both_true, true_not, no
 
 put_before-front : (at b : ℕ) (ws vs : List Word) → StandsPast (suc at) vs → put_before at b (ws ++ vs) ≡ put_before at b ws ++ vs
 put_before-front at b [] vs h = put_before-apart at b vs h
-put_before-front at b (w ∷ ws) vs h = elim (eqb w.start (suc at)) as (λ t. cond t (word at (b ∷ w.bytes) ∷ ws ++ vs) (word at (b ∷ []) ∷ w ∷ ws ++ vs) ≡ cond t (word at (b ∷ w.bytes) ∷ ws) (word at (b ∷ []) ∷ w ∷ ws) ++ vs) [ true ↦ refl | false ↦ refl ]
+put_before-front at b (w ∷ ws) vs h =
+    elim (eqb w.start (suc at)) as
+        (λ t. cond t (word at (b ∷ w.bytes) ∷ ws ++ vs) (word at (b ∷ []) ∷ w ∷ ws ++ vs)
+            ≡ cond t (word at (b ∷ w.bytes) ∷ ws) (word at (b ∷ []) ∷ w ∷ ws) ++ vs) [ true ↦ refl | false ↦ refl ]
 
 -- bytes without white space are one word
 pub words_from-token : (at b : ℕ) (bs : List ℕ) → list_all (λ c. not (is_white c)) (b ∷ bs) ≡ true → words_from at (b ∷ bs) ≡ word at (b ∷ bs) ∷ []
@@ -55,7 +58,8 @@ tokens_at-spaced at (t ∷ u ∷ ts) h =
     ∙ ap (λ l. t ∷ l) (tokens_at-spaced (suc (at + length t)) (u ∷ ts) (and_right _ _ h))
 
 -- words are tokens
-put_before-tokens : (at b : ℕ) (ws : List Word) → is_white b ≡ false → list_all is_token (map (λ (w : Word). w.bytes) ws) ≡ true → list_all is_token (map (λ (w : Word). w.bytes) (put_before at b ws)) ≡ true
+put_before-tokens : (at b : ℕ) (ws : List Word) → is_white b ≡ false → list_all is_token (map (λ (w : Word). w.bytes) ws) ≡ true
+    → list_all is_token (map (λ (w : Word). w.bytes) (put_before at b ws)) ≡ true
 put_before-tokens at b [] e h = both_true _ _ (both_true _ _ (not_true _ (not_empty b [])) (both_true _ _ (not_true _ e) refl)) refl
 put_before-tokens at b (w ∷ ws) e h =
     elim (eqb w.start (suc at)) as (λ t. list_all is_token (map (λ (w : Word). w.bytes) (cond t (word at (b ∷ w.bytes) ∷ ws) (word at (b ∷ []) ∷ w ∷ ws))) ≡ true) [

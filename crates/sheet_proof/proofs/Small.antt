@@ -27,7 +27,8 @@ one_more place.Gap = refl
 one_more (place.Step k) = refl
 
 -- the number of one more place
-pub numbers_more : (ks : List Given) (i : ℕ) (d : Given) (ns now : List ℕ) → i < length ks → ns ≡ step_numbers (take i ks) → now ≡ ns ++ option_to_list (number_of (get_or ks i d)) → now ≡ step_numbers (take (i + 1) ks)
+pub numbers_more : (ks : List Given) (i : ℕ) (d : Given) (ns now : List ℕ) → i < length ks → ns ≡ step_numbers (take i ks)
+    → now ≡ ns ++ option_to_list (number_of (get_or ks i d)) → now ≡ step_numbers (take (i + 1) ks)
 numbers_more ks i d ns now inside e is =
     is ∙ ap (λ l. l ++ option_to_list (number_of (get_or ks i d))) e ∙ ap (λ l. step_numbers (take i ks) ++ l) (sym (one_more (get_or ks i d)))
     ∙ sym (filter_map-append number_of (take i ks) (get_or ks i d ∷ [])) ∙ ap step_numbers (sym (take_more ks i d inside))

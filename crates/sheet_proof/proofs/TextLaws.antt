@@ -68,7 +68,8 @@ module _ (db : Database) (theorem : Theorem) where
 
 -- ---- what is answered
 
-pub text_is : (db : Database) (s : ProofStyle) (theorem : Theorem) (es : List WrittenStep) (mandatory : List Name) (p : Proof) (text : List ℕ) → mandatory ≡ theorem.mandatory → p ≡ qed_proof db theorem es
+pub text_is : (db : Database) (s : ProofStyle) (theorem : Theorem) (es : List WrittenStep) (mandatory : List Name) (p : Proof) (text : List ℕ)
+    → mandatory ≡ theorem.mandatory → p ≡ qed_proof db theorem es
     → text ≡ text_in s mandatory p → text ≡ proof_text db s theorem es
 text_is db style.Normal theorem es mandatory p text m e h = h ∙ ap (λ q. text_in style.Normal mandatory q) e
 text_is db style.Compressed theorem es mandatory p text m e h = h ∙ ap (λ q. text_in style.Compressed mandatory q) e ∙ ap (λ ms. text_in style.Compressed ms (qed_proof db theorem es)) m
@@ -82,7 +83,8 @@ count_told p q n e h = h ∙ min_comm (2 ^ 64 - 1) (length (postorder p)) ∙ ap
 pub count_over : (p q : Proof) (n : ℕ) → p ≡ q → n ≡ label_count p → 2 ^ 20 < n → most_proof_labels < length (postorder q)
 count_over p q n e h l = let same = ap (λ x. length (postorder x)) e in omega (arith, same, h, l)
 
-pub told_is : (d : Opened) (s : ProofStyle) (theorem : Theorem) (es : List WrittenStep) (nodes : List ProofNode) (f : ProofFault) → IsGraphOf d theorem es nodes → IsToldIn s (root_proof nodes) f → IsToldOf d s theorem es f
+pub told_is : (d : Opened) (s : ProofStyle) (theorem : Theorem) (es : List WrittenStep) (nodes : List ProofNode) (f : ProofFault)
+    → IsGraphOf d theorem es nodes → IsToldIn s (root_proof nodes) f → IsToldOf d s theorem es f
 told_is d s theorem es nodes (TooLong n) g h = record {
   style_is = h.0;
   count = λ kinds text opened. count_told (root_proof nodes) (qed_proof (book kinds text d) theorem es) n (g kinds text opened) h.1;

@@ -1,5 +1,6 @@
 -- What proves the steps of a finished worksheet stands for them, and `qed` is used.
-use Rattle.std.specs.Prelude.{◌≡◌, ◌<◌, ◌≤◌, ◌+◌, ◌&&◌, ◌||◌, ◌==◌, ℕ, suc, Bool, true, false, List, [], ◌∷◌, ◌++◌, length, map, fold, cond, slice_get, slice_index_or, unwrap_or, option_map, option_and_then, is_none, Contains, Option, Some, None, refl}
+use Rattle.std.specs.Prelude.{◌≡◌, ◌<◌, ◌≤◌, ◌+◌, ◌&&◌, ◌||◌, ◌==◌, ℕ, suc, Bool, true, false, List, [], ◌∷◌, ◌++◌, length, map, fold, cond}
+use Rattle.std.specs.Prelude.{slice_get, slice_index_or, unwrap_or, option_map, option_and_then, is_none, Contains, Option, Some, None, refl}
 use Rattle.std.specs.List.{AllByRecursion, AllZip, list_all}
 use Rattle.std.specs.Option.{option_map_or}
 use Rattle.std.proofs.Common.{sym, ap, subst, ◌∙◌, arith, inl, inr, append_assoc, append-nil, length-append}
@@ -140,7 +141,8 @@ module _ (d : Opened) where
 
   -- ---- what is below `qed` is used
 
-  module _ (mode : DvMode) (allowed : List Pair) (es : List WrittenStep) (finished : Finished mode allowed es) (steps : (i : ℕ) (e : WrittenStep) → slice_get es i ≡ Some e → IsProvableStep d i e) where
+  module _ (mode : DvMode) (allowed : List Pair) (es : List WrittenStep) (finished : Finished mode allowed es)
+      (steps : (i : ℕ) (e : WrittenStep) → slice_get es i ≡ Some e → IsProvableStep d i e) where
     abbrev Done : List ProofStep → Type 0
     Done before = (k : ℕ) → k < length before → Below es k → used_at before k ≡ true
 
@@ -152,7 +154,8 @@ module _ (d : Opened) where
     whole_used true u ns h = refl
     whole_used false u ns h = absurd cc
 
-    names_used : (before : List ProofStep) (places : List Given) → list_all names_step places ≡ true → ((k : ℕ) → Contains places (place.Step k) → used_at before k ≡ true) → are_used before places ≡ true
+    names_used : (before : List ProofStep) (places : List Given) → list_all names_step places ≡ true
+        → ((k : ℕ) → Contains places (place.Step k) → used_at before k ≡ true) → are_used before places ≡ true
     names_used before [] h f = refl
     names_used before (place.Gap ∷ gs) h f = absurd (let impossible : false ≡ true = h in cc)
     names_used before (place.Step k ∷ gs) h f =
@@ -196,7 +199,9 @@ module _ (d : Opened) where
     all_done [] before pre e n sound done = subst Done (sym (append-nil before)) done
     all_done (s ∷ ss) before pre e n sound done =
         let p = proof_step d before s in
-        let at : slice_get es (length before) ≡ Some (step_in d s) = ap (λ xs. slice_get xs (length before)) e ∙ ap (slice_get (pre ++ step_in d s ∷ map (step_in d) ss)) (sym n) ∙ get_mid pre (step_in d s) (map (step_in d) ss) in
+        let at : slice_get es (length before) ≡ Some (step_in d s) =
+            ap (λ xs. slice_get xs (length before)) e ∙ ap (slice_get (pre ++ step_in d s ∷ map (step_in d) ss)) (sym n)
+                ∙ get_mid pre (step_in d s) (map (step_in d) ss) in
         let rest = all_done ss (before ++ p ∷ []) (pre ++ step_in d s ∷ []) (e ∙ sym (append_assoc pre (step_in d s ∷ []) (map (step_in d) ss)))
         (length-append pre (step_in d s ∷ []) ∙ ap (λ m. m + 1) n ∙ sym (length-append before (p ∷ []))) sound.1 (done_more before s sound.0 done at) in
         subst Done (append_assoc before (p ∷ []) (steps_from (before ++ p ∷ []) ss)) rest
@@ -232,7 +237,9 @@ module _ (d : Opened) where
     last_used root e =
         let same : root ≡ length provable.front = omega (arith, e, count) in
         let at : slice_get es root ≡ Some provable.last = ap (slice_get es) same ∙ ap (λ xs. slice_get xs (length provable.front)) provable.whole ∙ get_mid provable.front provable.last [] in
-        let done = all_done provable.mode provable.allowed es provable.finished provable.steps (drafts_in items) [] [] (steps_are items) refl (sound_drafts items sound) (λ k l b. absurd (omega (arith, l))) in
+        let done =
+            all_done provable.mode provable.allowed es provable.finished provable.steps (drafts_in items) [] [] (steps_are items) refl
+                (sound_drafts items sound) (λ k l b. absurd (omega (arith, l))) in
         (same, ap (λ ps. used_at ps root) all_steps ∙ done root (subst (λ n. root < n) (ap length all_steps) (omega (arith, e))) (at_qed root at provable.named))
 
     pub not_empty : 1 ≤ length (proof_steps d items)

@@ -69,14 +69,20 @@ code_unless : (c : ℕ) (b : Bool) (r : Rule) → option_map (λ (x : ℕ × Rul
 code_unless c true r = refl
 code_unless c false r = refl
 
-step_rules : (a b c : Bool) (p q r : Rule) → option_map (λ (x : ℕ × Rule). x.0) (cond a (Some (45, p)) (cond b (Some (46, q)) (cond (c || false) (Some (47, r)) None))) ≡ cond a (Some 45) (cond b (Some 46) (cond c (Some 47) None))
+step_rules : (a b c : Bool) (p q r : Rule)
+    → option_map (λ (x : ℕ × Rule). x.0) (cond a (Some (45, p)) (cond b (Some (46, q)) (cond (c || false) (Some (47, r)) None)))
+        ≡ cond a (Some 45) (cond b (Some 46) (cond c (Some 47) None))
 step_rules true b c p q r = refl
 step_rules false true c p q r = refl
 step_rules false false true p q r = refl
 step_rules false false false p q r = refl
 
 step_table : (names : List (List ℕ)) (st : Option StepForm) (o p q r : Rule)
-    → option_map (λ (x : ℕ × Rule). x.0) (cond (is_none st && true && true && true) (Some (44, o)) (cond (option_map_or (λ (f : StepForm). contains names f.name) st false) (Some (45, p)) (cond (option_map_or (λ (f : StepForm). is_unknown names f.entries) st false) (Some (46, q)) (cond (option_map_or (λ (f : StepForm). is_misplaced names f) st false || false) (Some (47, r)) None))))
+    → option_map (λ (x : ℕ × Rule). x.0)
+        (cond (is_none st && true && true && true) (Some (44, o))
+            (cond (option_map_or (λ (f : StepForm). contains names f.name) st false) (Some (45, p))
+                (cond (option_map_or (λ (f : StepForm). is_unknown names f.entries) st false) (Some (46, q))
+                    (cond (option_map_or (λ (f : StepForm). is_misplaced names f) st false || false) (Some (47, r)) None))))
     ≡ step_code names st
 step_table names None o p q r = refl
 step_table names (Some f) o p q r = step_rules (contains names f.name) (is_unknown names f.entries) (is_misplaced names f) p q r
@@ -85,8 +91,10 @@ pub code_by : (k : LineKind) (before : List Statement) (s : Statement) → Facts
 code_by kind.Indented before s h = let e = h.inked in absurd cc
 code_by kind.Comment before s h = let c = h.comment in let d = h.distinct in let f = h.footer in rw (c, f, d) refl
 code_by kind.Proof before s h = let c = h.comment in let d = h.distinct in let p = h.proof in let f = h.footer in let st = h.step in rw (st, c, d, p, f) refl
-code_by kind.Distinct before s h = let c = h.comment in let d = h.distinct in let f = h.footer in let st = h.step in rw (st, c, d, f) (code_if 49 (is_bad_distinct (symbols_of (tokens_in s))) bad_distinct)
-code_by kind.Footer before s h = let c = h.comment in let d = h.distinct in let p = h.proof in let f = h.footer in let st = h.step in rw (st, c, d, p, f) (code_unless 47 (contains (names_in before) (codes "qed")) qed_place)
+code_by kind.Distinct before s h = let c = h.comment in let d = h.distinct in let f = h.footer in let st = h.step in
+    rw (st, c, d, f) (code_if 49 (is_bad_distinct (symbols_of (tokens_in s))) bad_distinct)
+code_by kind.Footer before s h = let c = h.comment in let d = h.distinct in let p = h.proof in let f = h.footer in let st = h.step in
+    rw (st, c, d, p, f) (code_unless 47 (contains (names_in before) (codes "qed")) qed_place)
 code_by kind.Step before s h =
     let c = h.comment in let d = h.distinct in let p = h.proof in let f = h.footer in let st = h.step in
     rw (st, c, d, p, f) (step_table (names_in before) (step_of (tokens_in s)) bad_step name_twice hyp_unknown qed_place)
@@ -101,7 +109,9 @@ pub step_code-same : (before : List Statement) (names : List (List ℕ)) (st : O
 step_code-same before names None h = refl
 step_code-same before names (Some f) h =
     let twice : contains (names_in before) f.name ≡ contains names f.name = h.same f.name in
-    let unknown : is_unknown (names_in before) f.entries ≡ is_unknown names f.entries = any_same (λ e. not (contains (names_in before) e)) (λ e. not (contains names e)) (filter_map (λ (e : Option (List ℕ)). e) f.entries) (λ x. ap not (h.same x)) in
+    let unknown : is_unknown (names_in before) f.entries ≡ is_unknown names f.entries =
+        any_same (λ e. not (contains (names_in before) e)) (λ e. not (contains names e)) (filter_map (λ (e : Option (List ℕ)). e) f.entries)
+            (λ x. ap not (h.same x)) in
     let placed : is_misplaced (names_in before) f ≡ is_misplaced names f = ap (λ (b : Bool). b || (is_qed f && f.hyp)) (h.same (codes "qed")) in
     ap (λ (b : Bool). cond b (Some 45) (cond (is_unknown (names_in before) f.entries) (Some 46) (cond (is_misplaced (names_in before) f) (Some 47) None))) twice
     ∙ ap (λ (b : Bool). cond (contains names f.name) (Some 45) (cond b (Some 46) (cond (is_misplaced (names_in before) f) (Some 47) None))) unknown

@@ -1,5 +1,7 @@
 -- Searches in a mapped list.
-use Rattle.std.proofs.Common.{◌≡◌, ℕ, zero, suc, get_or, ◌+◌, ◌<◌, ◌≤◌, Bool, true, false, cond, not, ◌||◌, ltb, List, [], ◌∷◌, ◌++◌, length, map, take, take_while, drop, drop-cons, subst, position, Option, Some, None, option_map, refl, sym, ap, ◌∙◌, inl, inr, arith, Bor}
+use Rattle.std.proofs.Common.{◌≡◌, ℕ, zero, suc, get_or, ◌+◌, ◌<◌, ◌≤◌, Bool, true, false, cond, not, ◌||◌, ltb, List, [], ◌∷◌, ◌++◌, length, map}
+use Rattle.std.proofs.Common.{take, take_while, drop, drop-cons, subst, position, Option, Some, None, option_map, refl, sym, ap, ◌∙◌, inl, inr, arith}
+use Rattle.std.proofs.Common.{Bor}
 use Rattle.std.specs.List.{list_any, prefix_len, position_or_len}
 use Rattle.std.specs.Str.{bytes_eq}
 use Rattle.std.proofs.lemmas.Bool.{cases_Bool}
@@ -85,7 +87,8 @@ number-some p (x ∷ xs) n e =
 pub entry-unknown : (names : List (List ℕ)) (entry : List ℕ) (more : List (List ℕ)) → is_gap entry ≡ false → contains names entry ≡ false → is_unknown names (map entry_of (entry ∷ more)) ≡ true
 entry-unknown names entry more g h = rw (g, h) refl
 
-pub entry-known : (names : List (List ℕ)) (entry : List ℕ) (more : List (List ℕ)) → is_gap entry ≡ false → contains names entry ≡ true → is_unknown names (map entry_of (entry ∷ more)) ≡ is_unknown names (map entry_of more)
+pub entry-known : (names : List (List ℕ)) (entry : List ℕ) (more : List (List ℕ)) → is_gap entry ≡ false → contains names entry ≡ true
+    → is_unknown names (map entry_of (entry ∷ more)) ≡ is_unknown names (map entry_of more)
 entry-known names entry more g h = rw (g, h) refl
 
 pub entry-given : (names : List (List ℕ)) (entry : List ℕ) (n : ℕ) → is_gap entry ≡ false → first_number (bytes_eq entry) names ≡ Some n → given.Step n ≡ given_of names (entry_of entry)
@@ -201,20 +204,27 @@ not-true : (r b : Bool) → r ≡ not b → r ≡ true → b ≡ false
 not-true r true e f = absurd cc
 not-true r false e f = refl
 
-pub set-twice : (ts keys : List (Bor (List ℕ))) (i : ℕ) (d : Bor (List ℕ)) (r : Bool) → i < length ts → r ≡ not (list_any (seen_test (get_or ts i d)) keys) → r ≡ false → Sees (targets keys) (targets (drop i ts)) (targets ts) → true ≡ has_twice (targets ts)
+pub set-twice : (ts keys : List (Bor (List ℕ))) (i : ℕ) (d : Bor (List ℕ)) (r : Bool) → i < length ts
+    → r ≡ not (list_any (seen_test (get_or ts i d)) keys) → r ≡ false → Sees (targets keys) (targets (drop i ts)) (targets ts)
+    → true ≡ has_twice (targets ts)
 set-twice ts keys i d r lt e f h =
     let name = (get_or ts i d).now in
     let seen : contains (targets keys) name ≡ true = sym (any-map (bytes_eq name) (λ k. k.now) keys) ∙ not-not r (list_any (seen_test (get_or ts i d)) keys) e f in
     let here : Sees (targets keys) (name ∷ targets (drop (i + 1) ts)) (targets ts) = subst (λ (l : List (List ℕ)). Sees (targets keys) l (targets ts)) (rest-cons ts i d lt) h in
     sees-twice (targets keys) name (targets (drop (i + 1) ts)) (targets ts) seen here
 
-pub set-more : (ts keys new : List (Bor (List ℕ))) (i : ℕ) (d : Bor (List ℕ)) (r : Bool) → i < length ts → r ≡ not (list_any (seen_test (get_or ts i d)) keys) → r ≡ true → new ≡ cond (list_any (seen_test (get_or ts i d)) keys) keys (keys ++ get_or ts i d ∷ []) → Sees (targets keys) (targets (drop i ts)) (targets ts) → Sees (targets new) (targets (drop (i + 1) ts)) (targets ts)
+pub set-more : (ts keys new : List (Bor (List ℕ))) (i : ℕ) (d : Bor (List ℕ)) (r : Bool) → i < length ts
+    → r ≡ not (list_any (seen_test (get_or ts i d)) keys) → r ≡ true
+    → new ≡ cond (list_any (seen_test (get_or ts i d)) keys) keys (keys ++ get_or ts i d ∷ [])
+    → Sees (targets keys) (targets (drop i ts)) (targets ts) → Sees (targets new) (targets (drop (i + 1) ts)) (targets ts)
 set-more ts keys new i d r lt e f k h =
     let name = (get_or ts i d).now in
     let none = not-true r (list_any (seen_test (get_or ts i d)) keys) e f in
     let unseen : contains (targets keys) name ≡ false = sym (any-map (bytes_eq name) (λ k. k.now) keys) ∙ none in
     let here : Sees (targets keys) (name ∷ targets (drop (i + 1) ts)) (targets ts) = subst (λ (l : List (List ℕ)). Sees (targets keys) l (targets ts)) (rest-cons ts i d lt) h in
-    let put : targets new ≡ targets keys ++ name ∷ [] = ap targets (k ∙ cond_else (list_any (seen_test (get_or ts i d)) keys) keys (keys ++ get_or ts i d ∷ []) none) ∙ map-append (λ k. k.now) keys (get_or ts i d ∷ []) in
+    let put : targets new ≡ targets keys ++ name ∷ [] =
+        ap targets (k ∙ cond_else (list_any (seen_test (get_or ts i d)) keys) keys (keys ++ get_or ts i d ∷ []) none)
+            ∙ map-append (λ k. k.now) keys (get_or ts i d ∷ []) in
     subst (λ (l : List (List ℕ)). Sees l (targets (drop (i + 1) ts)) (targets ts)) (sym put) (sees-more (targets keys) name (targets (drop (i + 1) ts)) (targets ts) unseen here)
 
 pub set-start : (ts keys : List (Bor (List ℕ))) → keys ≡ [] → Sees (targets keys) (targets ts) (targets ts)

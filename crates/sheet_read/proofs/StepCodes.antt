@@ -6,7 +6,8 @@ use Rattle.sheet_text.specs.declared.sheet.Given.{Given}
 use Rattle.sheet_text.specs.Forms.{StepForm, entry_of}
 use Rattle.sheet_read.specs.Reading.{step_code, is_unknown, is_misplaced, AreGiven}
 
-pub step-misplaced : (names : List (List ℕ)) (f : StepForm) (n : ℕ) → contains names f.name ≡ false → is_unknown names f.entries ≡ false → is_misplaced names f ≡ true → option_map (λ code. fault n code) (step_code names (Some f)) ≡ Some (fault n 47)
+pub step-misplaced : (names : List (List ℕ)) (f : StepForm) (n : ℕ) → contains names f.name ≡ false → is_unknown names f.entries ≡ false
+    → is_misplaced names f ≡ true → option_map (λ code. fault n code) (step_code names (Some f)) ≡ Some (fault n 47)
 step-misplaced names f n c u m = rw (c, u, m) refl
 
 pub step-fits : (names : List (List ℕ)) (f : StepForm) → contains names f.name ≡ false → is_unknown names f.entries ≡ false → is_misplaced names f ≡ false → step_code names (Some f) ≡ None

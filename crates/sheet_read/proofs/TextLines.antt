@@ -1,5 +1,6 @@
 -- The lines as they are cut off a text, and the lines of the definitions.
-use Rattle.std.proofs.Common.{◌≡◌, ℕ, suc, ◌+◌, ◌≤◌, ◌^◌, Bool, true, false, cond, not, eqb, List, [], ◌∷◌, ◌++◌, length, take, drop, map, filter, refl, sym, ap, ◌∙◌, subst, arith, inl, inr, append_assoc, append-nil, length-append}
+use Rattle.std.proofs.Common.{◌≡◌, ℕ, suc, ◌+◌, ◌≤◌, ◌^◌, Bool, true, false, cond, not, eqb, List, [], ◌∷◌, ◌++◌, length, take, drop, map, filter}
+use Rattle.std.proofs.Common.{refl, sym, ap, ◌∙◌, subst, arith, inl, inr, append_assoc, append-nil, length-append}
 use Rattle.std.specs.List.{onto_first}
 use Rattle.std.proofs.lemmas.Bool.{cases_Bool}
 use Rattle.std.proofs.lemmas.Bool.Decides.{nat_tests}
@@ -44,7 +45,8 @@ trimmed-lines (b ∷ bs) =
     elim (cases_Bool (eqb b 10)) [
       | inl e ↦
           let is : b ≡ 10 = grind (arith, nat_tests) in
-          ap (λ (k : ℕ). trimmed (lines_of (k ∷ bs))) is ∙ ap trimmed (lines-feed bs) ∙ ap (λ (ls : List (List ℕ)). [] ∷ ls) (trimmed-lines bs) ∙ ap trimmed (sym (ap (λ (t : Bool). cond t ([] ∷ lines bs) (onto_first b (lines bs))) e))
+          ap (λ (k : ℕ). trimmed (lines_of (k ∷ bs))) is ∙ ap trimmed (lines-feed bs) ∙ ap (λ (ls : List (List ℕ)). [] ∷ ls) (trimmed-lines bs)
+              ∙ ap trimmed (sym (ap (λ (t : Bool). cond t ([] ∷ lines bs) (onto_first b (lines bs))) e))
       | inr e ↦ ap trimmed (lines-more b bs e) ∙ trimmed-onto b (lines_of bs) (lines bs) (trimmed-lines bs) ∙ ap trimmed (sym (ap (λ (t : Bool). cond t ([] ∷ lines bs) (onto_first b (lines bs))) e))
     ]
 
@@ -91,7 +93,9 @@ keeps-start text =
     let few = lines-few text in
     record { lines = kept-lines text; count = omega arith; few = omega arith; fits = omega arith }
 
-pub keeps-line : (kept : List Line) (number : ℕ) (bytes : List ℕ) (rest : List (List ℕ)) (text : List ℕ) → is_blank (line number (trim_end bytes)) ≡ false → Keeps kept number (bytes ∷ rest) text → Keeps (kept ++ line number (trim_end bytes) ∷ []) (number + 1) rest text
+pub keeps-line : (kept : List Line) (number : ℕ) (bytes : List ℕ) (rest : List (List ℕ)) (text : List ℕ)
+    → is_blank (line number (trim_end bytes)) ≡ false → Keeps kept number (bytes ∷ rest) text
+    → Keeps (kept ++ line number (trim_end bytes) ∷ []) (number + 1) rest text
 keeps-line kept number bytes rest text e h = record {
   lines =
       let one : number + 1 ≡ suc number = omega arith in
@@ -104,7 +108,8 @@ keeps-line kept number bytes rest text e h = record {
   fits = let c = h.fits in omega (arith, length-append kept (line number (trim_end bytes) ∷ []));
 }
 
-pub keeps-blank : (kept : List Line) (number : ℕ) (bytes : List ℕ) (rest : List (List ℕ)) (text : List ℕ) → is_blank (line number (trim_end bytes)) ≡ true → Keeps kept number (bytes ∷ rest) text → Keeps kept (number + 1) rest text
+pub keeps-blank : (kept : List Line) (number : ℕ) (bytes : List ℕ) (rest : List (List ℕ)) (text : List ℕ)
+    → is_blank (line number (trim_end bytes)) ≡ true → Keeps kept number (bytes ∷ rest) text → Keeps kept (number + 1) rest text
 keeps-blank kept number bytes rest text e h = record {
   lines =
       let one : number + 1 ≡ suc number = omega arith in

@@ -1,5 +1,6 @@
 -- From line to line: what was read, and the lines that are left.
-use Rattle.std.proofs.Common.{◌≡◌, ℕ, suc, ◌+◌, ◌<◌, ◌≤◌, Bool, false, List, [], ◌∷◌, length, take, drop, get_or, ◌-◌, drop-cons, Option, Some, None, sym, ap, ◌∙◌, subst, arith, length-append}
+use Rattle.std.proofs.Common.{◌≡◌, ℕ, suc, ◌+◌, ◌<◌, ◌≤◌, Bool, false, List, [], ◌∷◌, length, take, drop, get_or, ◌-◌, drop-cons, Option, Some, None}
+use Rattle.std.proofs.Common.{sym, ap, ◌∙◌, subst, arith, length-append}
 use Rattle.std.proofs.lemmas.List.{take_all, length-drop}
 use Rattle.mm_model.specs.Faults.{Fault}
 use Rattle.sheet_text.specs.Lines.{Line}

@@ -12,7 +12,8 @@ use Rattle.written_model.specs.declared.options.ProofStyle.TheVariants as style
 use Rattle.written_model.specs.WrittenSteps.{WrittenStep, steps_in, trees}
 use Rattle.written_model.specs.Named.{IsNaming}
 use Rattle.written_model.specs.ProofTrees.{Finished}
-use Rattle.written_model.specs.Written.{Writing, Writes, ItemIsSearched, after_filling, after_naming, IsTooLong, IsAmbiguous, written_bound, written_text, label_count, LateFault, IsLate, HasNoLateFault}
+use Rattle.written_model.specs.Written.{Writing, Writes, ItemIsSearched, after_filling, after_naming, IsTooLong, IsAmbiguous, written_bound}
+use Rattle.written_model.specs.Written.{written_text, label_count, LateFault, IsLate, HasNoLateFault}
 use Rattle.writing_laws.specs.HasWriting.{IsSolved}
 
 -- ---- what the worksheet becomes

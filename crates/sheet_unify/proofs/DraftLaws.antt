@@ -121,7 +121,8 @@ module _ (db : Database) (place : ℕ) (mode : DvMode) (allowed : List Pair) (es
 
 -- ---- what was found
 
-pub are_found : (d : Opened) (bound : Bound) (mode : DvMode) (filled named : List DraftItem) (result : Result (List DraftItem) memory.Memory) → AreNamed d bound filled named → IfOk result (AreSound d)
+pub are_found : (d : Opened) (bound : Bound) (mode : DvMode) (filled named : List DraftItem) (result : Result (List DraftItem) memory.Memory)
+    → AreNamed d bound filled named → IfOk result (AreSound d)
     → IfOk result (λ items. (kinds : Kinds) (text : List ℕ) → IsOpened kinds text d
     → AllZip (searching.ItemIsSearched (book kinds text d) bound.place mode bound.pairs (steps_in (items_in d named))) (items_in d named) (items_in d items))
     → IfOk result (AreFound d bound mode filled)
@@ -183,4 +184,7 @@ module _ (has : HasDatabaseFacts) (standing : MandatoryVariablesStand) (owned : 
       searched : (finished : Bool) → AllZip (ItemIsSearched db options (w finished)) (name_items names fs) (items_in d items)
       searched finished =
           written_searched db options (w finished) (name_items names fs) (items_in d items)
-          (subst (λ (xs : List WrittenItem). AllZip (searching.ItemIsSearched db bound.place options.dv bound.pairs (steps_in xs)) xs (items_in d items)) named_are (found.searched kinds database opened))
+          (subst
+              (λ (xs : List WrittenItem). AllZip (searching.ItemIsSearched db bound.place options.dv bound.pairs (steps_in xs)) xs
+                  (items_in d items)) named_are
+              (found.searched kinds database opened))

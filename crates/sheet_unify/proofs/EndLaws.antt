@@ -32,7 +32,9 @@ use Rattle.step_report.proofs.GivenLaws.{given_ordered}
 use Rattle.sheet_unify.specs.declared.faults.UnifyFault.{UnifyFault}
 use Rattle.sheet_unify.specs.declared.faults.UnifyFault.TheVariants as faults
 use Rattle.sheet_unify.specs.Answered.{refusal_of}
-use Rattle.sheet_unify.specs.Ended.{NoAmbiguous, HasSoundSteps, IsText, IsMade, ForMade, IsMadeOf, ForMadeOf, IsSmall, IsStepFault, IsSizeFault, IsProof, ForBooks, IsProofFault, IsLaidOut, IsLargeText, IsLargeFault, IsTextIn, EndFault, IsEndFault, IsTextFault, of_proof}
+use Rattle.sheet_unify.specs.Ended.{NoAmbiguous, HasSoundSteps, IsText, IsMade, ForMade, IsMadeOf, ForMadeOf, IsSmall, IsStepFault, IsSizeFault}
+use Rattle.sheet_unify.specs.Ended.{IsProof, ForBooks, IsProofFault, IsLaidOut, IsLargeText, IsLargeFault, IsTextIn, EndFault, IsEndFault}
+use Rattle.sheet_unify.specs.Ended.{IsTextFault, of_proof}
 use Rattle.sheet_unify.proofs.AnswerLaws.{ambiguous_late, much_late, proof_late, large_late}
 
 -- ---- numbers that are told
@@ -87,7 +89,8 @@ module _ (d : Opened) (place : ℕ) (items : List DraftItem) where
 
   pub small_is : (size : ℕ) → IsToldSize d place items size → size ≤ most_work_size → IsSmall d place items
   small_is size is low options database text w made much =
-      not_over (work_size (book options.kinds database d) (written_bound (book options.kinds database d) options w)) size most_work_size (omega arith) (size_of size is options database text w made) low much
+      not_over (work_size (book options.kinds database d) (written_bound (book options.kinds database d) options w)) size most_work_size (omega arith)
+          (size_of size is options database text w made) low much
 
   pub size_faulty : (size : ℕ) → IsToldSize d place items size → most_work_size < size → IsSizeFault d place items (faults.TooMuchWritten size)
   size_faulty size is over options database text w made none =

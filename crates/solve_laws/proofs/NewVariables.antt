@@ -18,7 +18,8 @@ use Rattle.solve_model.specs.declared.bound.Bound.{Bound}
 use Rattle.solve_model.specs.Trees.{Open, work, fresh, leaf_tree, open_code, replace, open_leaves, variables, flatten}
 use Rattle.solve_model.specs.Solutions.{Unknown, copy, Valuation, Asked, Solves, PlacesFit, IsUnknown, IsValuation, formula_value, formula, instance, open_value, no_step}
 use Rattle.solve_model.specs.MostGeneral.{Refinement, refine}
-use Rattle.solve_model.proofs.TreeLaws.{replace-Var, replace-Work, replace-Fresh, replace-Node, open_leaves-Work, open_leaves-Fresh, open_leaves-Node, variables-Var, variables-Work, variables-Fresh, variables-Node}
+use Rattle.solve_model.proofs.TreeLaws.{replace-Var, replace-Work, replace-Fresh, replace-Node, open_leaves-Work, open_leaves-Fresh, open_leaves-Node}
+use Rattle.solve_model.proofs.TreeLaws.{variables-Var, variables-Work, variables-Fresh, variables-Node}
 use Rattle.solve_laws.specs.Instances.{IsClosedTree, IsClosed}
 use Rattle.solve_laws.specs.NewVariables.{formula_variables, HasNot, NoNewVariable}
 use Rattle.solve_laws.specs.ReplacedTypes.{IsTypedAs, KeepsTypes}
@@ -39,7 +40,9 @@ module _ (a b : Sym → Typecode → Tree) (p q : Open → Tree) where
   all_same [] h f g = refl
   all_same (t ∷ ts) h f g =
       let one = h.0 (λ s c o. f s c (Contains-append_left (variables t) (flatten (map variables ts)) s o)) (λ x o. g x (Contains-append_left (open_leaves t) (flatten (map open_leaves ts)) x o)) in
-      let rest = all_same ts h.1 (λ s c o. f s c (Contains-append_right (variables t) (flatten (map variables ts)) s o)) (λ x o. g x (Contains-append_right (open_leaves t) (flatten (map open_leaves ts)) x o)) in
+      let rest =
+          all_same ts h.1 (λ s c o. f s c (Contains-append_right (variables t) (flatten (map variables ts)) s o))
+              (λ x o. g x (Contains-append_right (open_leaves t) (flatten (map open_leaves ts)) x o)) in
       cc
 
   replace-agree_on : (t : Tree) → Same t

@@ -27,7 +27,8 @@ module _ (rows : List Production) (before : ℕ) (at_var : Sym → Typecode → 
   abbrev Kept : Tree → Type 0
   Kept t = IsTyped rows before t → IsTypedAs rows before (code_of t) (replace at_var at_open t)
 
-  children_kept : (ts : List Tree) → Each Kept ts → Each (IsTyped rows before) ts → Each (IsTyped rows before) (map (replace at_var at_open) ts) × (map code_of (map (replace at_var at_open) ts) ≡ map code_of ts)
+  children_kept : (ts : List Tree) → Each Kept ts → Each (IsTyped rows before) ts
+      → Each (IsTyped rows before) (map (replace at_var at_open) ts) × (map code_of (map (replace at_var at_open) ts) ≡ map code_of ts)
   children_kept [] h p = (tt, refl)
   children_kept (t ∷ ts) h p =
       let first = h.0 p.0 in

@@ -1,5 +1,6 @@
 -- The theorem of a worksheet, and its place in the database.
-use Rattle.std.specs.Prelude.{ℕ, Bool, true, false, not, ◌&&◌, ◌||◌, List, [], ◌∷◌, ◌++◌, length, map, take, drop, find, nat_lt, if◌then◌else◌, filter, filter_map, flat_map, slice_get, unwrap_or, Option, Some, None, option_and_then, is_some, codes}
+use Rattle.std.specs.Prelude.{ℕ, Bool, true, false, not, ◌&&◌, ◌||◌, List, [], ◌∷◌, ◌++◌, length, map, take, drop, find, nat_lt, if◌then◌else◌}
+use Rattle.std.specs.Prelude.{filter, filter_map, flat_map, slice_get, unwrap_or, Option, Some, None, option_and_then, is_some, codes}
 use Rattle.std.specs.List.{list_any, list_all}
 use Rattle.std.specs.Option.{option_map_or}
 use Rattle.std.specs.Str.{bytes_eq}

@@ -5,7 +5,8 @@ use Rattle.mm_model.specs.Names.{sym}
 use Rattle.solve_model.specs.Firsts.{orders}
 use Rattle.solve_model.specs.PairSets.{ordered, pair_set}
 
-pub three : orders {X = ℕ} 3 (1 ∷ 2 ∷ 3 ∷ []) ≡ (1 ∷ 2 ∷ 3 ∷ []) ∷ (1 ∷ 3 ∷ 2 ∷ []) ∷ (2 ∷ 1 ∷ 3 ∷ []) ∷ (2 ∷ 3 ∷ 1 ∷ []) ∷ (3 ∷ 1 ∷ 2 ∷ []) ∷ (3 ∷ 2 ∷ 1 ∷ []) ∷ []
+pub three : orders {X = ℕ} 3 (1 ∷ 2 ∷ 3 ∷ [])
+    ≡ (1 ∷ 2 ∷ 3 ∷ []) ∷ (1 ∷ 3 ∷ 2 ∷ []) ∷ (2 ∷ 1 ∷ 3 ∷ []) ∷ (2 ∷ 3 ∷ 1 ∷ []) ∷ (3 ∷ 1 ∷ 2 ∷ []) ∷ (3 ∷ 2 ∷ 1 ∷ []) ∷ []
 three = refl
 
 -- by position: of two equal elements each order stands twice

@@ -1,5 +1,6 @@
 -- Formulas of a worksheet: what a token is, and the trees of a formula.
-use Rattle.std.specs.Prelude.{◌≡◌, ℕ, ◌+◌, ◌-◌, ◌*◌, ◌^◌, Bool, ◌&&◌, List, ◌∷◌, ◌++◌, drop, nat_lt, if◌then◌else◌, fold, filter_map, slice_get, decimal, Option, Some, None, option_map, option_and_then, codes, is_some}
+use Rattle.std.specs.Prelude.{◌≡◌, ℕ, ◌+◌, ◌-◌, ◌*◌, ◌^◌, Bool, ◌&&◌, List, ◌∷◌, ◌++◌, drop, nat_lt, if◌then◌else◌, fold, filter_map, slice_get}
+use Rattle.std.specs.Prelude.{decimal, Option, Some, None, option_map, option_and_then, codes, is_some}
 use Rattle.std.specs.Bool.{then_some}
 use Rattle.std.specs.Str.{bytes_eq}
 use Rattle.mm_base.specs.declared.symbols.Sym.{Sym}

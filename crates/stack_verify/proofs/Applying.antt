@@ -19,12 +19,14 @@ pub too_few : (thm : Theorem) (frame : Frame) (xs : List Sym) (es ks : List Span
 too_few thm frame xs es ks few =
     let test : ltb (length (reverse (formulas_in xs es))) (length frame.hyps) ≡ true = lt-ltb (length (reverse (formulas_in xs es))) (length frame.hyps) (omega (arith, stack_count xs es)) in
     cond_then (ltb (length (reverse (formulas_in xs es))) (length frame.hyps)) (Err underflow)
-    (and_then (λ (f : Formula). Ok (record { stack = f ∷ drop (length frame.hyps) (reverse (formulas_in xs es)); kept = formulas_in xs ks })) (applied thm frame (reverse (take (length frame.hyps) (reverse (formulas_in xs es)))))) test
+    (and_then (λ (f : Formula). Ok (record { stack = f ∷ drop (length frame.hyps) (reverse (formulas_in xs es)); kept = formulas_in xs ks }))
+        (applied thm frame (reverse (take (length frame.hyps) (reverse (formulas_in xs es)))))) test
 
 -- the state behind: the substituted formula, if the entries have no fault
 abbrev outcome : Theorem → Frame → List Sym → List Span → List Span → ℕ → Option MachineFault → Result State MachineFault
 outcome thm frame xs es ks b fault =
-    and_then (λ (f : Formula). Ok (record { stack = f ∷ reverse (formulas_in xs (take b es)); kept = formulas_in xs ks })) (unless fault (substituted (entries_of frame.hyps xs (drop b es)) frame.formula))
+    and_then (λ (f : Formula). Ok (record { stack = f ∷ reverse (formulas_in xs (take b es)); kept = formulas_in xs ks }))
+        (unless fault (substituted (entries_of frame.hyps xs (drop b es)) frame.formula))
 
 enough : (thm : Theorem) (frame : Frame) (xs : List Sym) (es ks : List Span) (b : ℕ) → b + length frame.hyps ≡ length es
     → apply_frame thm frame (state_of xs es ks) ≡ outcome thm frame xs es ks b (entries_fault thm frame (entries_of frame.hyps xs (drop b es)))
@@ -40,11 +42,13 @@ pub fits : (thm : Theorem) (frame : Frame) (xs : List Sym) (es ks : List Span) (
     → apply_frame thm frame (state_of xs es ks) ≡ Ok (push (substituted (entries_of frame.hyps xs (drop b es)) frame.formula) (state_of xs (take b es) ks))
 fits thm frame xs es ks b e n = enough thm frame xs es ks b e ∙ ap (outcome thm frame xs es ks b) n
 
-faulty : (thm : Theorem) (frame : Frame) (xs : List Sym) (es ks : List Span) (b : ℕ) (f : MachineFault) → b + length frame.hyps ≡ length es → entries_fault thm frame (entries_of frame.hyps xs (drop b es)) ≡ Some f
+faulty : (thm : Theorem) (frame : Frame) (xs : List Sym) (es ks : List Span) (b : ℕ) (f : MachineFault) → b + length frame.hyps ≡ length es
+    → entries_fault thm frame (entries_of frame.hyps xs (drop b es)) ≡ Some f
     → apply_frame thm frame (state_of xs es ks) ≡ Err f
 faulty thm frame xs es ks b f e n = enough thm frame xs es ks b e ∙ ap (outcome thm frame xs es ks b) n
 
-pub fails : (thm : Theorem) (frame : Frame) (xs : List Sym) (es ks : List Span) (b : ℕ) (fault : StepFault) → b + length frame.hyps ≡ length es → FailsAs fault (entries_fault thm frame (entries_of frame.hyps xs (drop b es)))
+pub fails : (thm : Theorem) (frame : Frame) (xs : List Sym) (es ks : List Span) (b : ℕ) (fault : StepFault) → b + length frame.hyps ≡ length es
+    → FailsAs fault (entries_fault thm frame (entries_of frame.hyps xs (drop b es)))
     → FailsWith fault (apply_frame thm frame (state_of xs es ks))
 fails thm frame xs es ks b step.Memory e h = tt
 fails thm frame xs es ks b step.Underflow e h = faulty thm frame xs es ks b _ e h
@@ -62,7 +66,8 @@ pub fails_at : (thm : Theorem) (frame : Frame) (xs ys : List Sym) (es fs ks span
 fails_at thm frame xs ys es fs ks spans b fault ex ef eb e h =
     let top : spans ≡ drop b es = eb ∙ ap (drop b) ef in
     fails thm frame xs es ks b fault e (
-    subst (λ (zs : List Sym). FailsAs fault (entries_fault thm frame (entries_of frame.hyps zs (drop b es)))) ex (subst (λ (l : List Span). FailsAs fault (entries_fault thm frame (entries_of frame.hyps ys l))) top h))
+    subst (λ (zs : List Sym). FailsAs fault (entries_fault thm frame (entries_of frame.hyps zs (drop b es)))) ex
+        (subst (λ (l : List Span). FailsAs fault (entries_fault thm frame (entries_of frame.hyps ys l))) top h))
 
 pub fits_at : (thm : Theorem) (frame : Frame) (xs ys : List Sym) (es fs ks ls spans : List Span) (hs : List Hyp) (b : ℕ) (new : State) (f g cleared formula : List Sym)
     → ys ≡ xs → fs ≡ es → spans ≡ drop b fs → b + length frame.hyps ≡ length es → hs ≡ frame.hyps → formula ≡ frame.formula → cleared ≡ []
@@ -72,7 +77,8 @@ fits_at thm frame xs ys es fs ks ls spans hs b new f g cleared formula ex ef eb 
     let top : spans ≡ drop b es = eb ∙ ap (drop b) ef in
     let result : Formula = substituted (entries_of frame.hyps xs (drop b es)) frame.formula in
     let fine : entries_fault thm frame (entries_of frame.hyps xs (drop b es)) ≡ None =
-    subst (λ (zs : List Sym). entries_fault thm frame (entries_of frame.hyps zs (drop b es)) ≡ None) ex (subst (λ (l : List Span). entries_fault thm frame (entries_of frame.hyps ys l) ≡ None) top none) in
+    subst (λ (zs : List Sym). entries_fault thm frame (entries_of frame.hyps zs (drop b es)) ≡ None) ex
+        (subst (λ (l : List Span). entries_fault thm frame (entries_of frame.hyps ys l) ≡ None) top none) in
     let is : f ≡ result =
     fg ∙ eg ∙ ap (λ (c : List Sym). c ++ substituted (entries_of hs ys spans) formula) ec ∙ ap (λ (h : List Hyp). substituted (entries_of h ys spans) formula) eh
     ∙ ap (λ (z : List Sym). substituted (entries_of frame.hyps z spans) formula) ex ∙ ap (λ (l : List Span). substituted (entries_of frame.hyps xs l) formula) top

@@ -29,7 +29,8 @@ entries_count hyps symbols spans e = length-zip hyps (formulas_in symbols spans)
 pub record Here (es : List Entry) (k : ℕ) (e : Entry) : Type 0 where
   pub rest : drop k es ≡ e ∷ drop (suc k) es
 
-pub entry_here : (hyps : List Hyp) (symbols : List Sym) (spans : List Span) (k : ℕ) (h : Hyp) (d : Span) → length spans ≡ length hyps → k < length hyps → h ≡ get_or hyps k h → Here (entries_of hyps symbols spans) k (h, formula_in symbols (get_or spans k d))
+pub entry_here : (hyps : List Hyp) (symbols : List Sym) (spans : List Span) (k : ℕ) (h : Hyp) (d : Span) → length spans ≡ length hyps
+    → k < length hyps → h ≡ get_or hyps k h → Here (entries_of hyps symbols spans) k (h, formula_in symbols (get_or spans k d))
 entry_here hyps symbols spans k h d e low is =
     let es = entries_of hyps symbols spans in
     let item : get_or es k (h, formula_in symbols d) ≡ (h, formula_in symbols (get_or spans k d)) =
@@ -58,7 +59,8 @@ pub next_none : (P : Entry → Bool) (es : List Entry) (k : ℕ) → length es �
 next_none P es k past n = sym n.rest ∙ ap (find P) (drop_all k es past)
 
 -- the same, under another name for the entry
-pub entry_at : (hyps : List Hyp) (symbols : List Sym) (spans : List Span) (k : ℕ) (h : Hyp) (f : Formula) (d : Span) → length spans ≡ length hyps → k < length hyps → h ≡ get_or hyps k h → f ≡ formula_in symbols (get_or spans k d) → Here (entries_of hyps symbols spans) k (h, f)
+pub entry_at : (hyps : List Hyp) (symbols : List Sym) (spans : List Span) (k : ℕ) (h : Hyp) (f : Formula) (d : Span) → length spans ≡ length hyps
+    → k < length hyps → h ≡ get_or hyps k h → f ≡ formula_in symbols (get_or spans k d) → Here (entries_of hyps symbols spans) k (h, f)
 entry_at hyps symbols spans k h f d e low is found = subst (λ (g : Formula). Here (entries_of hyps symbols spans) k (h, g)) (sym found) (entry_here hyps symbols spans k h d e low is)
 
 pub found_some : (P : Entry → Bool) (es : List Entry) (k : ℕ) (e : Entry) → Here es k e → P e ≡ true → Next P es k → true ≡ is_some (find P es)

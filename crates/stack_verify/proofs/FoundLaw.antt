@@ -1,5 +1,6 @@
 -- What was looked up is what the machine uses.
-use Rattle.std.proofs.Common.{◌≡◌, ◌≤◌, ◌<◌, ℕ, zero, suc, Bool, true, false, ltb, List, [], ◌∷◌, length, position, Option, Some, None, option_map, Result, Ok, Err, refl, sym, ap, ◌∙◌, arith, subst, inl, inr, Bor}
+use Rattle.std.proofs.Common.{◌≡◌, ◌≤◌, ◌<◌, ℕ, zero, suc, Bool, true, false, ltb, List, [], ◌∷◌, length, position, Option, Some, None, option_map}
+use Rattle.std.proofs.Common.{Result, Ok, Err, refl, sym, ap, ◌∙◌, arith, subst, inl, inr, Bor}
 use Rattle.std.specs.Prelude.{find, option_and_then, slice_get, slice_index_or}
 use Rattle.std.specs.Str.{bytes_eq}
 use Rattle.std.proofs.lemmas.Bool.{cases_Bool, le-ltb, lt-ltb, ltb-false, ltb-true}
@@ -13,7 +14,8 @@ use Rattle.proof_model.specs.declared.code.What.TheVariants as what
 use Rattle.proof_model.specs.declared.code.Step.{Step}
 use Rattle.proof_model.specs.declared.code.Code.{Code}
 use Rattle.proof_model.specs.declared.theorem.Theorem.{Theorem}
-use Rattle.proof_model.specs.Machine.{Frames, MachineFault, State, and_then, apply_frame, ended_fault, keep_top, not_earlier, numbered, proof_fault, run_steps, start, use_frame, use_hyp, use_label, use_step, use_what}
+use Rattle.proof_model.specs.Machine.{Frames, MachineFault, State, and_then, apply_frame, ended_fault, keep_top, not_earlier, numbered, proof_fault}
+use Rattle.proof_model.specs.Machine.{run_steps, start, use_frame, use_hyp, use_label, use_step, use_what}
 use Rattle.stack_verify.specs.declared.run.Found.{Found}
 use Rattle.stack_verify.specs.declared.run.Found.TheVariants as found
 use Rattle.stack_verify.specs.Founds.{found_fault, run_found, use_found_step, use_found_what, use_hyp_at}
@@ -62,7 +64,8 @@ hyp_found frames thm label k e =
     let is : find (λ (h : Hyp). bytes_eq h.name label) thm.hyps ≡ Some there.0 = find_place thm.hyps label ∙ ap (option_and_then (slice_get thm.hyps)) (sym e) ∙ there.1 in
     record { same = λ st. ap (λ (o : Option Hyp). use_hyp_at o st) there.1 ∙ ap (λ (o : Option Hyp). use_hyp frames thm label o st) (sym is) }
 
-no_hyp : (frames : Frames) (thm : Theorem) (label : List ℕ) (frame : Option Frame) (st : State) → None ≡ place_of thm.hyps label → frame ≡ frames label → use_frame frames thm frame st ≡ use_label frames thm label st
+no_hyp : (frames : Frames) (thm : Theorem) (label : List ℕ) (frame : Option Frame) (st : State) → None ≡ place_of thm.hyps label
+    → frame ≡ frames label → use_frame frames thm frame st ≡ use_label frames thm label st
 no_hyp frames thm label frame st e f =
     let is : find (λ (h : Hyp). bytes_eq h.name label) thm.hyps ≡ None = find_place thm.hyps label ∙ ap (option_and_then (slice_get thm.hyps)) (sym e) in
     ap (λ (o : Option Frame). use_frame frames thm o st) f ∙ ap (λ (o : Option Hyp). use_hyp frames thm label o st) (sym is)
@@ -70,12 +73,14 @@ no_hyp frames thm label frame st e f =
 pub no_frame : (frames : Frames) (thm : Theorem) (label : List ℕ) → None ≡ place_of thm.hyps label → None ≡ frames label → IsFound frames thm label found.Nothing
 no_frame frames thm label e f = record { same = λ st. no_hyp frames thm label None st e f }
 
-pub frame_found : (frames : Frames) (thm : Theorem) (label : List ℕ) (b : Bor Frame) → None ≡ place_of thm.hyps label → Some b.now ≡ frames label → b.now.at < thm.at → IsFound frames thm label (found.Assertion b)
+pub frame_found : (frames : Frames) (thm : Theorem) (label : List ℕ) (b : Bor Frame) → None ≡ place_of thm.hyps label → Some b.now ≡ frames label
+    → b.now.at < thm.at → IsFound frames thm label (found.Assertion b)
 frame_found frames thm label b e f low = record {
   same = λ st. sym (cond_then (ltb b.now.at thm.at) (apply_frame thm b.now st) (Err not_earlier) (lt-ltb b.now.at thm.at low)) ∙ no_hyp frames thm label (Some b.now) st e f;
 }
 
-pub late_frame : (frames : Frames) (thm : Theorem) (label : List ℕ) (frame : Frame) → None ≡ place_of thm.hyps label → Some frame ≡ frames label → thm.at ≤ frame.at → IsFound frames thm label found.Nothing
+pub late_frame : (frames : Frames) (thm : Theorem) (label : List ℕ) (frame : Frame) → None ≡ place_of thm.hyps label → Some frame ≡ frames label
+    → thm.at ≤ frame.at → IsFound frames thm label found.Nothing
 late_frame frames thm label frame e f high = record {
   same = λ st. sym (cond_else (ltb frame.at thm.at) (apply_frame thm frame st) (Err not_earlier) (le-ltb frame.at thm.at high)) ∙ no_hyp frames thm label (Some frame) st e f;
 }
@@ -100,14 +105,17 @@ entry_same frames thm labels table absent k t a =
           (subst (λ (l : List ℕ). IsFound frames thm l absent) (sym (get_or-eq_default labels [] high)) a)
     ]
 
-what_same : (frames : Frames) (thm : Theorem) (absent : Found) (mandatory table : List Found) (labels : List (List ℕ)) (w : What) (st : State) → IsFound frames thm [] absent → AreFound frames thm thm.mandatory mandatory → AreFound frames thm labels table
+what_same : (frames : Frames) (thm : Theorem) (absent : Found) (mandatory table : List Found) (labels : List (List ℕ)) (w : What) (st : State)
+    → IsFound frames thm [] absent → AreFound frames thm thm.mandatory mandatory → AreFound frames thm labels table
     → use_found_what thm absent mandatory table w st ≡ use_what frames thm labels w st
 what_same frames thm absent mandatory table labels (what.Hyp k) st a m t = (entry_same frames thm thm.mandatory mandatory absent k m a).same st
 what_same frames thm absent mandatory table labels (what.Listed k) st a m t = (entry_same frames thm labels table absent k t a).same st
 what_same frames thm absent mandatory table labels (what.Again k) st a m t = refl
 what_same frames thm absent mandatory table labels what.Unknown st a m t = refl
 
-pub run_same : (frames : Frames) (thm : Theorem) (absent : Found) (mandatory table : List Found) (labels : List (List ℕ)) (n : ℕ) (steps : List Step) (st : State) → IsFound frames thm [] absent → AreFound frames thm thm.mandatory mandatory → AreFound frames thm labels table
+pub run_same : (frames : Frames) (thm : Theorem) (absent : Found) (mandatory table : List Found) (labels : List (List ℕ)) (n : ℕ) (steps : List Step)
+    (st : State)
+    → IsFound frames thm [] absent → AreFound frames thm thm.mandatory mandatory → AreFound frames thm labels table
     → run_found thm absent mandatory table n steps st ≡ run_steps frames thm labels n steps st
 run_same frames thm absent mandatory table labels n [] st a m t = refl
 run_same frames thm absent mandatory table labels n (s ∷ ss) st a m t =
@@ -117,7 +125,9 @@ run_same frames thm absent mandatory table labels n (s ∷ ss) st a m t =
     ∙ same_and_then (run_found thm absent mandatory table (suc n) ss) (run_steps frames thm labels (suc n) ss) (numbered n (use_step frames thm labels s st))
     (λ (x : State). run_same frames thm absent mandatory table labels (suc n) ss x a m t)
 
-pub fault_same : (frames : Frames) (thm : Theorem) (code : Code) (absent : Found) (ms ls : List (List ℕ)) (mandatory table us vs : List Found) (steps : List Step) → ms ≡ thm.mandatory → ls ≡ code.labels → us ≡ mandatory → vs ≡ table → steps ≡ code.steps
+pub fault_same : (frames : Frames) (thm : Theorem) (code : Code) (absent : Found) (ms ls : List (List ℕ)) (mandatory table us vs : List Found)
+    (steps : List Step)
+    → ms ≡ thm.mandatory → ls ≡ code.labels → us ≡ mandatory → vs ≡ table → steps ≡ code.steps
     → IsFound frames thm [] absent → AreFound frames thm ms mandatory → AreFound frames thm ls table → found_fault thm absent us vs steps ≡ proof_fault frames thm code
 fault_same frames thm code absent ms ls mandatory table us vs steps em el eu ev es a m t =
     let m' : AreFound frames thm thm.mandatory mandatory = subst (λ (x : List (List ℕ)). AreFound frames thm x mandatory) em m in

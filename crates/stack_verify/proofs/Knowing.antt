@@ -14,7 +14,8 @@ or_same false true h = h refl
 or_same false false h = refl
 
 -- numbers that have a pair already, or get it
-pub with_pair : (old new : List (ℕ × ℕ)) (a b v w : ℕ) → new ≡ cond (list_any (is_pair a b) old) old (old ++ (a, b) ∷ []) → list_any (is_pair v w) new ≡ (list_any (is_pair v w) old || (is_pair v w (a, b) || false))
+pub with_pair : (old new : List (ℕ × ℕ)) (a b v w : ℕ) → new ≡ cond (list_any (is_pair a b) old) old (old ++ (a, b) ∷ [])
+    → list_any (is_pair v w) new ≡ (list_any (is_pair v w) old || (is_pair v w (a, b) || false))
 with_pair old new a b v w e =
     elim (cases_Bool (list_any (is_pair a b) old)) [
       | inl t ↦
@@ -29,7 +30,10 @@ with_pair old new a b v w e =
     ]
 
 pub pair_put : (old new : List (ℕ × ℕ)) (pairs : List Pair) (i : ℕ) (d : Pair) → i < length pairs
-    → new ≡ cond (list_any (is_pair (get_or pairs i d).a.0 (get_or pairs i d).b.0) old) old (old ++ ((get_or pairs i d).a.0, (get_or pairs i d).b.0) ∷ []) → SamePairs (take i pairs) old → SamePairs (take (i + 1) pairs) new
+    → new
+        ≡ cond (list_any (is_pair (get_or pairs i d).a.0 (get_or pairs i d).b.0) old) old
+            (old ++ ((get_or pairs i d).a.0, (get_or pairs i d).b.0) ∷ [])
+        → SamePairs (take i pairs) old → SamePairs (take (i + 1) pairs) new
 pair_put old new pairs i d low e h = record {
   same = λ v w.
       let test : Pair → Bool = λ (p : Pair). is_pair v w (p.a.0, p.b.0) in

@@ -1,5 +1,6 @@
 -- The code of a normal proof, label by label.
-use Rattle.std.proofs.Common.{◌≡◌, ◌<◌, ℕ, suc, ◌+◌, Bool, true, false, cond, ◌||◌, List, [], ◌∷◌, ◌++◌, length, map, position, take, get_or, Option, Some, None, option_map, refl, sym, ap, ◌∙◌, arith, subst, inl, inr}
+use Rattle.std.proofs.Common.{◌≡◌, ◌<◌, ℕ, suc, ◌+◌, Bool, true, false, cond, ◌||◌, List, [], ◌∷◌, ◌++◌, length, map, position, take, get_or, Option}
+use Rattle.std.proofs.Common.{Some, None, option_map, refl, sym, ap, ◌∙◌, arith, subst, inl, inr}
 use Rattle.std.proofs.lemmas.List.{map-append}
 use Rattle.std.proofs.Math.Seq.{take-suc}
 use Rattle.stack_verify.specs.declared.formula.Span.{Span}
@@ -76,25 +77,30 @@ name_new names new name e n = n ∙ sym (cond_else (contains names name) names (
 listed : (mandatory : List (List ℕ)) (name : List ℕ) (a b : Bool) → bytes_eq name (codes "?") ≡ a → contains mandatory name ≡ b → contains (codes "?" ∷ mandatory) name ≡ (a || b)
 listed mandatory name a b e f = ap (λ (t : Bool). t || contains mandatory name) e ∙ ap (λ (t : Bool). a || t) f
 
-pub hyp_passed : (hyps : List Hyp) (others : List (List ℕ)) (name : List ℕ) (k : ℕ) → place_of hyps name ≡ Some k → bytes_eq name (codes "?") ≡ false → others ≡ with_other (labels_of_hyps hyps) others name
+pub hyp_passed : (hyps : List Hyp) (others : List (List ℕ)) (name : List ℕ) (k : ℕ) → place_of hyps name ≡ Some k → bytes_eq name (codes "?") ≡ false
+    → others ≡ with_other (labels_of_hyps hyps) others name
 hyp_passed hyps others name k e q =
     let m = labels_of_hyps hyps in
     sym (cond_then (contains (codes "?" ∷ m) name) others (with_name others name) (listed m name false true q (there (bytes_eq name) m k (sym (names_place hyps name) ∙ e))))
 
-pub hyp_step : (hyps : List Hyp) (others : List (List ℕ)) (name : List ℕ) (k : ℕ) → place_of hyps name ≡ Some k → bytes_eq name (codes "?") ≡ false → step (what.Hyp k) false ≡ normal_step (labels_of_hyps hyps) others name
+pub hyp_step : (hyps : List Hyp) (others : List (List ℕ)) (name : List ℕ) (k : ℕ) → place_of hyps name ≡ Some k → bytes_eq name (codes "?") ≡ false
+    → step (what.Hyp k) false ≡ normal_step (labels_of_hyps hyps) others name
 hyp_step hyps others name k e q =
     let m = labels_of_hyps hyps in
     let p : position (bytes_eq name) m ≡ Some k = sym (names_place hyps name) ∙ e in
     sym (ap (λ (w : What). step w false) (
-    cond_else (bytes_eq name (codes "?")) what.Unknown (what_of m others name) q ∙ cond_then (contains m name) (what.Hyp (number_in m name)) (what.Listed (number_in others name)) (there (bytes_eq name) m k p)
+    cond_else (bytes_eq name (codes "?")) what.Unknown (what_of m others name) q
+        ∙ cond_then (contains m name) (what.Hyp (number_in m name)) (what.Listed (number_in others name)) (there (bytes_eq name) m k p)
     ∙ ap (λ (n : ℕ). what.Hyp n) (number_is m name k p)))
 
-pub other_passed : (hyps : List Hyp) (others new : List (List ℕ)) (name : List ℕ) → place_of hyps name ≡ None → bytes_eq name (codes "?") ≡ false → new ≡ with_name others name → new ≡ with_other (labels_of_hyps hyps) others name
+pub other_passed : (hyps : List Hyp) (others new : List (List ℕ)) (name : List ℕ) → place_of hyps name ≡ None → bytes_eq name (codes "?") ≡ false
+    → new ≡ with_name others name → new ≡ with_other (labels_of_hyps hyps) others name
 other_passed hyps others new name e q n =
     let m = labels_of_hyps hyps in
     n ∙ sym (cond_else (contains (codes "?" ∷ m) name) others (with_name others name) (listed m name false false q (none_there (bytes_eq name) m (sym (names_place hyps name) ∙ e))))
 
-pub other_step : (hyps : List Hyp) (others : List (List ℕ)) (name : List ℕ) (s : Step) → place_of hyps name ≡ None → bytes_eq name (codes "?") ≡ false → s ≡ step (what.Listed (number_in others name)) false → s ≡ normal_step (labels_of_hyps hyps) others name
+pub other_step : (hyps : List Hyp) (others : List (List ℕ)) (name : List ℕ) (s : Step) → place_of hyps name ≡ None → bytes_eq name (codes "?") ≡ false
+    → s ≡ step (what.Listed (number_in others name)) false → s ≡ normal_step (labels_of_hyps hyps) others name
 other_step hyps others name s e q is =
     let m = labels_of_hyps hyps in
     is ∙ sym (ap (λ (w : What). step w false) (
@@ -141,7 +147,9 @@ covered : (seen ls : List (List ℕ)) → AllByRecursion (Covers seen (without_r
 covered seen [] = tt
 covered seen (n ∷ ls) =
     elim (cases_Bool (contains seen n)) [
-      | inl t ↦ subst (λ (o : List (List ℕ)). AllByRecursion (Covers seen o) (n ∷ ls)) (sym (cond_then (contains seen n) (without_repeats seen ls) (n ∷ without_repeats (n ∷ seen) ls) t)) (or_left (contains seen n) (contains (without_repeats seen ls) n) t, covered seen ls)
+      | inl t ↦ subst (λ (o : List (List ℕ)). AllByRecursion (Covers seen o) (n ∷ ls))
+          (sym (cond_then (contains seen n) (without_repeats seen ls) (n ∷ without_repeats (n ∷ seen) ls) t))
+          (or_left (contains seen n) (contains (without_repeats seen ls) n) t, covered seen ls)
       | inr t ↦
           let o = without_repeats (n ∷ seen) ls in
           subst (λ (x : List (List ℕ)). AllByRecursion (Covers seen x) (n ∷ ls)) (sym (cond_else (contains seen n) (without_repeats seen ls) (n ∷ o) t))
@@ -160,12 +168,15 @@ same_number o w l e =
 the_what : (m o : List (List ℕ)) (w l : List ℕ) → Covers (codes "?" ∷ m) o l → normal_step m (o ++ w ∷ []) l ≡ normal_step m o l
 the_what m o w l h =
     elim (cases_Bool (bytes_eq l (codes "?"))) [
-      | inl t ↦ ap (λ (x : What). step x false) (cond_then (bytes_eq l (codes "?")) what.Unknown (what_of m (o ++ w ∷ []) l) t ∙ sym (cond_then (bytes_eq l (codes "?")) what.Unknown (what_of m o l) t))
+      | inl t ↦ ap (λ (x : What). step x false)
+          (cond_then (bytes_eq l (codes "?")) what.Unknown (what_of m (o ++ w ∷ []) l) t
+              ∙ sym (cond_then (bytes_eq l (codes "?")) what.Unknown (what_of m o l) t))
       | inr t ↦
           elim (cases_Bool (contains m l)) [
             | inl s ↦
                 ap (λ (x : What). step (cond (bytes_eq l (codes "?")) what.Unknown x) false) (
-                cond_then (contains m l) (what.Hyp (number_in m l)) (what.Listed (number_in (o ++ w ∷ []) l)) s ∙ sym (cond_then (contains m l) (what.Hyp (number_in m l)) (what.Listed (number_in o l)) s))
+                cond_then (contains m l) (what.Hyp (number_in m l)) (what.Listed (number_in (o ++ w ∷ []) l)) s
+                    ∙ sym (cond_then (contains m l) (what.Hyp (number_in m l)) (what.Listed (number_in o l)) s))
             | inr s ↦
                 let here : contains o l ≡ true = sym (ap (λ (a : Bool). (a || contains m l) || contains o l) t ∙ ap (λ (b : Bool). b || contains o l) s) ∙ h in
                 ap (λ (n : ℕ). step (cond (bytes_eq l (codes "?")) what.Unknown (cond (contains m l) (what.Hyp (number_in m l)) (what.Listed n))) false) (same_number o w l here)
@@ -193,7 +204,8 @@ steps_kept m ls w =
 pub no_steps : (m : List (List ℕ)) → StepsSoFar m [] [] []
 no_steps m = record { listed = refl; taken = refl }
 
-pub one_step : (m ls others new : List (List ℕ)) (w : List ℕ) (s : Step) (steps more : List Step) → new ≡ with_other m others w → s ≡ normal_step m new w → more ≡ steps ++ s ∷ [] → StepsSoFar m ls others steps → StepsSoFar m (ls ++ w ∷ []) new more
+pub one_step : (m ls others new : List (List ℕ)) (w : List ℕ) (s : Step) (steps more : List Step) → new ≡ with_other m others w
+    → s ≡ normal_step m new w → more ≡ steps ++ s ∷ [] → StepsSoFar m ls others steps → StepsSoFar m (ls ++ w ∷ []) new more
 one_step m ls others new w s steps more n e p h =
     let is : new ≡ with_other m (other_labels m ls) w = n ∙ ap (λ (o : List (List ℕ)). with_other m o w) h.listed in
     let front : steps ≡ map (normal_step m new) ls =
@@ -210,10 +222,13 @@ names_more text spans i d low =
     let one : suc i ≡ i + 1 = omega arith in
     sym (map-append (name_in text) (take i spans) (get_or spans i d ∷ [])) ∙ ap (names_in text) (sym (take-suc spans i d low) ∙ ap (λ (j : ℕ). take j spans) one)
 
-pub one_word : (m others new : List (List ℕ)) (text : List ℕ) (spans : List Span) (i : ℕ) (d : Span) (s : Step) (steps more : List Step) → i < length spans → new ≡ with_other m others (name_in text (get_or spans i d))
-    → s ≡ normal_step m new (name_in text (get_or spans i d)) → more ≡ steps ++ s ∷ [] → StepsSoFar m (names_in text (take i spans)) others steps → StepsSoFar m (names_in text (take (i + 1) spans)) new more
+pub one_word : (m others new : List (List ℕ)) (text : List ℕ) (spans : List Span) (i : ℕ) (d : Span) (s : Step) (steps more : List Step)
+    → i < length spans → new ≡ with_other m others (name_in text (get_or spans i d))
+    → s ≡ normal_step m new (name_in text (get_or spans i d)) → more ≡ steps ++ s ∷ [] → StepsSoFar m (names_in text (take i spans)) others steps
+        → StepsSoFar m (names_in text (take (i + 1) spans)) new more
 one_word m others new text spans i d s steps more low n e p h =
-    subst (λ (l : List (List ℕ)). StepsSoFar m l new more) (names_more text spans i d low) (one_step m (names_in text (take i spans)) others new (name_in text (get_or spans i d)) s steps more n e p h)
+    subst (λ (l : List (List ℕ)). StepsSoFar m l new more) (names_more text spans i d low)
+        (one_step m (names_in text (take i spans)) others new (name_in text (get_or spans i d)) s steps more n e p h)
 
 -- ---- numbers in range
 

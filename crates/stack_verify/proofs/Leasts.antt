@@ -23,8 +23,10 @@ filter_append : (p : Sym × Sym → Bool) (xs ys : List (Sym × Sym)) → filter
 filter_append p [] ys = refl
 filter_append p (x ∷ xs) ys =
     elim (cases_Bool (p x)) [
-      | inl t ↦ cond_then (p x) (x ∷ filter p (xs ++ ys)) (filter p (xs ++ ys)) t ∙ ap (λ (l : List (Sym × Sym)). x ∷ l) (filter_append p xs ys) ∙ ap (λ (l : List (Sym × Sym)). l ++ filter p ys) (sym (cond_then (p x) (x ∷ filter p xs) (filter p xs) t))
-      | inr t ↦ cond_else (p x) (x ∷ filter p (xs ++ ys)) (filter p (xs ++ ys)) t ∙ filter_append p xs ys ∙ ap (λ (l : List (Sym × Sym)). l ++ filter p ys) (sym (cond_else (p x) (x ∷ filter p xs) (filter p xs) t))
+      | inl t ↦ cond_then (p x) (x ∷ filter p (xs ++ ys)) (filter p (xs ++ ys)) t ∙ ap (λ (l : List (Sym × Sym)). x ∷ l) (filter_append p xs ys)
+          ∙ ap (λ (l : List (Sym × Sym)). l ++ filter p ys) (sym (cond_then (p x) (x ∷ filter p xs) (filter p xs) t))
+      | inr t ↦ cond_else (p x) (x ∷ filter p (xs ++ ys)) (filter p (xs ++ ys)) t ∙ filter_append p xs ys
+          ∙ ap (λ (l : List (Sym × Sym)). l ++ filter p ys) (sym (cond_else (p x) (x ∷ filter p xs) (filter p xs) t))
     ]
 
 least_append : (xs ys : List (Sym × Sym)) → least (xs ++ ys) ≡ least_onto xs (least ys)

@@ -1,5 +1,6 @@
 -- Hypotheses by their labels, put in one after the other.
-use Rattle.std.proofs.Common.{◌≡◌, ◌<◌, ℕ, zero, suc, ◌+◌, Bool, true, false, cond, List, [], ◌∷◌, ◌++◌, length, length-append, position, take, get_or, Option, Some, None, option_map, refl, sym, ap, ◌∙◌, arith, subst, inl, inr}
+use Rattle.std.proofs.Common.{◌≡◌, ◌<◌, ℕ, zero, suc, ◌+◌, Bool, true, false, cond, List, [], ◌∷◌, ◌++◌, length, length-append, position, take}
+use Rattle.std.proofs.Common.{get_or, Option, Some, None, option_map, refl, sym, ap, ◌∙◌, arith, subst, inl, inr}
 use Rattle.std.specs.Prelude.{slice_get}
 use Rattle.std.specs.List.{list_any}
 use Rattle.std.specs.Str.{bytes_eq}
@@ -68,7 +69,9 @@ pub label_put : (labels : List (List ℕ)) (places : List ℕ) (hyps : List Hyp)
     → look places (position (bytes_eq label) labels) ≡ place_of hyps label → look (places ++ i ∷ []) (position (bytes_eq label) (labels ++ h.name ∷ [])) ≡ place_of (hyps ++ h ∷ []) label
 label_put labels places hyps h i label n m e =
     let t = bytes_eq label h.name in
-    let low : (k : ℕ) → position (bytes_eq label) labels ≡ Some k → k < length places = λ (k : ℕ) (q : position (bytes_eq label) labels ≡ Some k). let w = position_within (bytes_eq label) labels k q in omega arith in
+    let low : (k : ℕ) → position (bytes_eq label) labels ≡ Some k → k < length places =
+        λ (k : ℕ) (q : position (bytes_eq label) labels ≡ Some k). let w = position_within (bytes_eq label) labels k q in
+        omega arith in
     ap (look (places ++ i ∷ [])) (position_more (bytes_eq label) labels h.name)
     ∙ put_look places (position (bytes_eq label) labels) t i (length labels) (sym n) low
     ∙ ap (λ (o : Option ℕ). or_at o (cond t (Some i) None)) e ∙ ap (λ (j : ℕ). or_at (place_of hyps label) (cond t (Some j) None)) (sym m)
@@ -91,7 +94,8 @@ none_there p (x ∷ xs) e =
     no_map None e = refl
     no_map (Some n) e = absurd cc
 
-same_look : (places : List ℕ) (found : Option ℕ) (t : Bool) (i : ℕ) → ((k : ℕ) → found ≡ Some k → k < length places) → (found ≡ None → t ≡ false) → look places found ≡ or_at (look places found) (cond t (Some i) None)
+same_look : (places : List ℕ) (found : Option ℕ) (t : Bool) (i : ℕ) → ((k : ℕ) → found ≡ Some k → k < length places) → (found ≡ None → t ≡ false)
+    → look places found ≡ or_at (look places found) (cond t (Some i) None)
 same_look places (Some k) t i low none = there_same places k (cond t (Some i) None) (low k refl)
 same_look places None t i low none = sym (cond_else t (Some i) None (none refl))
 
@@ -99,7 +103,9 @@ pub label_there : (labels : List (List ℕ)) (places : List ℕ) (hyps : List Hy
     → look places (position (bytes_eq label) labels) ≡ place_of hyps label → look places (position (bytes_eq label) labels) ≡ place_of (hyps ++ h ∷ []) label
 label_there labels places hyps h label n there e =
     let t = bytes_eq label h.name in
-    let low : (k : ℕ) → position (bytes_eq label) labels ≡ Some k → k < length places = λ (k : ℕ) (q : position (bytes_eq label) labels ≡ Some k). let w = position_within (bytes_eq label) labels k q in omega arith in
+    let low : (k : ℕ) → position (bytes_eq label) labels ≡ Some k → k < length places =
+        λ (k : ℕ) (q : position (bytes_eq label) labels ≡ Some k). let w = position_within (bytes_eq label) labels k q in
+        omega arith in
     let other : position (bytes_eq label) labels ≡ None → t ≡ false =
     λ (q : position (bytes_eq label) labels ≡ None).
     elim (cases_Bool t) [
@@ -114,7 +120,8 @@ label_there labels places hyps h label n there e =
 
 -- ---- the whole index
 
-pub index_put : (old new : HypLabels) (hyps : List Hyp) (h : Hyp) (name : List ℕ) (i : ℕ) → name ≡ h.name → new.labels ≡ old.labels ++ name ∷ [] → new.places.items ≡ old.places.items ++ i ∷ [] → length hyps ≡ i → IsIndexOf hyps old → IsIndexOf (hyps ++ h ∷ []) new
+pub index_put : (old new : HypLabels) (hyps : List Hyp) (h : Hyp) (name : List ℕ) (i : ℕ) → name ≡ h.name → new.labels ≡ old.labels ++ name ∷ []
+    → new.places.items ≡ old.places.items ++ i ∷ [] → length hyps ≡ i → IsIndexOf hyps old → IsIndexOf (hyps ++ h ∷ []) new
 index_put old new hyps h name i en el ep m x =
     let labels : new.labels ≡ old.labels ++ h.name ∷ [] = el ∙ ap (λ (n : List ℕ). old.labels ++ n ∷ []) en in
     record {

@@ -54,7 +54,8 @@ pushed xs ys f es fs ks s ey ef e t we wk =
     same_state (reverse (formulas_in ys fs)) (f ∷ reverse (formulas_in xs es)) (formulas_in ys ks) (formulas_in xs ks) stack kept
 
 -- what a marked step left
-pub kept_pushed : (xs : List Sym) (es fs ks : List Span) (k : ℕ) (s : Span) → fs ≡ es ++ s ∷ [] → slice_get ks k ≡ Some s → use_kept (slice_get (formulas_in xs ks) k) (state_of xs es ks) ≡ Ok (state_of xs fs ks)
+pub kept_pushed : (xs : List Sym) (es fs ks : List Span) (k : ℕ) (s : Span) → fs ≡ es ++ s ∷ [] → slice_get ks k ≡ Some s
+    → use_kept (slice_get (formulas_in xs ks) k) (state_of xs es ks) ≡ Ok (state_of xs fs ks)
 kept_pushed xs es fs ks k s ef g =
     ap (λ (o : Option Formula). use_kept o (state_of xs es ks)) (slice_get-map (formula_in xs) ks k ∙ ap (option_map (formula_in xs)) g)
     ∙ ap (λ (l : List Formula). Ok (make l (formulas_in xs ks))) (sym (entry_pushed xs es s) ∙ ap (λ (l : List Span). reverse (formulas_in xs l)) (sym ef))
@@ -64,7 +65,8 @@ kept_pushed xs es fs ks k s ef g =
 top_of : {A : Type 0} (below top : List A) (n : ℕ) → length top ≡ n → reverse (take n (reverse (below ++ top))) ≡ top
 top_of {A} below top n e =
     let m : length (reverse top) ≡ n = length-reverse top ∙ e in
-    ap (λ (l : List A). reverse (take n l)) (reverse-append below top) ∙ ap (λ (k : ℕ). reverse (take k (reverse top ++ reverse below))) (sym m) ∙ ap (λ (l : List A). reverse l) (take-append_seam (reverse top) (reverse below)) ∙ reverse-reverse top
+    ap (λ (l : List A). reverse (take n l)) (reverse-append below top) ∙ ap (λ (k : ℕ). reverse (take k (reverse top ++ reverse below))) (sym m)
+        ∙ ap (λ (l : List A). reverse l) (take-append_seam (reverse top) (reverse below)) ∙ reverse-reverse top
 
 below_top : {A : Type 0} (below top : List A) (n : ℕ) → length top ≡ n → drop n (reverse (below ++ top)) ≡ reverse below
 below_top {A} below top n e =

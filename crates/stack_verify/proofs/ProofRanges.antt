@@ -1,5 +1,6 @@
 -- Where the proof of a label begins, and its words.
-use Rattle.std.proofs.Common.{◌≡◌, ◌≤◌, ◌<◌, ℕ, zero, suc, ◌+◌, Bool, false, cond, leb, List, [], ◌∷◌, length, length-append, drop, map, Option, Some, None, option_map, refl, sym, ap, ◌∙◌, arith, inl, inr, ◌⊎◌, Bor}
+use Rattle.std.proofs.Common.{◌≡◌, ◌≤◌, ◌<◌, ℕ, zero, suc, ◌+◌, Bool, false, cond, leb, List, [], ◌∷◌, length, length-append, drop, map, Option, Some}
+use Rattle.std.proofs.Common.{None, option_map, refl, sym, ap, ◌∙◌, arith, inl, inr, ◌⊎◌, Bor}
 use Rattle.std.specs.Prelude.{codes, find, flat_map, min, option_and_then, slice_get}
 use Rattle.std.proofs.lemmas.Bool.{cases_Bool, leb-false, leb-true}
 use Rattle.std.proofs.lemmas.List.{drop_all, length-map}
@@ -33,7 +34,8 @@ past_end (x ∷ xs) (suc k) h = past_end xs k (omega arith)
 pub no_label : (ss : List Statement) (l : Label) → length (labels ss) ≤ l.0 → proof_range ss l ≡ None
 no_label ss l h =
     let none : slice_get (positions ss) l.0 ≡ None = past_end (positions ss) l.0 (omega (arith, labels_count ss)) in
-    ap (λ (o : Option ℕ). option_and_then (λ (p : ℕ × Statement). cond (has_keyword (codes "$p") p.1) (proof_in p.1) None) (option_and_then (λ (at : ℕ). option_map (λ (s : Statement). (at, s)) (slice_get ss at)) o)) none
+    ap (λ (o : Option ℕ). option_and_then (λ (p : ℕ × Statement). cond (has_keyword (codes "$p") p.1) (proof_in p.1) None)
+        (option_and_then (λ (at : ℕ). option_map (λ (s : Statement). (at, s)) (slice_get ss at)) o)) none
 
 nothing : {X : Type 0} {Y : Type 0} (x : X) → None ≡ Some x → Y
 nothing {X} {Y} x e = absurd (go e)
@@ -93,7 +95,8 @@ module _ (text : List ℕ) (range : ℕ × ℕ) (proof : List (List ℕ)) where
   with_words at s (Some w) (Some x) h hw he e p =
       ap (λ (k : ℕ). proof_names false (words_from k (drop k text))) (sym (same_start w x e)) ∙ words_are text at s w x h hw he ∙ p
 
-  with_statement : (l : Label) (o : Option (ℕ × Statement)) → statement_of (statements text) l ≡ o → option_and_then (λ (p : ℕ × Statement). cond (has_keyword (codes "$p") p.1) (proof_in p.1) None) o ≡ Some range
+  with_statement : (l : Label) (o : Option (ℕ × Statement)) → statement_of (statements text) l ≡ o
+      → option_and_then (λ (p : ℕ × Statement). cond (has_keyword (codes "$p") p.1) (proof_in p.1) None) o ≡ Some range
       → option_and_then (λ (p : ℕ × Statement). cond (has_keyword (codes "$p") p.1) (Some (proof_words p.1)) None) o ≡ Some proof → Reads
   with_statement l None h e f = nothing range e
   with_statement l (Some p) h e f =
@@ -116,7 +119,8 @@ first_of (Some r) from e = (r, refl, the_number e)
     the_number e = cc
 
 -- the words that are read are those of the proof
-pub proof_read : (text : List ℕ) (l : Label) (from m : ℕ) (names proof : List (List ℕ)) (o : Option ℕ) → o ≡ option_map (λ (r : ℕ × ℕ). r.0) (proof_range (statements text) l) → o ≡ Some from → proof_of (statements text) l ≡ Some proof
+pub proof_read : (text : List ℕ) (l : Label) (from m : ℕ) (names proof : List (List ℕ)) (o : Option ℕ)
+    → o ≡ option_map (λ (r : ℕ × ℕ). r.0) (proof_range (statements text) l) → o ≡ Some from → proof_of (statements text) l ≡ Some proof
     → m ≡ min from (length text) → names ≡ proof_names false (words_from m (drop m text)) → names ≡ proof
 proof_read text l from m names proof o eo of e em en =
     let r = first_of (proof_range (statements text) l) from (sym eo ∙ of) in

@@ -20,7 +20,8 @@ first_by variable test entries [] = None
 first_by variable test entries (p ∷ ps) =
     or_later p (least (filter test (products (filter variable (substitute entries p.a)) (filter variable (substitute entries p.b))))) (first_by variable test entries ps)
 
-by_known : (known : Known) (r : Rule) (entries : List Entry) (pairs : List Pair) → first_failing known r entries pairs ≡ first_by (λ s. list_any (nat_eq s.0) known.variables) (fails known r) entries pairs
+by_known : (known : Known) (r : Rule) (entries : List Entry) (pairs : List Pair)
+    → first_failing known r entries pairs ≡ first_by (λ s. list_any (nat_eq s.0) known.variables) (fails known r) entries pairs
 unfolding first_by
 by_known known r entries [] = refl
 by_known known r entries (p ∷ ps) =
@@ -38,7 +39,8 @@ same_first : (thm : Theorem) (known : Known) (r : Rule) (test : Sym × Sym → B
 same_first thm known r test entries pairs k t =
     let variables : (λ (s : Sym). list_any (nat_eq s.0) known.variables) ≡ is_variable thm = fun_ext k.variables.same in
     let tests : fails known r ≡ test = fun_ext t in
-    by_known known r entries pairs ∙ ap (λ (v : Sym → Bool). first_by v (fails known r) entries pairs) variables ∙ ap (λ (u : Sym × Sym → Bool). first_by (is_variable thm) u entries pairs) tests ∙ sym (by_theorem test thm entries pairs)
+    by_known known r entries pairs ∙ ap (λ (v : Sym → Bool). first_by v (fails known r) entries pairs) variables
+        ∙ ap (λ (u : Sym × Sym → Bool). first_by (is_variable thm) u entries pairs) tests ∙ sym (by_theorem test thm entries pairs)
 
 -- ---- the two rules
 
@@ -78,18 +80,26 @@ pub distinct_is : (thm : Theorem) (known : Known) (entries : List Entry) (pairs 
     → distinct_fault thm entries pairs ≡ option_map (λ (f : Pair × (Sym × Sym)). not_distinct f.1.0 f.1.1) (first_failing known rule.Distinct entries pairs)
 distinct_is thm known entries pairs k =
     ap (option_map (λ (f : Pair × (Sym × Sym)). not_distinct f.1.0 f.1.1))
-    (sym (same_first thm known rule.Distinct (λ (vw : Sym × Sym). not (is_active_pair thm vw)) entries pairs k (λ (vw : Sym × Sym). ap (λ (t : Bool). not t) (joined thm known.pairs.keys vw k.pairs))))
+    (sym
+        (same_first thm known rule.Distinct (λ (vw : Sym × Sym). not (is_active_pair thm vw)) entries pairs k
+            (λ (vw : Sym × Sym). ap (λ (t : Bool). not t) (joined thm known.pairs.keys vw k.pairs))))
 
-pub none_shared : (thm : Theorem) (known : Known) (entries : List Entry) (pairs : List Pair) (o : Option (Pair × (Sym × Sym))) → IsKnown thm known → o ≡ first_failing known rule.Shared entries pairs → o ≡ None → shared_fault thm entries pairs ≡ None
+pub none_shared : (thm : Theorem) (known : Known) (entries : List Entry) (pairs : List Pair) (o : Option (Pair × (Sym × Sym))) → IsKnown thm known
+    → o ≡ first_failing known rule.Shared entries pairs → o ≡ None → shared_fault thm entries pairs ≡ None
 none_shared thm known entries pairs o k e n = shared_is thm known entries pairs k ∙ ap (option_map (λ (f : Pair × (Sym × Sym)). shared f.0.a f.0.b f.1.0)) (sym e ∙ n)
 
-pub some_shared : (thm : Theorem) (known : Known) (entries : List Entry) (pairs : List Pair) (o : Option (Pair × (Sym × Sym))) (f : Pair × (Sym × Sym)) → IsKnown thm known → o ≡ first_failing known rule.Shared entries pairs → o ≡ Some f
+pub some_shared : (thm : Theorem) (known : Known) (entries : List Entry) (pairs : List Pair) (o : Option (Pair × (Sym × Sym)))
+    (f : Pair × (Sym × Sym))
+    → IsKnown thm known → o ≡ first_failing known rule.Shared entries pairs → o ≡ Some f
     → shared_fault thm entries pairs ≡ Some (shared f.0.a f.0.b f.1.0)
 some_shared thm known entries pairs o f k e n = shared_is thm known entries pairs k ∙ ap (option_map (λ (f : Pair × (Sym × Sym)). shared f.0.a f.0.b f.1.0)) (sym e ∙ n)
 
-pub all_distinct : (thm : Theorem) (known : Known) (entries : List Entry) (pairs : List Pair) (o : Option (Pair × (Sym × Sym))) → IsKnown thm known → o ≡ first_failing known rule.Distinct entries pairs → o ≡ None → distinct_fault thm entries pairs ≡ None
+pub all_distinct : (thm : Theorem) (known : Known) (entries : List Entry) (pairs : List Pair) (o : Option (Pair × (Sym × Sym))) → IsKnown thm known
+    → o ≡ first_failing known rule.Distinct entries pairs → o ≡ None → distinct_fault thm entries pairs ≡ None
 all_distinct thm known entries pairs o k e n = distinct_is thm known entries pairs k ∙ ap (option_map (λ (f : Pair × (Sym × Sym)). not_distinct f.1.0 f.1.1)) (sym e ∙ n)
 
-pub some_not_distinct : (thm : Theorem) (known : Known) (entries : List Entry) (pairs : List Pair) (o : Option (Pair × (Sym × Sym))) (f : Pair × (Sym × Sym)) → IsKnown thm known → o ≡ first_failing known rule.Distinct entries pairs → o ≡ Some f
+pub some_not_distinct : (thm : Theorem) (known : Known) (entries : List Entry) (pairs : List Pair) (o : Option (Pair × (Sym × Sym)))
+    (f : Pair × (Sym × Sym))
+    → IsKnown thm known → o ≡ first_failing known rule.Distinct entries pairs → o ≡ Some f
     → distinct_fault thm entries pairs ≡ Some (not_distinct f.1.0 f.1.1)
 some_not_distinct thm known entries pairs o f k e n = distinct_is thm known entries pairs k ∙ ap (option_map (λ (f : Pair × (Sym × Sym)). not_distinct f.1.0 f.1.1)) (sym e ∙ n)

@@ -24,11 +24,13 @@ cond_else false x y e = refl
 abbrev both : {H F : Type 0} → List H → List F → H → F → ℕ → H × F
 both hs fs dh df k = (get_or hs k dh, get_or fs k df)
 
-past : {H F : Type 0} (h : H) (hs : List H) (f : F) (fs : List F) (dh : H) (df : F) (o : Option ℕ) → option_map (both (h ∷ hs) (f ∷ fs) dh df) (option_map (λ n. suc n) o) ≡ option_map (both hs fs dh df) o
+past : {H F : Type 0} (h : H) (hs : List H) (f : F) (fs : List F) (dh : H) (df : F) (o : Option ℕ)
+    → option_map (both (h ∷ hs) (f ∷ fs) dh df) (option_map (λ n. suc n) o) ≡ option_map (both hs fs dh df) o
 past h hs f fs dh df None = refl
 past h hs f fs dh df (Some k) = refl
 
-find_both : {H F : Type 0} (p : H → Bool) (hs : List H) (fs : List F) (dh : H) (df : F) → length fs ≡ length hs → find (λ (e : H × F). p e.0) (zip hs fs) ≡ option_map (both hs fs dh df) (position p hs)
+find_both : {H F : Type 0} (p : H → Bool) (hs : List H) (fs : List F) (dh : H) (df : F) → length fs ≡ length hs
+    → find (λ (e : H × F). p e.0) (zip hs fs) ≡ option_map (both hs fs dh df) (position p hs)
 find_both p [] fs dh df e = refl
 find_both p (h ∷ hs) [] dh df e = absurd (omega arith)
 find_both {H} {F} p (h ∷ hs) (f ∷ fs) dh df e =
@@ -43,15 +45,19 @@ find_both {H} {F} p (h ∷ hs) (f ∷ fs) dh df e =
     ]
 
 the_entry : (hyps : List Hyp) (symbols : List Sym) (spans : List Span) (s : Sym) (dh : Hyp) (item : Span) → length spans ≡ length hyps
-    → substitute (entries_of hyps symbols spans) s ≡ option_map_or (λ (e : Entry). drop 1 e.1) (option_map (both hyps (formulas_in symbols spans) dh (formula_in symbols item)) (position (is_float_of s) hyps)) (s ∷ [])
+    → substitute (entries_of hyps symbols spans) s
+        ≡ option_map_or (λ (e : Entry). drop 1 e.1)
+            (option_map (both hyps (formulas_in symbols spans) dh (formula_in symbols item)) (position (is_float_of s) hyps)) (s ∷ [])
 the_entry hyps symbols spans s dh item e =
-    ap (λ (o : Option Entry). option_map_or (λ (e : Entry). drop 1 e.1) o (s ∷ [])) (find_both (is_float_of s) hyps (formulas_in symbols spans) dh (formula_in symbols item) (length-map spans (formula_in symbols) ∙ e))
+    ap (λ (o : Option Entry). option_map_or (λ (e : Entry). drop 1 e.1) o (s ∷ []))
+        (find_both (is_float_of s) hyps (formulas_in symbols spans) dh (formula_in symbols item) (length-map spans (formula_in symbols) ∙ e))
 
 no_hyp : Hyp
 no_hyp = record { name = []; floating = false; formula = [] }
 
 -- a symbol without a `$f` stands for itself
-pub stands_for_itself : (hyps : List Hyp) (symbols : List Sym) (spans : List Span) (s : Sym) → length spans ≡ length hyps → position (is_float_of s) hyps ≡ None → substitute (entries_of hyps symbols spans) s ≡ s ∷ []
+pub stands_for_itself : (hyps : List Hyp) (symbols : List Sym) (spans : List Span) (s : Sym) → length spans ≡ length hyps
+    → position (is_float_of s) hyps ≡ None → substitute (entries_of hyps symbols spans) s ≡ s ∷ []
 stands_for_itself hyps symbols spans s e n =
     the_entry hyps symbols spans s no_hyp (record { from = 0; to = 0 }) e
     ∙ ap (λ (o : Option ℕ). option_map_or (λ (e : Entry). drop 1 e.1) (option_map (both hyps (formulas_in symbols spans) no_hyp (formula_in symbols (record { from = 0; to = 0 }))) o) (s ∷ [])) n

@@ -101,7 +101,8 @@ token_split true (v ∷ ws) front w rest h = one_before v ws w rest (token_split
 token_split false (v ∷ ws) front w rest h =
     elim (cases_Bool (is_open_comment v)) [
       | inl t ↦ one_before v ws w rest (token_split true ws front w rest (sym (cond_then (is_open_comment v) (tokens_where true ws) (v ∷ tokens_where false ws) t) ∙ h))
-      | inr t ↦ here (λ (f : List Word) (e : tokens_where false ws ≡ f ++ w ∷ rest). token_split false ws f w rest e) front (sym (cond_else (is_open_comment v) (tokens_where true ws) (v ∷ tokens_where false ws) t) ∙ h)
+      | inr t ↦ here (λ (f : List Word) (e : tokens_where false ws ≡ f ++ w ∷ rest). token_split false ws f w rest e) front
+          (sym (cond_else (is_open_comment v) (tokens_where true ws) (v ∷ tokens_where false ws) t) ∙ h)
     ]
   where
     here : ((f : List Word) → tokens_where false ws ≡ f ++ w ∷ rest → Split ws w rest) → (front : List Word) → v ∷ tokens_where false ws ≡ front ++ w ∷ rest → Split (v ∷ ws) w rest

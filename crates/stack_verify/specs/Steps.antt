@@ -1,6 +1,7 @@
 -- The steps, where the labels have been looked up.
 use Rattle.std.specs.Prelude.{◌≡◌, ℕ, true, List, Option, Some, Result, Err}
-use Rattle.proof_model.specs.Machine.{MachineFault, Entry, State, underflow, type_differs, not_earlier, result_differs, unknown, hyp_differs, shared, not_distinct, left_over, substituted, differs_in_formula}
+use Rattle.proof_model.specs.Machine.{MachineFault, Entry, State, underflow, type_differs, not_earlier, result_differs, unknown, hyp_differs, shared}
+use Rattle.proof_model.specs.Machine.{not_distinct, left_over, substituted, differs_in_formula}
 use Rattle.stack_verify.specs.declared.fault.StepFault.{StepFault}
 use Rattle.stack_verify.specs.declared.fault.StepFault.TheVariants as step
 use Rattle.stack_verify.specs.declared.fault.ProofFault.{ProofFault}

@@ -33,7 +33,8 @@ module _ (d : Opened) (l : Label) (frame : Frame) (t : Tree) (ts : List Tree)
   by_kept None e a h = let impossible : ◌≡◌ {A = Option Assertion} None (Some a) = h in absurd (cc)
   by_kept (Some p) e a h =
       let same : assertion_of l frame p ≡ a = cc in
-      record { frame = ap (λ (b : Assertion). b.frame.hyps) (sym same); conclusion = ap (λ (b : Assertion). b.tree) (sym same) ∙ sym (tree p e); expressions = ap (λ (b : Assertion). b.hyps) (sym same) ∙ sym (trees p e) }
+      record { frame = ap (λ (b : Assertion). b.frame.hyps) (sym same); conclusion = ap (λ (b : Assertion). b.tree) (sym same) ∙ sym (tree p e);
+          expressions = ap (λ (b : Assertion). b.hyps) (sym same) ∙ sym (trees p e) }
 
   made_of : (a : Assertion) → usable_in d l ≡ Some a → IsMadeOf a frame.hyps t ts
   made_of a h = by_kept (parsed_at d.parsed l) refl a (sym (ap (usable_with d.parsed l) framed) ∙ h)
@@ -53,7 +54,9 @@ module _ (d : Opened) (l : Label) (frame : Frame) (t : Tree) (ts : List Tree)
     pub taken_none : IsTakenBy rows hyps t ts None → (a : Assertion) → usable_in d l ≡ Some a → IsTakenAs d formulas formula places l a old new None
     taken_none h a u = record { taken = taken_of None h a u; kept = tt }
 
-    pub taken_some : (x : Accepted) (order : List ℕ) (ids : List Id) (vars : List VariableNode) → x ≡ record { label = l; order = order; hyps = ids; variables = vars } → vars ≡ table_of old.nodes hyps → ids ≡ (roots_of rows old.nodes hyps t ts).roots
+    pub taken_some : (x : Accepted) (order : List ℕ) (ids : List Id) (vars : List VariableNode)
+        → x ≡ record { label = l; order = order; hyps = ids; variables = vars } → vars ≡ table_of old.nodes hyps
+        → ids ≡ (roots_of rows old.nodes hyps t ts).roots
         → IsTakenBy rows hyps t ts (Some order) → (a : Assertion) → usable_in d l ≡ Some a → IsTakenAs d formulas formula places l a old new (Some x)
     taken_some x order ids vars is v i h a u =
         let m = made_of a u in
@@ -62,8 +65,11 @@ module _ (d : Opened) (l : Label) (frame : Frame) (t : Tree) (ts : List Tree)
           taken = subst (λ (r : List ℕ). IsTakenBy d.rows a.frame.hyps a.tree a.hyps (Some r)) (ap (λ (y : Accepted). y.order) (sym is)) (taken_of (Some order) h a u);
           kept = record {
             label = ap (λ (y : Accepted). y.label) is;
-            hyps = ap (λ (y : Accepted). y.hyps) is ∙ i ∙ ap (λ (rs : List Production). (roots_of rs old.nodes hyps t ts).roots) is_rows ∙ ap (λ (hs : List Hyp). (roots_of d.rows old.nodes hs t ts).roots) same
-                ∙ ap (λ (x : Tree). (roots_of d.rows old.nodes a.frame.hyps x ts).roots) (sym m.conclusion) ∙ ap (λ (xs : List Tree). (roots_of d.rows old.nodes a.frame.hyps a.tree xs).roots) (sym m.expressions);
+            hyps =
+                ap (λ (y : Accepted). y.hyps) is ∙ i ∙ ap (λ (rs : List Production). (roots_of rs old.nodes hyps t ts).roots) is_rows
+                    ∙ ap (λ (hs : List Hyp). (roots_of d.rows old.nodes hs t ts).roots) same
+                ∙ ap (λ (x : Tree). (roots_of d.rows old.nodes a.frame.hyps x ts).roots) (sym m.conclusion)
+                    ∙ ap (λ (xs : List Tree). (roots_of d.rows old.nodes a.frame.hyps a.tree xs).roots) (sym m.expressions);
             variables = ap (λ (y : Accepted). y.variables) is ∙ v ∙ ap (table_of old.nodes) same;
           };
         }

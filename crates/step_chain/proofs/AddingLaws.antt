@@ -32,7 +32,8 @@ module _ (rows : List Production) (works : List WorkNode) (vars : List VariableN
   unfolding added
   added-Fresh c n nodes = ap (λ (f : Adder). f nodes) (fold-Fresh Adder (layer_adder rows works vars) c n)
 
-  pub added-Node : (l : Label) (c : Typecode) (ts : List Tree) (nodes : List Term) → added rows works vars (tree.Node l c ts) nodes ≡ with_production l c (constants_in rows l) (run (map (added rows works vars) ts) nodes)
+  pub added-Node : (l : Label) (c : Typecode) (ts : List Tree) (nodes : List Term)
+      → added rows works vars (tree.Node l c ts) nodes ≡ with_production l c (constants_in rows l) (run (map (added rows works vars) ts) nodes)
   unfolding added
   added-Node l c ts nodes = ap (λ (f : Adder). f nodes) (fold-Node Adder (layer_adder rows works vars) l c ts)
 
@@ -79,7 +80,8 @@ grown_longer a b h = let same : length b.nodes ≡ length (a.nodes ++ h.more) = 
 
 -- ---- what is found stands in the list
 
-work_by : (n : ℕ) (w : WorkNode) (o : Option WorkNode) (b : Bool) → w.node < n → ForSome (option_map (λ (v : WorkNode). v.node) o) (λ i. i < n) → ForSome (option_map (λ (v : WorkNode). v.node) (cond b (Some w) o)) (λ i. i < n)
+work_by : (n : ℕ) (w : WorkNode) (o : Option WorkNode) (b : Bool) → w.node < n → ForSome (option_map (λ (v : WorkNode). v.node) o) (λ i. i < n)
+    → ForSome (option_map (λ (v : WorkNode). v.node) (cond b (Some w) o)) (λ i. i < n)
 work_by n w o true h rest i e = let same : w.node ≡ i = cc in subst (λ (j : ℕ). j < n) same h
 work_by n w o false h rest i e = rest i e
 
@@ -87,7 +89,9 @@ pub found_work : (n : ℕ) (p : WorkNode → Bool) (ws : List WorkNode) → AreW
 found_work n p [] h i e = let impossible : ◌≡◌ {A = Option ℕ} None (Some i) = e in absurd (cc)
 found_work n p (w ∷ ws) h i e = work_by n w (find p ws) (p w) h.0 (λ j g. found_work n p ws h.1 j g) i e
 
-variable_by : (n : ℕ) (w : VariableNode) (o : Option VariableNode) (b : Bool) → w.node < n → ForSome (option_map (λ (v : VariableNode). v.node) o) (λ i. i < n) → ForSome (option_map (λ (v : VariableNode). v.node) (cond b (Some w) o)) (λ i. i < n)
+variable_by : (n : ℕ) (w : VariableNode) (o : Option VariableNode) (b : Bool) → w.node < n
+    → ForSome (option_map (λ (v : VariableNode). v.node) o) (λ i. i < n)
+    → ForSome (option_map (λ (v : VariableNode). v.node) (cond b (Some w) o)) (λ i. i < n)
 variable_by n w o true h rest i e = let same : w.node ≡ i = cc in subst (λ (j : ℕ). j < n) same h
 variable_by n w o false h rest i e = rest i e
 
@@ -100,7 +104,8 @@ found_variable n p (w ∷ ws) h i e = variable_by n w (find p ws) (p w) h.0 (λ 
 pub rooted_by : (r : Result Id Memory) (nodes : List Term) (x y : Rooted) → x ≡ y → IfOk r (λ id. IsRooted x nodes id) → IfOk r (λ id. IsRooted y nodes id)
 rooted_by r nodes x y e h = subst (λ (z : Rooted). IfOk r (λ id. IsRooted z nodes id)) e h
 
-pub fresh_rooted : (r : Result Id Memory) (old new : Store) (e : Term) → IfOk r (λ id. id.0 ≡ length old.nodes) → OnOk r (new ≡ with_node old e) → IfOk r (λ id. IsRooted (put e old.nodes) new.nodes id)
+pub fresh_rooted : (r : Result Id Memory) (old new : Store) (e : Term) → IfOk r (λ id. id.0 ≡ length old.nodes) → OnOk r (new ≡ with_node old e)
+    → IfOk r (λ id. IsRooted (put e old.nodes) new.nodes id)
 fresh_rooted (Ok id) old new e h g = record { nodes_are = ap (λ (s : Store). s.nodes) g; root = h }
 fresh_rooted (Err x) old new e h g = tt
 
@@ -108,7 +113,9 @@ module _ (rows : List Production) (works : List WorkNode) (vars : List VariableN
   abbrev f : Tree → Adder
   f = added rows works vars
 
-  pub listed_more : (nodes0 : List Term) (mid new : Store) (xs : List Tree) (k : ℕ) (x : Tree) (ids more : List Id) (id : Id) → AreListed (run (map f (take k xs)) nodes0) mid.nodes ids → IsRooted (f x mid.nodes) new.nodes id → x ≡ get_or xs k x → k < length xs → more ≡ ids ++ id ∷ []
+  pub listed_more : (nodes0 : List Term) (mid new : Store) (xs : List Tree) (k : ℕ) (x : Tree) (ids more : List Id) (id : Id)
+      → AreListed (run (map f (take k xs)) nodes0) mid.nodes ids → IsRooted (f x mid.nodes) new.nodes id → x ≡ get_or xs k x → k < length xs
+      → more ≡ ids ++ id ∷ []
       → AreListed (run (map f (take (k + 1) xs)) nodes0) new.nodes more
   listed_more nodes0 mid new xs k x ids more id h r e below is =
       let list : map f (take (k + 1) xs) ≡ map f (take k xs) ++ f x ∷ [] = ap (map f) (take_more xs k x below ∙ ap (λ (y : Tree). take k xs ++ y ∷ []) (sym e)) ∙ map_push f (take k xs) x in
@@ -120,7 +127,10 @@ module _ (rows : List Production) (works : List WorkNode) (vars : List VariableN
             ∙ sym (run_roots (map f (take k xs)) (f x) nodes0) ∙ ap (λ (fs : List Adder). (run fs nodes0).roots) (sym list);
       }
 
-  pub production_rooted : (r : Result Id Memory) (l : Label) (c : Typecode) (k' : ℕ) (ts items : List Tree) (k : ℕ) (nodes0 : List Term) (mid new : Store) (ids given : List Id) (t : Tree) → items ≡ ts → length items ≤ k → AreListed (run (map f (take k items)) nodes0) mid.nodes ids → given ≡ ids → k' ≡ constants_in rows l → t ≡ tree.Node l c ts
+  pub production_rooted : (r : Result Id Memory) (l : Label) (c : Typecode) (k' : ℕ) (ts items : List Tree) (k : ℕ) (nodes0 : List Term)
+      (mid new : Store) (ids given : List Id) (t : Tree)
+      → items ≡ ts → length items ≤ k → AreListed (run (map f (take k items)) nodes0) mid.nodes ids → given ≡ ids → k' ≡ constants_in rows l
+      → t ≡ tree.Node l c ts
       → IfOk r (λ id. id.0 ≡ length mid.nodes) → OnOk r (new ≡ with_node mid (Node l c k' given)) → IfOk r (λ id. IsRooted (f t nodes0) new.nodes id)
   production_rooted (Err x) l c k' ts items k nodes0 mid new ids given t is past h g n e o p = tt
   production_rooted (Ok id) l c k' ts items k nodes0 mid new ids given t is past h g n e o p =

@@ -1,5 +1,6 @@
 -- What is answered of the steps of a chain.
-use Rattle.std.specs.Prelude.{◌≡◌, ℕ, ◌<◌, ◌+◌, List, [], ◌∷◌, length, map, slice_get, unwrap_or, is_some, option_map, option_and_then, Bool, true, false, IsTrue, Contains, Option, Some, None, Result, refl}
+use Rattle.std.specs.Prelude.{◌≡◌, ℕ, ◌<◌, ◌+◌, List, [], ◌∷◌, length, map, slice_get, unwrap_or, is_some, option_map, option_and_then, Bool, true}
+use Rattle.std.specs.Prelude.{false, IsTrue, Contains, Option, Some, None, Result, refl}
 use Rattle.std.specs.List.{AllByRecursion, AllZip}
 use Rattle.std.specs.Option.{option_map_or}
 use Rattle.std.proofs.Common.{zero, suc, get_or, sym, ap, subst, ◌∙◌, arith}
@@ -57,7 +58,8 @@ record IsStepAt (d : Opened) (bound : Bound) (j : ℕ) (ps : List Pushed) (i : �
   is : asked_by bound (j + i) kept assertion ≡ y
 
 module _ (d : Opened) (bound : Bound) (y : Asked) where
-  at_usable : (j : ℕ) (p : Pushed) (ps : List Pushed) (x : Accepted) → p.judged ≡ Fits x → (o : Option Assertion) → usable_in d x.label ≡ o → accepted_by bound j x o ≡ accepted y → IsStepAt d bound j (p ∷ ps) 0 y
+  at_usable : (j : ℕ) (p : Pushed) (ps : List Pushed) (x : Accepted) → p.judged ≡ Fits x → (o : Option Assertion) → usable_in d x.label ≡ o
+      → accepted_by bound j x o ≡ accepted y → IsStepAt d bound j (p ∷ ps) 0 y
   at_usable j p ps x fits None u e = absurd (cc)
   at_usable j p ps x fits (Some a) u e =
       let number : j + 0 ≡ j = omega arith in
@@ -74,7 +76,8 @@ module _ (d : Opened) (bound : Bound) (y : Asked) where
   found_at j (p ∷ ps) (suc i) e =
       let told = found_at (suc j) ps i e in
       let number : suc j + i ≡ j + suc i = omega arith in
-      record { pushed = told.pushed; at = told.at; kept = told.kept; fits = told.fits; assertion = told.assertion; usable = told.usable; is = sym (ap (λ (k : ℕ). asked_by bound k told.kept told.assertion) number) ∙ told.is }
+      record { pushed = told.pushed; at = told.at; kept = told.kept; fits = told.fits; assertion = told.assertion; usable = told.usable;
+          is = sym (ap (λ (k : ℕ). asked_by bound k told.kept told.assertion) number) ∙ told.is }
 
 -- ---- back from what is kept
 
@@ -111,7 +114,8 @@ map_count : {X Y : Type 0} (f : X → Y) (xs : List X) → length (map f xs) ≡
 map_count f [] = refl
 map_count f (x ∷ xs) = let rest = map_count f xs in omega (arith, rest)
 
-zip_at : (R : Tree → ℕ → Type 0) (es : List Tree) (ids : List Id) (k : ℕ) (e : Tree) (id : Id) → AllZip R es (map (λ (x : Id). x.0) ids) → slice_get es k ≡ Some e → slice_get ids k ≡ Some id → R e id.0
+zip_at : (R : Tree → ℕ → Type 0) (es : List Tree) (ids : List Id) (k : ℕ) (e : Tree) (id : Id) → AllZip R es (map (λ (x : Id). x.0) ids)
+    → slice_get es k ≡ Some e → slice_get ids k ≡ Some id → R e id.0
 zip_at R [] ids k e id z a b = let impossible : ◌≡◌ {A = Option Tree} None (Some e) = a in absurd (cc)
 zip_at R (x ∷ es) [] k e id z a b = let impossible : ◌≡◌ {A = Option Id} None (Some id) = b in absurd (cc)
 zip_at R (x ∷ es) (y ∷ ids) zero e id z a b =
@@ -199,21 +203,28 @@ module _ (h : Held) (db : Database) (level : IsLevel db h.book h.bound h.works h
       variables_are : map (λ (w : VariableNode). record { sym = w.sym; code = w.code }) x.variables ≡ y.assertion.vars
       variables_are =
           let k = level.kept i step.pushed step.kept step.at step.fits in
-          ap (λ (z : Accepted). map (λ (w : VariableNode). record { sym = w.sym; code = w.code }) z.variables) (sym own) ∙ k.nodes_are.order ∙ ap (λ (a : Assertion). a.vars) (same_assertion ∙ own_assertion)
+          ap (λ (z : Accepted). map (λ (w : VariableNode). record { sym = w.sym; code = w.code }) z.variables) (sym own) ∙ k.nodes_are.order
+              ∙ ap (λ (a : Assertion). a.vars) (same_assertion ∙ own_assertion)
 
       values_from : (ws : List VariableNode) → ((w : VariableNode) → Contains ws w → variable_at x.variables w.sym w.code ≡ Some w.node)
-          → values_at (record { nodes = h.nodes; links = h.links; works = h.works }) ws ≡ map (λ (v : TypedVariable). value_of h (copy i v.sym v.code)) (map (λ (w : VariableNode). record { sym = w.sym; code = w.code }) ws)
+          → values_at (record { nodes = h.nodes; links = h.links; works = h.works }) ws
+              ≡ map (λ (v : TypedVariable). value_of h (copy i v.sym v.code)) (map (λ (w : VariableNode). record { sym = w.sym; code = w.code }) ws)
       values_from [] f = refl
       values_from (w ∷ ws) f =
           let here : value_at h.nodes h.links h.works w.node ≡ value_of h (copy i w.sym w.code) =
-          ap (value_at h.nodes h.links h.works) (sym (ap (λ (o : Option Accepted). option_map_or (λ (z : Accepted). unwrap_or (variable_at z.variables w.sym w.code) 0) o 0) e ∙ ap (λ (o : Option ℕ). unwrap_or o 0) (f w (0, omega arith, refl)))) in
+          ap (value_at h.nodes h.links h.works)
+              (sym
+                  (ap (λ (o : Option Accepted). option_map_or (λ (z : Accepted). unwrap_or (variable_at z.variables w.sym w.code) 0) o 0) e
+                      ∙ ap (λ (o : Option ℕ). unwrap_or o 0) (f w (0, omega arith, refl)))) in
           let rest = values_from ws (λ v c. f v (suc c.0, omega (arith, c.1), c.2)) in
           cc
 
       pub values_are : values_at (record { nodes = h.nodes; links = h.links; works = h.works }) x.variables ≡ values_of h i y
       values_are =
           let k = level.kept i step.pushed step.kept step.at step.fits in
-          values_from x.variables (λ w c. subst (λ (z : Accepted). variable_at z.variables w.sym w.code ≡ Some w.node) own (k.nodes_are.found w (subst (λ (z : Accepted). Contains z.variables w) (sym own) c)))
+          values_from x.variables
+              (λ w c. subst (λ (z : Accepted). variable_at z.variables w.sym w.code ≡ Some w.node) own
+                  (k.nodes_are.found w (subst (λ (z : Accepted). Contains z.variables w) (sym own) c)))
           ∙ ap (map (λ (v : TypedVariable). value_of h (copy i v.sym v.code))) variables_are
 
   -- and back
@@ -223,7 +234,8 @@ module _ (h : Held) (db : Database) (level : IsLevel db h.book h.bound h.works h
       let k = level.kept i told.pushed x told.at told.fits in
       let number : 0 + i ≡ i = omega arith in (
         asked_by h.bound i x k.assertion,
-        judgement_at h.book h.bound 0 h.steps i told.pushed told.at ∙ ap (λ (j : ℕ). Some (judgement_of h.book h.bound j told.pushed.judged)) number ∙ ap (λ (o : Judgement). Some o) (judgement_fits h.book h.bound i told.pushed.judged x k.assertion told.fits k.usable),
+        judgement_at h.book h.bound 0 h.steps i told.pushed told.at ∙ ap (λ (j : ℕ). Some (judgement_of h.book h.bound j told.pushed.judged)) number
+            ∙ ap (λ (o : Judgement). Some o) (judgement_fits h.book h.bound i told.pushed.judged x k.assertion told.fits k.usable),
       )
 
   works_free : AreWorkNodes h.nodes h.works
@@ -335,7 +347,8 @@ module _ (h now : Held) (e : h ≡ now) (t : Readable) (of : IsOfChain h t) wher
         subst (AreVariablesIn (length t.nodes)) (sym is) (subst (λ (r : Readable). AreVariablesIn (length r.nodes) x.variables) (sym trees_are) kept_inside.1)
 
     pub values_told : (vs : List VariableNode) → vs ≡ x.variables → (r : Result (List Tree) TreeFault)
-        → ((constants : Label → ℕ) → HaveConstants constants t.nodes → AreWorkNodes t.nodes t.works → AreRead constants (values_at t vs) r) → OfAccepted now i (λ y. AreRead (constants_of now) (values_of now i y) r)
+        → ((constants : Label → ℕ) → HaveConstants constants t.nodes → AreWorkNodes t.nodes t.works → AreRead constants (values_at t vs) r)
+            → OfAccepted now i (λ y. AreRead (constants_of now) (values_of now i y) r)
     values_told vs is r off kinds text sheet opened binds code y a =
         let db = database_of kinds text now.book.rows now.book.parsed in
         let level = (sound_of now here).level kinds text sheet opened binds code in

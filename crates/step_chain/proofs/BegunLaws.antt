@@ -339,7 +339,10 @@ module _ (db : Database) (bound : Bound) (ready : IsReadyBound db bound) where
   formulas_chained nodes works formulas h =
       subst (λ (ns : List Term). HasFormulas db bound ns works formulas) (sym h.nodes_are)
       (subst (λ (ws : List WorkNode). HasFormulas db bound (formulas_of db.rows (logic_code db) bound.steps).nodes ws formulas) (sym h.works_are)
-      (subst (λ (ids : List Id). HasFormulas db bound (formulas_of db.rows (logic_code db) bound.steps).nodes (unknowns_of (logic_code db) bound.steps).works ids) (sym h.formulas_are) first_formulas))
+      (subst
+          (λ (ids : List Id). HasFormulas db bound (formulas_of db.rows (logic_code db) bound.steps).nodes
+              (unknowns_of (logic_code db) bound.steps).works ids)
+          (sym h.formulas_are) first_formulas))
 
 -- ---- for the code
 

@@ -120,7 +120,10 @@ variables_of n (v ∷ vs) = ap (λ (ws : List TypedVariable). v ∷ ws) (variabl
 -- of variables that are apart each is found at its own node
 numbered_has : (n : ℕ) (vs : List TypedVariable) (w : VariableNode) → Contains (numbered n vs) w → Contains vs (record { sym = w.sym; code = w.code }) × (n ≤ w.node)
 numbered_has n [] w (k, l, e) = absurd (omega (arith, l))
-numbered_has n (v ∷ vs) w (zero, l, e) = ((0, omega arith, ap (λ (x : VariableNode). record { sym = x.sym; code = x.code }) e), let node : n ≡ w.node = ap (λ (x : VariableNode). x.node) e in omega (arith, node))
+numbered_has n (v ∷ vs) w (zero, l, e) =
+    ((0, omega arith, ap (λ (x : VariableNode). record { sym = x.sym; code = x.code }) e), let node : n ≡ w.node =
+        ap (λ (x : VariableNode). x.node) e in
+        omega (arith, node))
 numbered_has n (v ∷ vs) w (suc k, l, e) =
     let told = numbered_has (n + 1) vs w (k, omega (arith, l), e) in
     let more = told.1 in
@@ -135,7 +138,9 @@ own_by n v vs w false e s rest here = rest refl
 own_found : (n : ℕ) (vs : List TypedVariable) → AreApart vs → (w : VariableNode) → Contains (numbered n vs) w → variable_at (numbered n vs) w.sym w.code ≡ Some w.node
 own_found n [] apart w (k, l, e) = absurd (omega (arith, l))
 own_found n (v ∷ vs) apart w (zero, l, e) =
-    let self : is_variable w.sym w.code (record { sym = v.sym; code = v.code; node = n }) ≡ true = subst (λ (x : VariableNode). is_variable x.sym x.code (record { sym = v.sym; code = v.code; node = n }) ≡ true) e (self_variable v.sym v.code n) in
+    let self : is_variable w.sym w.code (record { sym = v.sym; code = v.code; node = n }) ≡ true =
+        subst (λ (x : VariableNode). is_variable x.sym x.code (record { sym = v.sym; code = v.code; node = n }) ≡ true) e
+            (self_variable v.sym v.code n) in
     own_by n v vs w (is_variable w.sym w.code (record { sym = v.sym; code = v.code; node = n })) refl refl
     (λ no. let impossible : false ≡ true = sym no ∙ self in absurd (cc)) (λ yes. ap (λ (x : VariableNode). x.node) e)
 own_found n (v ∷ vs) apart w (suc k, l, e) =
@@ -146,7 +151,9 @@ own_found n (v ∷ vs) apart w (suc k, l, e) =
 
 -- ---- the next step
 
-module _ (db : Database) (d : Opened) (book : IsBookOf db d) (facts : IsDatabase db) (whole : (b : Assertion) → db.usable b.label ≡ Some b → IsWhole b) (bound : Bound) (placed : ArePlaced bound) (ready_of : (x : Asked) → IsCandidate db bound x → IsReadyAsked db bound x)
+module _ (db : Database) (d : Opened) (book : IsBookOf db d) (facts : IsDatabase db)
+    (whole : (b : Assertion) → db.usable b.label ≡ Some b → IsWhole b) (bound : Bound) (placed : ArePlaced bound)
+    (ready_of : (x : Asked) → IsCandidate db bound x → IsReadyAsked db bound x)
     (works : List WorkNode) (formulas : List Id) (steps : List Pushed) (p : Pushed) (old new : Store) (level : IsLevel db d bound works formulas steps old.nodes old.links)
     (s : BoundStep) (at : slice_get bound.steps (length steps) ≡ Some s) (l : Label) (is : IsCandidateOf db d bound.place s l) where
   abbrev i : ℕ
@@ -194,7 +201,9 @@ module _ (db : Database) (d : Opened) (book : IsBookOf db d) (facts : IsDatabase
   own_fresh = fresh db d bound works formulas steps p old.nodes old.links level
 
   abbrev roots' : Listed
-  roots' = roots db bound before i s a lay formulas old new level.chained level.formula_nodes usable.vars apart own_fresh own_ready.sound.tree own_ready.sound.hyps own_ready.tree own_ready.hyps sound room
+  roots' =
+      roots db bound before i s a lay formulas old new level.chained level.formula_nodes usable.vars apart own_fresh own_ready.sound.tree
+          own_ready.sound.hyps own_ready.tree own_ready.hyps sound room
 
   abbrev lay'' : Layout
   lay'' = with_copies (length old.nodes) i a.vars lay
@@ -204,7 +213,9 @@ module _ (db : Database) (d : Opened) (book : IsBookOf db d) (facts : IsDatabase
     taken = subst (λ (rows : List Production). IsTaken rows a.frame.hyps a.tree a.hyps formulas (formula_at formulas i) s.places old new r) (sym book.rows) given
 
     same_roots : roots_of db.rows old.nodes a.frame.hyps a.tree a.hyps ≡ roots'
-    same_roots = roots_same db bound before i s a lay formulas old new level.chained level.formula_nodes usable.vars apart own_fresh own_ready.sound.tree own_ready.sound.hyps own_ready.tree own_ready.hyps sound room
+    same_roots =
+        roots_same db bound before i s a lay formulas old new level.chained level.formula_nodes usable.vars apart own_fresh own_ready.sound.tree
+            own_ready.sound.hyps own_ready.tree own_ready.hyps sound room
 
     nodes_are : new.nodes ≡ roots'.nodes
     nodes_are = taken.nodes ∙ ap (λ (x : Listed). x.nodes) same_roots
@@ -225,10 +236,12 @@ module _ (db : Database) (d : Opened) (book : IsBookOf db d) (facts : IsDatabase
     is_judged : IsJudgement db bound before i s (standing db bound.place s) (judged i s a r)
     is_judged =
         subst (λ x. IsJudgement db bound before i s x (judged i s a r)) (sym is.standing)
-        (taken_judged db bound before i s a lay formulas old new level.chained level.formula_nodes usable.vars apart own_fresh own_ready.sound.tree own_ready.sound.hyps own_ready.tree own_ready.hyps sound room
+        (taken_judged db bound before i s a lay formulas old new level.chained level.formula_nodes usable.vars apart own_fresh own_ready.sound.tree
+            own_ready.sound.hyps own_ready.tree own_ready.hyps sound room
         added_store added_solved (formula_at formulas i) refl new.links new_store new_solved r taken refl)
 
-  last_of : (r : Option (List ℕ)) → IsJudgement db bound before i s (standing db bound.place s) (judged i s a r) → (t : BoundStep) → slice_get bound.steps i ≡ Some t → IsJudgement db bound before i t (standing db bound.place t) (judged i s a r)
+  last_of : (r : Option (List ℕ)) → IsJudgement db bound before i s (standing db bound.place s) (judged i s a r) → (t : BoundStep)
+      → slice_get bound.steps i ≡ Some t → IsJudgement db bound before i t (standing db bound.place t) (judged i s a r)
   last_of r h t e =
       let same : s ≡ t = let both : Some s ≡ Some t = sym at ∙ e in cc in
       subst (λ (u : BoundStep). IsJudgement db bound before i u (standing db bound.place u) (judged i s a r)) same h
@@ -256,27 +269,42 @@ module _ (db : Database) (d : Opened) (book : IsBookOf db d) (facts : IsDatabase
 
     chained_raw : IsChained db bound (before ++ asked i a (reordered s.places x.order) ∷ []) (before ++ asked i a (reordered s.places x.order) ∷ []) ns new.links lay''
     chained_raw =
-        taken_chain db bound before i s a lay formulas old new level.chained level.formula_nodes usable.vars apart own_fresh own_ready.sound.tree own_ready.sound.hyps own_ready.tree own_ready.hyps sound room
-        (added_store (Some x.order) h.taken) (added_solved (Some x.order) h.taken) (formula_at formulas i) refl new.links (new_store (Some x.order) h.taken) (new_solved (Some x.order) h.taken) x.order
-        (own_tried db bound before i s a lay formulas old new level.chained level.formula_nodes usable.vars apart own_fresh own_ready.sound.tree own_ready.sound.hyps own_ready.tree own_ready.hyps sound room
-        (added_store (Some x.order) h.taken) (added_solved (Some x.order) h.taken) (formula_at formulas i) refl new.links (new_store (Some x.order) h.taken) (new_solved (Some x.order) h.taken) (Some x.order) (taken (Some x.order) h.taken) refl)
+        taken_chain db bound before i s a lay formulas old new level.chained level.formula_nodes usable.vars apart own_fresh own_ready.sound.tree
+            own_ready.sound.hyps own_ready.tree own_ready.hyps sound room
+        (added_store (Some x.order) h.taken) (added_solved (Some x.order) h.taken) (formula_at formulas i) refl new.links
+            (new_store (Some x.order) h.taken) (new_solved (Some x.order) h.taken) x.order
+        (own_tried db bound before i s a lay formulas old new level.chained level.formula_nodes usable.vars apart own_fresh own_ready.sound.tree
+            own_ready.sound.hyps own_ready.tree own_ready.hyps sound room
+        (added_store (Some x.order) h.taken) (added_solved (Some x.order) h.taken) (formula_at formulas i) refl new.links
+            (new_store (Some x.order) h.taken) (new_solved (Some x.order) h.taken) (Some x.order) (taken (Some x.order) h.taken) refl)
 
     chained : IsChained db bound (before ++ asked_by bound i x a ∷ []) (before ++ asked_by bound i x a ∷ []) (old.nodes ++ more) new.links lay''
-    chained = subst (λ (y : Asked). IsChained db bound (before ++ y ∷ []) (before ++ y ∷ []) (old.nodes ++ more) new.links lay'') own_asked (subst (λ (ks : List Term). IsChained db bound (before ++ asked i a (reordered s.places x.order) ∷ []) (before ++ asked i a (reordered s.places x.order) ∷ []) ks new.links lay'') roots_are chained_raw)
+    chained =
+        subst (λ (y : Asked). IsChained db bound (before ++ y ∷ []) (before ++ y ∷ []) (old.nodes ++ more) new.links lay'') own_asked
+            (subst
+                (λ (ks : List Term). IsChained db bound (before ++ asked i a (reordered s.places x.order) ∷ [])
+                    (before ++ asked i a (reordered s.places x.order) ∷ []) ks new.links lay'') roots_are chained_raw)
 
     formulas_now : AreFormulaNodes bound (old.nodes ++ more) lay'' (λ k. (formula_at formulas k).0)
     formulas_now =
         subst (λ (ks : List Term). AreFormulaNodes bound ks lay'' (λ k. (formula_at formulas k).0)) roots_are
-        (ready_formulas db bound before i s a lay formulas old new level.chained level.formula_nodes usable.vars apart own_fresh own_ready.sound.tree own_ready.sound.hyps own_ready.tree own_ready.hyps sound room (added_store (Some x.order) h.taken) (added_solved (Some x.order) h.taken))
+        (ready_formulas db bound before i s a lay formulas old new level.chained level.formula_nodes usable.vars apart own_fresh own_ready.sound.tree
+            own_ready.sound.hyps own_ready.tree own_ready.hyps sound room
+            (added_store (Some x.order) h.taken) (added_solved (Some x.order) h.taken))
 
     same_node : (u : Unknown) → IsUnknown bound before u → lay''.node_of u ≡ lay.node_of u
     same_node = kept_node db bound before i a s.places old.nodes lay level.chained.laid_out apart own_fresh
 
     hyps_nodes : AllZip (IsInstanceNode ns lay'' i) a.hyps (map (λ (id : Id). id.0) roots'.roots)
-    hyps_nodes = (ready_nodes db bound before i s a lay formulas old new level.chained level.formula_nodes usable.vars apart own_fresh own_ready.sound.tree own_ready.sound.hyps own_ready.tree own_ready.hyps sound room (added_store (Some x.order) h.taken) (added_solved (Some x.order) h.taken)).hyps
+    hyps_nodes =
+        (ready_nodes db bound before i s a lay formulas old new level.chained level.formula_nodes usable.vars apart own_fresh own_ready.sound.tree
+            own_ready.sound.hyps own_ready.tree own_ready.hyps sound room
+            (added_store (Some x.order) h.taken) (added_solved (Some x.order) h.taken)).hyps
 
     hyps_are : x.hyps ≡ roots'.roots
-    hyps_are = h.kept.hyps ∙ ap (λ (rows : List Production). (roots_of rows old.nodes a.frame.hyps a.tree a.hyps).roots) (sym book.rows) ∙ ap (λ (y : Listed). y.roots) (same_roots (Some x.order) h.taken)
+    hyps_are =
+        h.kept.hyps ∙ ap (λ (rows : List Production). (roots_of rows old.nodes a.frame.hyps a.tree a.hyps).roots) (sym book.rows)
+            ∙ ap (λ (y : Listed). y.roots) (same_roots (Some x.order) h.taken)
 
     variables_are : x.variables ≡ numbered (length old.nodes) a.vars
     variables_are = h.kept.variables ∙ ap (numbered (length old.nodes)) (sym usable.vars)

@@ -21,7 +21,8 @@ use Rattle.chain_laws.specs.declared.leaves.VariableNode.{VariableNode}
 use Rattle.chain_laws.specs.Adding.{Rooted, Adder, run, there_or, work_at, variable_at, constants_in, added, free_of}
 use Rattle.step_chain.specs.declared.formulas.FormulaNodes.{FormulaNodes}
 use Rattle.step_chain.specs.Candidate.{table_of, copied, root_of, roots_of}
-use Rattle.step_chain.specs.Formulas.{Begun, nothing_begun, with_work, with_leaf, with_leaves, with_formula, with_step, with_steps, unknowns_of, blank_nodes, formula_adder, formula_adders, AreFormulas}
+use Rattle.step_chain.specs.Formulas.{Begun, nothing_begun, with_work, with_leaf, with_leaves, with_formula, with_step, with_steps, unknowns_of}
+use Rattle.step_chain.specs.Formulas.{blank_nodes, formula_adder, formula_adders, AreFormulas}
 use Rattle.step_chain.proofs.AddingLaws.{added-Var, added-Work, added-Fresh, added-Node}
 
 module _ (rows : List Production) where

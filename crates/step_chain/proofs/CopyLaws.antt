@@ -40,7 +40,9 @@ typed_append (g ∷ hs) h =
     ∙ ap (λ (vs : List TypedVariable). vs ++ typed_of h) (sym (typed_cons g hs))
 
 -- one hypothesis more
-pub variables_more : (n k : ℕ) (hs : List Hyp) (h : Hyp) (old new : List VariableNode) → h ≡ get_or hs k h → k < length hs → old ≡ numbered n (typed_variables (take k hs)) → new ≡ old ++ numbered (n + length old) (typed_of h) → new ≡ numbered n (typed_variables (take (k + 1) hs))
+pub variables_more : (n k : ℕ) (hs : List Hyp) (h : Hyp) (old new : List VariableNode) → h ≡ get_or hs k h → k < length hs
+    → old ≡ numbered n (typed_variables (take k hs)) → new ≡ old ++ numbered (n + length old) (typed_of h)
+    → new ≡ numbered n (typed_variables (take (k + 1) hs))
 variables_more n k hs h old new is below o e =
     let vs = typed_variables (take k hs) in
     let list : typed_variables (take (k + 1) hs) ≡ vs ++ typed_of h = ap typed_variables (take_more hs k h below ∙ ap (λ (g : Hyp). take k hs ++ g ∷ []) (sym is)) ∙ typed_append (take k hs) h in
@@ -58,10 +60,13 @@ numbered_in n m [] h = tt
 numbered_in n m (v ∷ vs) h = (omega (arith, h), numbered_in (n + 1) m vs (omega (arith, h)))
 
 -- the same with a table of work variables that is empty
-pub without_works : (rows : List Production) (works : List WorkNode) (vars : List VariableNode) (t : Tree) (next after : List Term) (id : Id) → works ≡ [] → IsRooted (added rows works vars t next) after id → IsRooted (added rows [] vars t next) after id
+pub without_works : (rows : List Production) (works : List WorkNode) (vars : List VariableNode) (t : Tree) (next after : List Term) (id : Id)
+    → works ≡ [] → IsRooted (added rows works vars t next) after id → IsRooted (added rows [] vars t next) after id
 without_works rows works vars t next after id none r = subst (λ (ws : List WorkNode). IsRooted (added rows ws vars t next) after id) none r
 
-pub all_without_works : (rows : List Production) (works : List WorkNode) (vars : List VariableNode) (ts : List Tree) (after last : List Term) (ids : List Id) → works ≡ [] → AreListed (run (map (added rows works vars) ts) after) last ids → AreListed (run (map (added rows [] vars) ts) after) last ids
+pub all_without_works : (rows : List Production) (works : List WorkNode) (vars : List VariableNode) (ts : List Tree) (after last : List Term)
+    (ids : List Id)
+    → works ≡ [] → AreListed (run (map (added rows works vars) ts) after) last ids → AreListed (run (map (added rows [] vars) ts) after) last ids
 all_without_works rows works vars ts after last ids none l = subst (λ (ws : List WorkNode). AreListed (run (map (added rows ws vars) ts) after) last ids) none l
 
 -- the facts of a candidate's nodes, from those of the calls
@@ -74,18 +79,23 @@ module _ (rows : List Production) (nodes : List Term) (hyps : List Hyp) (t : Tre
 
   pub table_in : (given : List VariableNode) (next : List Term) → given ≡ table_of nodes hyps → next ≡ copied nodes hyps → AreVariablesIn (length next) given
   table_in given next g e =
-      let count : length next ≡ length nodes + length (typed_variables hyps) = ap length e ∙ length-append nodes (map free_of (typed_variables hyps)) ∙ ap (λ (k : ℕ). length nodes + k) (length-map (typed_variables hyps) free_of) in
+      let count : length next ≡ length nodes + length (typed_variables hyps) =
+          ap length e ∙ length-append nodes (map free_of (typed_variables hyps))
+              ∙ ap (λ (k : ℕ). length nodes + k) (length-map (typed_variables hyps) free_of) in
       subst (AreVariablesIn (length next)) (sym g) (numbered_in (length nodes) (length next) (typed_variables hyps) (omega (arith, count)))
 
   rooted_is : (given : List VariableNode) (next : List Term) → given ≡ table_of nodes hyps → next ≡ copied nodes hyps → added rows [] given t next ≡ root_of rows nodes hyps t
   rooted_is given next g e = ap (λ (vs : List VariableNode). added rows [] vs t next) g ∙ ap (added rows [] (table_of nodes hyps) t) e
 
-  pub root_is : (given : List VariableNode) (next after : List Term) (id : Id) → given ≡ table_of nodes hyps → next ≡ copied nodes hyps → IsRooted (added rows [] given t next) after id → id.0 ≡ (root_of rows nodes hyps t).root
+  pub root_is : (given : List VariableNode) (next after : List Term) (id : Id) → given ≡ table_of nodes hyps → next ≡ copied nodes hyps
+      → IsRooted (added rows [] given t next) after id → id.0 ≡ (root_of rows nodes hyps t).root
   root_is given next after id g e r = r.root ∙ ap (λ (x : Rooted). x.root) (rooted_is given next g e)
 
-  pub roots_are : (given other : List VariableNode) (next after last : List Term) (id : Id) (ids : List Id) → given ≡ table_of nodes hyps → other ≡ table_of nodes hyps → next ≡ copied nodes hyps → IsRooted (added rows [] given t next) after id
+  pub roots_are : (given other : List VariableNode) (next after last : List Term) (id : Id) (ids : List Id) → given ≡ table_of nodes hyps
+      → other ≡ table_of nodes hyps → next ≡ copied nodes hyps → IsRooted (added rows [] given t next) after id
       → AreListed (run (map (added rows [] other) ts) after) last ids → AreListed (roots_of rows nodes hyps t ts) last ids
   roots_are given other next after last id ids g o e r l =
       let same : run (map (added rows [] other) ts) after ≡ roots_of rows nodes hyps t ts =
-      ap (λ (vs : List VariableNode). run (map (added rows [] vs) ts) after) o ∙ ap (run (map (added rows [] (table_of nodes hyps)) ts)) (r.nodes_are ∙ ap (λ (x : Rooted). x.nodes) (rooted_is given next g e)) in
+      ap (λ (vs : List VariableNode). run (map (added rows [] vs) ts) after) o
+          ∙ ap (run (map (added rows [] (table_of nodes hyps)) ts)) (r.nodes_are ∙ ap (λ (x : Rooted). x.nodes) (rooted_is given next g e)) in
       subst (λ (x : Listed). AreListed x last ids) same l

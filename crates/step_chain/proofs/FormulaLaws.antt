@@ -18,7 +18,8 @@ use Rattle.term_model.specs.Store.{Store}
 use Rattle.chain_laws.specs.declared.leaves.WorkNode.{WorkNode}
 use Rattle.chain_laws.specs.Adding.{Adder, Listed, run, id_of, work_at}
 use Rattle.step_chain.specs.Grown.{IsRooted, AreListed, AreWorksIn}
-use Rattle.step_chain.specs.Formulas.{Begun, begun, with_work, with_leaf, with_leaves, with_formula, with_step, with_steps, blank_node, blank_nodes, formula_adder, formula_adders, nothing_begun, unknowns_of, formulas_of, AreFormulas}
+use Rattle.step_chain.specs.Formulas.{Begun, begun, with_work, with_leaf, with_leaves, with_formula, with_step, with_steps, blank_node, blank_nodes}
+use Rattle.step_chain.specs.Formulas.{formula_adder, formula_adders, nothing_begun, unknowns_of, formulas_of, AreFormulas}
 use Rattle.step_chain.proofs.AddingLaws.{run_nodes, run_roots, works_in_more}
 
 -- ---- the work variables of a tree

@@ -79,7 +79,9 @@ module _ (of : Pushed → ℕ) where
       by_some : (a b : Option Pushed) → a ≡ b → (x : Pushed) × (b ≡ Some x) → option_map_or of a new ≡ option_map_or of b old
       by_some a b same is = ap (λ (o : Option Pushed). option_map_or of o new) (same ∙ is.1) ∙ sym (ap (λ (o : Option Pushed). option_map_or of o old) is.1)
 
-  rise_pushed : (steps : List Pushed) (p : Pushed) (old new : ℕ) → of p ≡ old → old ≤ new → ((j k : ℕ) → j ≤ k → mark_at steps old j ≤ mark_at steps old k) → (j k : ℕ) → j ≤ k → mark_at (steps ++ p ∷ []) new j ≤ mark_at (steps ++ p ∷ []) new k
+  rise_pushed : (steps : List Pushed) (p : Pushed) (old new : ℕ) → of p ≡ old → old ≤ new
+      → ((j k : ℕ) → j ≤ k → mark_at steps old j ≤ mark_at steps old k) → (j k : ℕ) → j ≤ k
+      → mark_at (steps ++ p ∷ []) new j ≤ mark_at (steps ++ p ∷ []) new k
   rise_pushed steps p old new e more rise j k h = elim (cases_lt (length steps) j) [
     | inl past ↦
         let long = length_push steps p in
@@ -140,7 +142,8 @@ module _ (of : Pushed → ℕ) where
       short (x ∷ xs) (suc k) zero h = absurd (omega (arith, h))
       short (x ∷ xs) (suc k) (suc j) h = let rest = short xs k j (omega (arith, h)) in omega (arith, rest)
 
-  rise_front : (steps : List Pushed) (last k : ℕ) → ((i j : ℕ) → i ≤ j → mark_at steps last i ≤ mark_at steps last j) → (i j : ℕ) → i ≤ j → mark_at (take k steps) (mark_at steps last k) i ≤ mark_at (take k steps) (mark_at steps last k) j
+  rise_front : (steps : List Pushed) (last k : ℕ) → ((i j : ℕ) → i ≤ j → mark_at steps last i ≤ mark_at steps last j) → (i j : ℕ) → i ≤ j
+      → mark_at (take k steps) (mark_at steps last k) i ≤ mark_at (take k steps) (mark_at steps last k) j
   rise_front steps last k rise i j h = elim (cases_lt k i) [
     | inl past ↦
         let one = at_front_past steps last k i (omega (arith, past)) in
@@ -192,10 +195,12 @@ module _ (d : Opened) (logic : Typecode) (bound : Bound) (works : List WorkNode)
     take_short (x ∷ xs) (suc k) = let rest = take_short xs k in omega (arith, rest)
 
     last_nodes : nodes_before steps nodes k ≤ length nodes
-    last_nodes = let rise = h.nodes_rise k (k + length steps) (omega arith) in let end = behind (λ (p : Pushed). p.mark.nodes) steps (length nodes) (k + length steps) (omega arith) in omega (arith, rise, end)
+    last_nodes = let rise = h.nodes_rise k (k + length steps) (omega arith) in
+        let end = behind (λ (p : Pushed). p.mark.nodes) steps (length nodes) (k + length steps) (omega arith) in omega (arith, rise, end)
 
     last_links : links_before steps links k ≤ length links
-    last_links = let rise = h.links_rise k (k + length steps) (omega arith) in let end = behind (λ (p : Pushed). p.mark.trail) steps (length links) (k + length steps) (omega arith) in omega (arith, rise, end)
+    last_links = let rise = h.links_rise k (k + length steps) (omega arith) in
+        let end = behind (λ (p : Pushed). p.mark.trail) steps (length links) (k + length steps) (omega arith) in omega (arith, rise, end)
 
     nodes_end : length (take (nodes_before steps nodes k) nodes) ≡ nodes_before steps nodes k
     nodes_end = take_length nodes (nodes_before steps nodes k) last_nodes
@@ -214,9 +219,15 @@ module _ (d : Opened) (logic : Typecode) (bound : Bound) (works : List WorkNode)
 
     front_first : (j : ℕ) → j ≤ k → Front (take j first_steps) (take (nodes_before first_steps first_nodes j) first_nodes) (take (links_before first_steps first_links j) first_links)
     front_first j first =
-        let n : nodes_before first_steps first_nodes j ≡ nodes_before steps nodes j = ap (λ (m : ℕ). option_map_or (λ (p : Pushed). p.mark.nodes) (slice_get first_steps j) m) nodes_end ∙ at_front (λ (p : Pushed). p.mark.nodes) steps (length nodes) k j first in
-        let l : links_before first_steps first_links j ≡ links_before steps links j = ap (λ (m : ℕ). option_map_or (λ (p : Pushed). p.mark.trail) (slice_get first_steps j) m) links_end ∙ at_front (λ (p : Pushed). p.mark.trail) steps (length links) k j first in
-        front_same (take j steps) (take j first_steps) (take (nodes_before steps nodes j) nodes) (take (nodes_before first_steps first_nodes j) first_nodes) (take (links_before steps links j) links) (take (links_before first_steps first_links j) first_links)
+        let n : nodes_before first_steps first_nodes j ≡ nodes_before steps nodes j =
+            ap (λ (m : ℕ). option_map_or (λ (p : Pushed). p.mark.nodes) (slice_get first_steps j) m) nodes_end
+                ∙ at_front (λ (p : Pushed). p.mark.nodes) steps (length nodes) k j first in
+        let l : links_before first_steps first_links j ≡ links_before steps links j =
+            ap (λ (m : ℕ). option_map_or (λ (p : Pushed). p.mark.trail) (slice_get first_steps j) m) links_end
+                ∙ at_front (λ (p : Pushed). p.mark.trail) steps (length links) k j first in
+        front_same (take j steps) (take j first_steps) (take (nodes_before steps nodes j) nodes)
+            (take (nodes_before first_steps first_nodes j) first_nodes) (take (links_before steps links j) links)
+            (take (links_before first_steps first_links j) first_links)
         (sym (take_take steps j k first))
         (sym (ap (λ (m : ℕ). take m first_nodes) n ∙ take_take nodes (nodes_before steps nodes j) (nodes_before steps nodes k) (h.nodes_rise j k first)))
         (sym (ap (λ (m : ℕ). take m first_links) l ∙ take_take links (links_before steps links j) (links_before steps links k) (h.links_rise j k first)))
@@ -224,8 +235,12 @@ module _ (d : Opened) (logic : Typecode) (bound : Bound) (works : List WorkNode)
 
     front_past : (j : ℕ) → k < j → Front (take j first_steps) (take (nodes_before first_steps first_nodes j) first_nodes) (take (links_before first_steps first_links j) first_links)
     front_past j past =
-        let n : nodes_before first_steps first_nodes j ≡ nodes_before steps nodes k = ap (λ (m : ℕ). option_map_or (λ (p : Pushed). p.mark.nodes) (slice_get first_steps j) m) nodes_end ∙ at_front_past (λ (p : Pushed). p.mark.nodes) steps (length nodes) k j (omega (arith, past)) in
-        let l : links_before first_steps first_links j ≡ links_before steps links k = ap (λ (m : ℕ). option_map_or (λ (p : Pushed). p.mark.trail) (slice_get first_steps j) m) links_end ∙ at_front_past (λ (p : Pushed). p.mark.trail) steps (length links) k j (omega (arith, past)) in
+        let n : nodes_before first_steps first_nodes j ≡ nodes_before steps nodes k =
+            ap (λ (m : ℕ). option_map_or (λ (p : Pushed). p.mark.nodes) (slice_get first_steps j) m) nodes_end
+                ∙ at_front_past (λ (p : Pushed). p.mark.nodes) steps (length nodes) k j (omega (arith, past)) in
+        let l : links_before first_steps first_links j ≡ links_before steps links k =
+            ap (λ (m : ℕ). option_map_or (λ (p : Pushed). p.mark.trail) (slice_get first_steps j) m) links_end
+                ∙ at_front_past (λ (p : Pushed). p.mark.trail) steps (length links) k j (omega (arith, past)) in
         front_same first_steps (take j first_steps) first_nodes (take (nodes_before first_steps first_nodes j) first_nodes) first_links (take (links_before first_steps first_links j) first_links)
         (sym (take_past first_steps j (shorter (length first_steps) k j (short_at steps k) (omega (arith, past)))))
         (sym (ap (λ (m : ℕ). take m first_nodes) n ∙ take_take nodes (nodes_before steps nodes k) (nodes_before steps nodes k) (omega arith)))
@@ -256,13 +271,15 @@ module _ (d : Opened) (logic : Typecode) (bound : Bound) (works : List WorkNode)
     }
 
   -- a step more
-  module _ (steps : List Pushed) (p : Pushed) (old new : Store) (h : IsHeld (held steps old.nodes old.links)) (nodes_mark : p.mark.nodes ≡ length old.nodes) (links_mark : p.mark.trail ≡ length old.links)
+  module _ (steps : List Pushed) (p : Pushed) (old new : Store) (h : IsHeld (held steps old.nodes old.links))
+      (nodes_mark : p.mark.nodes ≡ length old.nodes) (links_mark : p.mark.trail ≡ length old.links)
       (next : IsNext d bound formulas (length steps) old new p.judged) where
     more_nodes : length old.nodes ≤ length new.nodes
     more_nodes = let e : length new.nodes ≡ length (old.nodes ++ next.extended.more) = ap length next.extended.nodes in let long = length-append old.nodes next.extended.more in omega (arith, e, long)
 
     more_links : length old.links ≤ length new.links
-    more_links = let e : length new.links ≡ length (old.links ++ next.extended.more_links) = ap length next.extended.links in let long = length-append old.links next.extended.more_links in omega (arith, e, long)
+    more_links = let e : length new.links ≡ length (old.links ++ next.extended.more_links) = ap length next.extended.links in
+        let long = length-append old.links next.extended.more_links in omega (arith, e, long)
 
     last : Front steps old.nodes old.links
     last = whole steps old.nodes old.links h
@@ -278,7 +295,9 @@ module _ (d : Opened) (logic : Typecode) (bound : Bound) (works : List WorkNode)
       works_in = works_in_more (length old.nodes) (length new.nodes) works more_nodes last.works_in;
       formulas_in = ids_in_more (length old.nodes) (length new.nodes) formulas more_nodes last.formulas_in;
       kept_in = all_join (λ (q : Pushed). IsKeptIn (length new.nodes) q.judged) steps (p ∷ [])
-          (all_weaker (λ (q : Pushed). IsKeptIn (length old.nodes) q.judged) (λ (q : Pushed). IsKeptIn (length new.nodes) q.judged) (λ q k. kept_more (length old.nodes) (length new.nodes) more_nodes q.judged k) steps last.kept_in) (next.kept_in, tt);
+          (all_weaker (λ (q : Pushed). IsKeptIn (length old.nodes) q.judged) (λ (q : Pushed). IsKeptIn (length new.nodes) q.judged)
+              (λ q k. kept_more (length old.nodes) (length new.nodes) more_nodes q.judged k) steps last.kept_in)
+              (next.kept_in, tt);
       level = λ kinds text sheet opened binds code. next.level kinds text sheet opened binds works steps p refl refl (last.level kinds text sheet opened binds code);
     }
 
@@ -289,12 +308,20 @@ module _ (d : Opened) (logic : Typecode) (bound : Bound) (works : List WorkNode)
     front_old j first =
         let n : nodes_before more_steps new.nodes j ≡ nodes_before steps old.nodes j = at_pushed (λ (q : Pushed). q.mark.nodes) steps p (length old.nodes) (length new.nodes) j nodes_mark first in
         let l : links_before more_steps new.links j ≡ links_before steps old.links j = at_pushed (λ (q : Pushed). q.mark.trail) steps p (length old.links) (length new.links) j links_mark first in
-        let below_n : nodes_before steps old.nodes j ≤ length old.nodes = let rise = h.nodes_rise j (length steps) first in let end = behind (λ (q : Pushed). q.mark.nodes) steps (length old.nodes) (length steps) (omega arith) in omega (arith, rise, end) in
-        let below_l : links_before steps old.links j ≤ length old.links = let rise = h.links_rise j (length steps) first in let end = behind (λ (q : Pushed). q.mark.trail) steps (length old.links) (length steps) (omega arith) in omega (arith, rise, end) in
-        front_same (take j steps) (take j more_steps) (take (nodes_before steps old.nodes j) old.nodes) (take (nodes_before more_steps new.nodes j) new.nodes) (take (links_before steps old.links j) old.links) (take (links_before more_steps new.links j) new.links)
+        let below_n : nodes_before steps old.nodes j ≤ length old.nodes = let rise = h.nodes_rise j (length steps) first in
+            let end = behind (λ (q : Pushed). q.mark.nodes) steps (length old.nodes) (length steps) (omega arith) in omega (arith, rise, end) in
+        let below_l : links_before steps old.links j ≤ length old.links = let rise = h.links_rise j (length steps) first in
+            let end = behind (λ (q : Pushed). q.mark.trail) steps (length old.links) (length steps) (omega arith) in omega (arith, rise, end) in
+        front_same (take j steps) (take j more_steps) (take (nodes_before steps old.nodes j) old.nodes)
+            (take (nodes_before more_steps new.nodes j) new.nodes) (take (links_before steps old.links j) old.links)
+            (take (links_before more_steps new.links j) new.links)
         (sym (take-append-le j steps (p ∷ []) first))
-        (sym (ap (λ (m : ℕ). take m new.nodes) n ∙ ap (take (nodes_before steps old.nodes j)) next.extended.nodes ∙ take-append-le (nodes_before steps old.nodes j) old.nodes next.extended.more below_n))
-        (sym (ap (λ (m : ℕ). take m new.links) l ∙ ap (take (links_before steps old.links j)) next.extended.links ∙ take-append-le (links_before steps old.links j) old.links next.extended.more_links below_l))
+        (sym
+            (ap (λ (m : ℕ). take m new.nodes) n ∙ ap (take (nodes_before steps old.nodes j)) next.extended.nodes
+                ∙ take-append-le (nodes_before steps old.nodes j) old.nodes next.extended.more below_n))
+        (sym
+            (ap (λ (m : ℕ). take m new.links) l ∙ ap (take (links_before steps old.links j)) next.extended.links
+                ∙ take-append-le (links_before steps old.links j) old.links next.extended.more_links below_l))
         (h.fronts j)
 
     front_new : (j : ℕ) → length steps < j → Front (take j more_steps) (take (nodes_before more_steps new.nodes j) new.nodes) (take (links_before more_steps new.links j) new.links)
@@ -333,7 +360,8 @@ module _ (d : Opened) (logic : Typecode) (bound : Bound) (works : List WorkNode)
   }
 
   -- the same, as a call of `begin` gives it
-  pub begun_held : (nodes : List Term) (links : List Link) (steps : List Pushed) → ArePlaced bound → length bound.steps < 2 ^ 32 → length formulas ≡ length bound.steps → steps ≡ [] → links ≡ [] → Front [] nodes links → IsHeld (held steps nodes links)
+  pub begun_held : (nodes : List Term) (links : List Link) (steps : List Pushed) → ArePlaced bound → length bound.steps < 2 ^ 32
+      → length formulas ≡ length bound.steps → steps ≡ [] → links ≡ [] → Front [] nodes links → IsHeld (held steps nodes links)
   begun_held nodes links steps placed few count none unbound front =
       subst (λ (ls : List Link). IsHeld (held steps nodes ls)) (sym unbound)
       (subst (λ (xs : List Pushed). IsHeld (held xs nodes [])) (sym none) (first_held nodes placed few count (subst (λ (ls : List Link). Front [] nodes ls) unbound front)))

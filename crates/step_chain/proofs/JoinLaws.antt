@@ -22,11 +22,13 @@ same_default (x ∷ xs) zero d e h = refl
 same_default (x ∷ xs) (suc k) d e h = same_default xs k d e (omega (arith, h))
 
 -- the pair that is next
-module _ (nodes : List Term) (old mid : List Link) (pairs : List NodeIds) (k : ℕ) (p : NodeIds) (is : p ≡ get_or pairs k p) (below : k < length pairs) (joined : Joins nodes old mid (pairs_of (take k pairs))) where
+module _ (nodes : List Term) (old mid : List Link) (pairs : List NodeIds) (k : ℕ) (p : NodeIds) (is : p ≡ get_or pairs k p) (below : k < length pairs)
+    (joined : Joins nodes old mid (pairs_of (take k pairs))) where
   list_more : pairs_of (take (k + 1) pairs) ≡ pairs_of (take k pairs) ++ pair_of p ∷ []
   list_more = ap pairs_of (take_more pairs k p below ∙ ap (λ (q : NodeIds). take k pairs ++ q ∷ []) (sym is)) ∙ map_push pair_of (take k pairs) p
 
-  pub joins_next : (new : List Link) → ((trees : List Tree) → Solution nodes new trees ↔ (Solution nodes mid trees × HaveSameTree p.0.0 p.1.0 trees)) → Joins nodes old new (pairs_of (take (k + 1) pairs))
+  pub joins_next : (new : List Link) → ((trees : List Tree) → Solution nodes new trees ↔ (Solution nodes mid trees × HaveSameTree p.0.0 p.1.0 trees))
+      → Joins nodes old new (pairs_of (take (k + 1) pairs))
   joins_next new unified =
       subst (Joins nodes old new) (sym list_more)
       (joins_more nodes old mid new (pairs_of (take k pairs)) (pair_of p ∷ []) joined
@@ -48,7 +50,9 @@ module _ (nodes : List Term) (old mid : List Link) (pairs : List NodeIds) (k : �
       (subst (λ (q : NodeIds). tree_at trees q.0.0 ≡ tree_at trees q.1.0) (sym is) (one_joined trees k pairs below j))
 
   -- the same, where the nodes are given by equations
-  pub joins_after : (mid_nodes new_nodes : List Term) (new : List Link) → mid_nodes ≡ nodes → new_nodes ≡ nodes → ((trees : List Tree) → Solution new_nodes new trees ↔ (Solution mid_nodes mid trees × HaveSameTree p.0.0 p.1.0 trees)) → Joins nodes old new (pairs_of (take (k + 1) pairs))
+  pub joins_after : (mid_nodes new_nodes : List Term) (new : List Link) → mid_nodes ≡ nodes → new_nodes ≡ nodes
+      → ((trees : List Tree) → Solution new_nodes new trees ↔ (Solution mid_nodes mid trees × HaveSameTree p.0.0 p.1.0 trees))
+      → Joins nodes old new (pairs_of (take (k + 1) pairs))
   joins_after mid_nodes new_nodes new e f unified =
       joins_next new (subst (λ (ns : List Term). (trees : List Tree) → Solution nodes new trees ↔ (Solution ns mid trees × HaveSameTree p.0.0 p.1.0 trees)) e
       (subst (λ (ns : List Term). (trees : List Tree) → Solution ns new trees ↔ (Solution mid_nodes mid trees × HaveSameTree p.0.0 p.1.0 trees)) f unified))

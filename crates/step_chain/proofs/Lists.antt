@@ -45,7 +45,8 @@ module _ {X : Type 0} where
   all_each P [] f = tt
   all_each P (x ∷ xs) f = (f 0 x refl, all_each P xs (λ k y e. f (suc k) y e))
 
-pub zip_weaker : {X Y : Type 0} (P : X → Type 0) (R S : X → Y → Type 0) → ((x : X) (y : Y) → P x → R x y → S x y) → (xs : List X) (ys : List Y) → AllByRecursion P xs → AllZip R xs ys → AllZip S xs ys
+pub zip_weaker : {X Y : Type 0} (P : X → Type 0) (R S : X → Y → Type 0) → ((x : X) (y : Y) → P x → R x y → S x y) → (xs : List X) (ys : List Y)
+    → AllByRecursion P xs → AllZip R xs ys → AllZip S xs ys
 zip_weaker P R S f [] [] a z = tt
 zip_weaker P R S f [] (y ∷ ys) a z = absurd z
 zip_weaker P R S f (x ∷ xs) [] a z = absurd z

@@ -63,11 +63,18 @@ kept_some n o x e h = subst (IsKeptInIf n) e h
 
 -- ---- a step that stands
 
-module _ (d : Opened) (bound : Bound) (formulas : List Id) (i : ℕ) (old after : Store) (store : IsStore old.nodes old.links) (solved : IsSolved old.nodes old.links) (same : IsSameStore old after) where
-  level_after : (db : Database) (works : List WorkNode) (steps : List Pushed) → IsLevel db d bound works formulas steps old.nodes old.links → IsLevel db d bound works formulas steps after.nodes after.links
-  level_after db works steps h = subst (λ (ls : List Link). IsLevel db d bound works formulas steps after.nodes ls) (sym same.links) (subst (λ (ns : List Term). IsLevel db d bound works formulas steps ns old.links) (sym same.nodes) h)
+module _ (d : Opened) (bound : Bound) (formulas : List Id) (i : ℕ) (old after : Store) (store : IsStore old.nodes old.links)
+    (solved : IsSolved old.nodes old.links) (same : IsSameStore old after) where
+  level_after : (db : Database) (works : List WorkNode) (steps : List Pushed) → IsLevel db d bound works formulas steps old.nodes old.links
+      → IsLevel db d bound works formulas steps after.nodes after.links
+  level_after db works steps h =
+      subst (λ (ls : List Link). IsLevel db d bound works formulas steps after.nodes ls) (sym same.links)
+          (subst (λ (ns : List Term). IsLevel db d bound works formulas steps ns old.links) (sym same.nodes) h)
 
-  next_stands : (v : Verdict) → ForEachBook d bound (λ db. (works : List WorkNode) (steps : List Pushed) (p : Pushed) → p.judged ≡ Stands v → length steps ≡ i → IsLevel db d bound works formulas steps old.nodes old.links → IsLevel db d bound works formulas (steps ++ p ∷ []) old.nodes old.links)
+  next_stands : (v : Verdict)
+      → ForEachBook d bound
+          (λ db. (works : List WorkNode) (steps : List Pushed) (p : Pushed) → p.judged ≡ Stands v → length steps ≡ i
+              → IsLevel db d bound works formulas steps old.nodes old.links → IsLevel db d bound works formulas (steps ++ p ∷ []) old.nodes old.links)
       → IsNext d bound formulas i old after (Stands v)
   next_stands v more = record {
     extended = record { more = []; nodes = same.nodes ∙ sym (append-nil old.nodes); more_links = []; links = same.links ∙ sym (append-nil old.links) };
@@ -75,7 +82,9 @@ module _ (d : Opened) (bound : Bound) (formulas : List Id) (i : ℕ) (old after 
     solved = subst (λ (ls : List Link). IsSolved after.nodes ls) (sym same.links) (subst (λ (ns : List Term). IsSolved ns old.links) (sym same.nodes) solved);
     kept_in = tt;
     used = tt;
-    level = λ kinds text sheet opened binds works steps p e count level. level_after (database_of kinds text d.rows d.parsed) works (steps ++ p ∷ []) (more kinds text sheet opened binds works steps p e count level);
+    level =
+        λ kinds text sheet opened binds works steps p e count level. level_after (database_of kinds text d.rows d.parsed) works (steps ++ p ∷ [])
+            (more kinds text sheet opened binds works steps p e count level);
   }
 
   -- whose verdict needs no solution
@@ -83,7 +92,9 @@ module _ (d : Opened) (bound : Bound) (formulas : List Id) (i : ℕ) (old after 
   next_settled v is below =
       next_stands v (λ kinds text sheet opened binds works steps p e count level.
       let db = database_of kinds text d.rows d.parsed in
-      let told : standing db bound.place (step_at bound i) ≡ settled v = subst (IsStandingOf db d bound.place (step_at bound i)) is (standing_same db d bound.place (step_at bound i) (book_of kinds text d opened)) in
+      let told : standing db bound.place (step_at bound i) ≡ settled v =
+          subst (IsStandingOf db d bound.place (step_at bound i)) is
+              (standing_same db d bound.place (step_at bound i) (book_of kinds text d opened)) in
       level_stands db d bound works formulas steps p old.nodes old.links level v e
       (λ s at.
       let own : s ≡ step_at bound i = let both : Some s ≡ Some (step_at bound i) = sym at ∙ ap (slice_get bound.steps) count ∙ slice_get-get_or bound.steps i no_step below in cc in
@@ -91,7 +102,8 @@ module _ (d : Opened) (bound : Bound) (formulas : List Id) (i : ℕ) (old after 
 
 -- ---- a candidate
 
-module _ (ready : CandidatesAreReady) (facts : HasDatabaseFacts) (whole : AssertionsAreWhole) (d : Opened) (bound : Bound) (placed : ArePlaced bound) (formulas : List Id) (i : ℕ) (below : i < length bound.steps) (l : Label)
+module _ (ready : CandidatesAreReady) (facts : HasDatabaseFacts) (whole : AssertionsAreWhole) (d : Opened) (bound : Bound) (placed : ArePlaced bound)
+    (formulas : List Id) (i : ℕ) (below : i < length bound.steps) (l : Label)
     (is : standing_in d bound.place (step_at bound i) ≡ Candidate l) (old new : Store) where
   abbrev s : BoundStep
   s = step_at bound i
@@ -116,29 +128,41 @@ module _ (ready : CandidatesAreReady) (facts : HasDatabaseFacts) (whole : Assert
       at : slice_get bound.steps (length steps) ≡ Some s
       at = ap (slice_get bound.steps) count ∙ slice_get-get_or bound.steps i no_step below
 
-      own_taken : (r : Option Accepted) (a : Assertion) → IsTakenAs d formulas (formula_at formulas i) s.places l a old new r → IsTakenAs d formulas (formula_at formulas (length steps)) s.places l a old new r
+      own_taken : (r : Option Accepted) (a : Assertion) → IsTakenAs d formulas (formula_at formulas i) s.places l a old new r
+          → IsTakenAs d formulas (formula_at formulas (length steps)) s.places l a old new r
       own_taken r a h = subst (λ (k : ℕ). IsTakenAs d formulas (formula_at formulas k) s.places l a old new r) (sym count) h
 
-      none_here : p.judged ≡ Stands verdict.NoFit → IsTakenAs d formulas (formula_at formulas i) s.places l candidate.assertion old new None → IsLevel db d bound works formulas (steps ++ p ∷ []) old.nodes old.links
-      none_here e h = level_none db d (book_of kinds text d opened) db_facts whole_of bound placed ready_of works formulas steps p old new level s at l candidate (own_taken None candidate.assertion h) e
+      none_here : p.judged ≡ Stands verdict.NoFit → IsTakenAs d formulas (formula_at formulas i) s.places l candidate.assertion old new None
+          → IsLevel db d bound works formulas (steps ++ p ∷ []) old.nodes old.links
+      none_here e h =
+          level_none db d (book_of kinds text d opened) db_facts whole_of bound placed ready_of works formulas steps p old new level s at l candidate
+              (own_taken None candidate.assertion h) e
 
-      some_here : (x : Accepted) → p.judged ≡ Fits x → IsTakenAs d formulas (formula_at formulas i) s.places l candidate.assertion old new (Some x) → IsExtended old new → IsLevel db d bound works formulas (steps ++ p ∷ []) new.nodes new.links
-      some_here x e h longer = level_accepted db d (book_of kinds text d opened) db_facts whole_of bound placed ready_of works formulas steps p old new level s at l candidate x (own_taken (Some x) candidate.assertion h) e longer.more longer.nodes
+      some_here : (x : Accepted) → p.judged ≡ Fits x → IsTakenAs d formulas (formula_at formulas i) s.places l candidate.assertion old new (Some x)
+          → IsExtended old new → IsLevel db d bound works formulas (steps ++ p ∷ []) new.nodes new.links
+      some_here x e h longer =
+          level_accepted db d
+              (book_of kinds text d opened) db_facts whole_of bound placed ready_of works formulas steps p old new level s at l candidate x
+              (own_taken (Some x) candidate.assertion h) e longer.more longer.nodes
 
   -- the formula and the places as they were passed
-  pub taken_same : (formula : Id) (places : List Given) → formula ≡ formula_at formulas i → places ≡ s.places → (r o : Option Accepted) → o ≡ r → ((a : Assertion) → usable_in d l ≡ Some a → IsTakenAs d formulas formula places l a old new o)
+  pub taken_same : (formula : Id) (places : List Given) → formula ≡ formula_at formulas i → places ≡ s.places → (r o : Option Accepted) → o ≡ r
+      → ((a : Assertion) → usable_in d l ≡ Some a → IsTakenAs d formulas formula places l a old new o)
       → (a : Assertion) → usable_in d l ≡ Some a → IsTakenAs d formulas (formula_at formulas i) s.places l a old new r
   taken_same formula places f g r o e h a u =
       subst (λ (q : Option Accepted). IsTakenAs d formulas (formula_at formulas i) s.places l a old new q) e
       (subst (λ (ps : List Given). IsTakenAs d formulas (formula_at formulas i) ps l a old new o) g (subst (λ (id : Id). IsTakenAs d formulas id places l a old new o) f (h a u)))
 
-  pub next_none : (after : Store) → IsStore old.nodes old.links → IsSolved old.nodes old.links → IsSameStore old after → ((a : Assertion) → usable_in d l ≡ Some a → IsTakenAs d formulas (formula_at formulas i) s.places l a old new None)
+  pub next_none : (after : Store) → IsStore old.nodes old.links → IsSolved old.nodes old.links → IsSameStore old after
+      → ((a : Assertion) → usable_in d l ≡ Some a → IsTakenAs d formulas (formula_at formulas i) s.places l a old new None)
       → IsNext d bound formulas i old after (Stands verdict.NoFit)
   next_none after store solved same h =
       next_stands d bound formulas i old after store solved same verdict.NoFit (λ kinds text sheet opened binds works steps p e count level.
       none_here kinds text opened works steps p count level e (h (candidate kinds text opened).assertion (candidate kinds text opened).usable))
 
-  pub next_some : (x : Accepted) → IsSome (usable_in d l) → IsExtended old new → IsStore new.nodes new.links → IsSolved new.nodes new.links → IsKeptIn (length new.nodes) (Fits x) → ((a : Assertion) → usable_in d l ≡ Some a → IsTakenAs d formulas (formula_at formulas i) s.places l a old new (Some x))
+  pub next_some : (x : Accepted) → IsSome (usable_in d l) → IsExtended old new → IsStore new.nodes new.links → IsSolved new.nodes new.links
+      → IsKeptIn (length new.nodes) (Fits x)
+      → ((a : Assertion) → usable_in d l ≡ Some a → IsTakenAs d formulas (formula_at formulas i) s.places l a old new (Some x))
       → IsNext d bound formulas i old new (Fits x)
   next_some x some longer store solved kept h = record {
     extended = longer;
@@ -146,5 +170,7 @@ module _ (ready : CandidatesAreReady) (facts : HasDatabaseFacts) (whole : Assert
     solved = solved;
     kept_in = kept;
     used = used_here d formulas (formula_at formulas i) s.places l old new x some h;
-    level = λ kinds text sheet opened binds works steps p e count level. some_here kinds text opened works steps p count level x e (h (candidate kinds text opened).assertion (candidate kinds text opened).usable) longer;
+    level =
+        λ kinds text sheet opened binds works steps p e count level. some_here kinds text opened works steps p count level x e
+            (h (candidate kinds text opened).assertion (candidate kinds text opened).usable) longer;
   }

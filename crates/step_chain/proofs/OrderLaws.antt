@@ -32,14 +32,18 @@ module _ (formulas : List Id) where
   one_first (given.Step k) h = refl
 
   -- one `$e` more
-  pairs_next : (gs : List Given) (hs : List Id) (k : ℕ) (d : Id) → k < length hs → id_pairs formulas (take (suc k) gs) (take (suc k) hs) ≡ id_pairs formulas (take k gs) (take k hs) ++ one_pair formulas (place_at gs k) (get_or hs k d)
+  pairs_next : (gs : List Given) (hs : List Id) (k : ℕ) (d : Id) → k < length hs
+      → id_pairs formulas (take (suc k) gs) (take (suc k) hs)
+          ≡ id_pairs formulas (take k gs) (take k hs) ++ one_pair formulas (place_at gs k) (get_or hs k d)
   pairs_next [] hs k d h = rw (take_none k) refl
   pairs_next (g ∷ gs) [] k d h = absurd (omega (arith, h))
   pairs_next (g ∷ gs) (x ∷ hs) zero d h = one_first g x
   pairs_next (given.Gap ∷ gs) (x ∷ hs) (suc k) d h = pairs_next gs hs k d (omega (arith, h))
   pairs_next (given.Step j ∷ gs) (x ∷ hs) (suc k) d h = ap (λ (ps : List (Id × Id)). (x, formula_at formulas j) ∷ ps) (pairs_next gs hs k d (omega (arith, h)))
 
-  pub pairs_more : (gs : List Given) (hs : List Id) (k : ℕ) (d : Id) → k < length hs → id_pairs formulas (take (k + 1) gs) (take (k + 1) hs) ≡ id_pairs formulas (take k gs) (take k hs) ++ one_pair formulas (place_at gs k) (get_or hs k d)
+  pub pairs_more : (gs : List Given) (hs : List Id) (k : ℕ) (d : Id) → k < length hs
+      → id_pairs formulas (take (k + 1) gs) (take (k + 1) hs)
+          ≡ id_pairs formulas (take k gs) (take k hs) ++ one_pair formulas (place_at gs k) (get_or hs k d)
   pairs_more gs hs k d h =
       let up : suc k ≡ k + 1 = omega arith in
       subst (λ (n : ℕ). id_pairs formulas (take n gs) (take n hs) ≡ id_pairs formulas (take k gs) (take k hs) ++ one_pair formulas (place_at gs k) (get_or hs k d)) up (pairs_next gs hs k d h)
@@ -83,7 +87,8 @@ picks_shorter : {X : Type 0} (xs : List X) → AllByRecursion (λ (p : X × List
 picks_shorter [] = tt
 picks_shorter {X = X} (x ∷ xs) = (omega arith, later (picks xs) (picks_shorter xs))
   where
-    later : (ps : List (X × List X)) → AllByRecursion (λ (p : X × List X). length p.1 + 1 ≡ length xs) ps → AllByRecursion (λ (p : X × List X). length p.1 + 1 ≡ length (x ∷ xs)) (map (λ p. (p.0, x ∷ p.1)) ps)
+    later : (ps : List (X × List X)) → AllByRecursion (λ (p : X × List X). length p.1 + 1 ≡ length xs) ps
+        → AllByRecursion (λ (p : X × List X). length p.1 + 1 ≡ length (x ∷ xs)) (map (λ p. (p.0, x ∷ p.1)) ps)
     later [] h = tt
     later (p ∷ ps) h = (omega (arith, h.0), later ps h.1)
 
@@ -106,7 +111,9 @@ module _ (X : Type 0) where
   abbrev IsCounted : ℕ → Type 0
   IsCounted n = (xs : List X) → length xs ≡ n → length (orders n xs) ≡ factorial n
 
-  each_counted : (n : ℕ) (xs : List X) → IsCounted n → length xs ≡ suc n → (ps : List (X × List X)) → AllByRecursion (λ (p : X × List X). length p.1 + 1 ≡ length xs) ps → AllByRecursion (λ (p : X × List X). length (map (λ rest. p.0 ∷ rest) (orders n p.1)) ≡ factorial n) ps
+  each_counted : (n : ℕ) (xs : List X) → IsCounted n → length xs ≡ suc n → (ps : List (X × List X))
+      → AllByRecursion (λ (p : X × List X). length p.1 + 1 ≡ length xs) ps
+      → AllByRecursion (λ (p : X × List X). length (map (λ rest. p.0 ∷ rest) (orders n p.1)) ≡ factorial n) ps
   each_counted n xs h e [] a = tt
   each_counted n xs h e (p ∷ ps) a = (length-map (orders n p.1) (λ rest. p.0 ∷ rest) ∙ h p.1 (omega (arith, a.0, e)), each_counted n xs h e ps a.1)
 

@@ -18,7 +18,8 @@ use Rattle.step_chain.proofs.Lists.{all_join}
 pub record AreShort (t : Readable) (variables : List VariableNode) (k : ℕ) : Type 0 where
   pub each : (constants : Label → ℕ) → HaveConstants constants t.nodes → AreWorkNodes t.nodes t.works → AllByRecursion (IsShort constants) (values_at t (take k variables))
 
-first_long : (constants : Label → ℕ) (xs : List Tree) (t : Tree) (ys : List Tree) (n : ℕ) → AllByRecursion (IsShort constants) xs → IsRead constants t (Err (TooLong n)) → IsFirstLong constants (xs ++ t ∷ ys) n
+first_long : (constants : Label → ℕ) (xs : List Tree) (t : Tree) (ys : List Tree) (n : ℕ) → AllByRecursion (IsShort constants) xs
+    → IsRead constants t (Err (TooLong n)) → IsFirstLong constants (xs ++ t ∷ ys) n
 first_long constants [] t ys n h long = inl long
 first_long constants (x ∷ xs) t ys n h long = inr (h.0, first_long constants xs t ys n h.1 long)
 
@@ -50,14 +51,16 @@ module _ (t : Readable) (variables : List VariableNode) (k : ℕ) (w : VariableN
   values_split [] ys = refl
   values_split (x ∷ xs) ys = ap (λ (ts : List Tree). value_at t.nodes t.links t.works x.node ∷ ts) (values_split xs ys)
 
-  pub fault_here : (e : TreeFault) → AreShort t variables k → IsReadOff t.nodes t.links t.works w.node (Err e) → (constants : Label → ℕ) → HaveConstants constants t.nodes → AreWorkNodes t.nodes t.works → IsFaultOf constants (values_at t variables) e
+  pub fault_here : (e : TreeFault) → AreShort t variables k → IsReadOff t.nodes t.links t.works w.node (Err e) → (constants : Label → ℕ)
+      → HaveConstants constants t.nodes → AreWorkNodes t.nodes t.works → IsFaultOf constants (values_at t variables) e
   fault_here Memory h r constants have works = tt
   fault_here (TooLong n) h r constants have works =
       let parts = split variables k is below in
       subst (λ (ts : List Tree). IsFirstLong constants ts n) (sym (ap (values_at t) parts.1 ∙ values_split (take k variables) parts.0))
       (first_long constants (values_at t (take k variables)) here (values_at t parts.0) n (h.each constants have works) (r constants have works))
 
-pub all_told : (t : Readable) (variables : List VariableNode) (k : ℕ) (items given : List Tree) → given ≡ items → length variables ≤ k → items ≡ values_at t (take k variables) → AreShort t variables k
+pub all_told : (t : Readable) (variables : List VariableNode) (k : ℕ) (items given : List Tree) → given ≡ items → length variables ≤ k
+    → items ≡ values_at t (take k variables) → AreShort t variables k
     → (constants : Label → ℕ) → HaveConstants constants t.nodes → AreWorkNodes t.nodes t.works → AreTold constants (values_at t variables) given
 all_told t variables k items given same past is h constants have works =
     let whole = take_all variables k past in

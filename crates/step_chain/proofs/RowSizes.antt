@@ -1,5 +1,6 @@
 -- A production has no more items than its database's text has bytes.
-use Rattle.std.specs.Prelude.{◌≡◌, ℕ, ◌≤◌, ◌-◌, ◌^◌, min, Bool, true, false, List, [], ◌∷◌, ◌++◌, length, reverse, take, drop, take_while, count_by, slice_get, nat_lt, option_map, option_and_then, if◌then◌else◌, Option, Some, None, refl}
+use Rattle.std.specs.Prelude.{◌≡◌, ℕ, ◌≤◌, ◌-◌, ◌^◌, min, Bool, true, false, List, [], ◌∷◌, ◌++◌, length, reverse, take, drop, take_while, count_by}
+use Rattle.std.specs.Prelude.{slice_get, nat_lt, option_map, option_and_then, if◌then◌else◌, Option, Some, None, refl}
 use Rattle.std.specs.List.{AllByRecursion, prefix_len}
 use Rattle.std.specs.Option.{option_map_or}
 use Rattle.std.proofs.Common.{zero, suc, sym, ap, subst, ◌∙◌, arith, inl, inr, cond}

@@ -1,5 +1,6 @@
 -- A chain stands for the most general valuation of the accepted steps.
-use Rattle.std.specs.Prelude.{◌≡◌, ℕ, ◌<◌, ◌+◌, Bool, true, false, ◌==◌, ◌&&◌, List, [], ◌∷◌, length, find, slice_get, slice_index_or, unwrap_or, option_map, option_and_then, Contains, Option, Some, None, refl}
+use Rattle.std.specs.Prelude.{◌≡◌, ℕ, ◌<◌, ◌+◌, Bool, true, false, ◌==◌, ◌&&◌, List, [], ◌∷◌, length, find, slice_get, slice_index_or, unwrap_or}
+use Rattle.std.specs.Prelude.{option_map, option_and_then, Contains, Option, Some, None, refl}
 use Rattle.std.specs.Option.{option_map_or}
 use Rattle.std.specs.List.{AllByRecursion}
 use Rattle.std.proofs.Common.{zero, suc, sym, ap, subst, ◌∙◌, arith, cond}
@@ -122,16 +123,19 @@ record IsStepOf (d : Opened) (bound : Bound) (i : ℕ) (ps : List Pushed) (x : A
 step_more : (d : Opened) (bound : Bound) (i : ℕ) (p : Pushed) (ps : List Pushed) (x : Asked) → IsStepOf d bound (suc i) ps x → IsStepOf d bound i (p ∷ ps) x
 step_more d bound i p ps x h =
     let number : suc i + h.place ≡ i + suc h.place = omega arith in
-    record { place = suc h.place; pushed = h.pushed; at = h.at; kept = h.kept; fits = h.fits; assertion = h.assertion; usable = h.usable; is = sym (ap (λ (k : ℕ). asked_by bound k h.kept h.assertion) number) ∙ h.is }
+    record { place = suc h.place; pushed = h.pushed; at = h.at; kept = h.kept; fits = h.fits; assertion = h.assertion; usable = h.usable;
+        is = sym (ap (λ (k : ℕ). asked_by bound k h.kept h.assertion) number) ∙ h.is }
 
 module _ (d : Opened) (bound : Bound) (i : ℕ) (p : Pushed) (ps : List Pushed) (x : Asked) (later : Contains (accepted_in (judgements_from d bound (suc i) ps)) x → IsStepOf d bound (suc i) ps x) where
-  first_of : (y : Accepted) → p.judged ≡ Fits y → (a : Assertion) → usable_in d y.label ≡ Some a → Contains (asked_by bound i y a ∷ accepted_in (judgements_from d bound (suc i) ps)) x → IsStepOf d bound i (p ∷ ps) x
+  first_of : (y : Accepted) → p.judged ≡ Fits y → (a : Assertion) → usable_in d y.label ≡ Some a
+      → Contains (asked_by bound i y a ∷ accepted_in (judgements_from d bound (suc i) ps)) x → IsStepOf d bound i (p ∷ ps) x
   first_of y fits a u (zero, l, e) =
       let number : i + 0 ≡ i = omega arith in
       record { place = 0; pushed = p; at = refl; kept = y; fits = fits; assertion = a; usable = u; is = ap (λ (k : ℕ). asked_by bound k y a) number ∙ e }
   first_of y fits a u (suc k, l, e) = step_more d bound i p ps x (later (k, omega (arith, l), e))
 
-  by_usable : (y : Accepted) → p.judged ≡ Fits y → (o : Option Assertion) → usable_in d y.label ≡ o → Contains (accepted_in (accepted_by bound i y o ∷ judgements_from d bound (suc i) ps)) x → IsStepOf d bound i (p ∷ ps) x
+  by_usable : (y : Accepted) → p.judged ≡ Fits y → (o : Option Assertion) → usable_in d y.label ≡ o
+      → Contains (accepted_in (accepted_by bound i y o ∷ judgements_from d bound (suc i) ps)) x → IsStepOf d bound i (p ∷ ps) x
   by_usable y fits None u c = step_more d bound i p ps x (later c)
   by_usable y fits (Some a) u c = first_of y fits a u c
 
@@ -156,7 +160,9 @@ module _ (h : Held) (db : Database) (level : IsLevel db h.book h.bound h.works h
   store_value = value_of_store h.nodes h.links lay
 
   read_at : (u : Unknown) → IsUnknown h.bound (accepted_in js) u → value_at h.nodes h.links h.works (lay.node_of u) ≡ store_value u
-  read_at u on = ap (λ (ws : List WorkNode). value_at h.nodes h.links ws (lay.node_of u)) (sym level.works_are) ∙ unknown_read db h.bound (accepted_in js) (accepted_in js) h.nodes h.links lay level.chained u on
+  read_at u on =
+      ap (λ (ws : List WorkNode). value_at h.nodes h.links ws (lay.node_of u)) (sym level.works_are)
+          ∙ unknown_read db h.bound (accepted_in js) (accepted_in js) h.nodes h.links lay level.chained u on
 
   by_node : (u : Unknown) → IsUnknown h.bound (accepted_in js) u → node_in h u ≡ lay.node_of u → value_of h u ≡ store_value u
   by_node u on e = ap (value_at h.nodes h.links h.works) e ∙ read_at u on

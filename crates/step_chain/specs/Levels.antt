@@ -83,7 +83,9 @@ IsUsedIf d (Fits x) = IsUsed d x
 
 -- a fact of the database and the worksheet, whatever text and sheet they are of
 abbrev pub ForEachBook : Opened → Bound → (Database → Type 0) → Type 0
-ForEachBook d bound P = (kinds : Kinds) (text : List ℕ) (sheet : Sheet) → IsOpened kinds text d → Binds (database_of kinds text d.rows d.parsed) sheet bound → P (database_of kinds text d.rows d.parsed)
+ForEachBook d bound P =
+    (kinds : Kinds) (text : List ℕ) (sheet : Sheet) → IsOpened kinds text d → Binds (database_of kinds text d.rows d.parsed) sheet bound
+        → P (database_of kinds text d.rows d.parsed)
 
 -- the store after these steps, where this is the logic typecode
 pub record IsFront (d : Opened) (logic : Typecode) (bound : Bound) (works : List WorkNode) (formulas : List Id) (steps : List Pushed) (nodes : List Term) (links : List Link) : Type 0 where

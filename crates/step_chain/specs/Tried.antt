@@ -36,10 +36,12 @@ pub record IsExtended (old new : Store) : Type 0 where
   pub links : new.links ≡ old.links ++ more_links
 
 -- a candidate's nodes were added, and this came of its orders
-pub record IsTaken (rows : List Production) (hyps : List Hyp) (t : Tree) (ts : List Tree) (formulas : List Id) (formula : Id) (places : List Given) (old new : Store) (result : Option (List ℕ)) : Type 0 where
+pub record IsTaken (rows : List Production) (hyps : List Hyp) (t : Tree) (ts : List Tree) (formulas : List Id) (formula : Id) (places : List Given)
+    (old new : Store) (result : Option (List ℕ)) : Type 0 where
   pub nodes : new.nodes ≡ (roots_of rows old.nodes hyps t ts).nodes
   pub added_store : IsStore (roots_of rows old.nodes hyps t ts).nodes old.links
   pub added_solved : IsSolved (roots_of rows old.nodes hyps t ts).nodes old.links
   pub store : IsStore new.nodes new.links
   pub solved : IsSolved new.nodes new.links
-  pub tried : IsTried (roots_of rows old.nodes hyps t ts).nodes old.links new.links formulas places (roots_of rows old.nodes hyps t ts).roots (id_of (root_of rows old.nodes hyps t).root) formula result
+  pub tried : IsTried (roots_of rows old.nodes hyps t ts).nodes old.links new.links formulas places (roots_of rows old.nodes hyps t ts).roots
+      (id_of (root_of rows old.nodes hyps t).root) formula result

@@ -100,9 +100,13 @@ module _ (d : Opened) where
 
       pub own_in_step : IsInStep d used new
       own_in_step = record {
-        trees = put.trees ∙ ap (λ (ts : List Tree). ts ++ s.tree ∷ []) in_step.trees ∙ sym (trees-more old.items (draft.Step s ∷ [])) ∙ ap (λ (is : List DraftItem). trees (steps_in (items_in d is))) (sym put.items);
+        trees =
+            put.trees ∙ ap (λ (ts : List Tree). ts ++ s.tree ∷ []) in_step.trees ∙ sym (trees-more old.items (draft.Step s ∷ []))
+                ∙ ap (λ (is : List DraftItem). trees (steps_in (items_in d is))) (sym put.items);
         names =
-            let all : names_in d new ≡ names_in d old ++ s.name ∷ [] = ap (λ (is : List DraftItem). map (λ (e : WrittenStep). e.name) (steps_in (items_in d is))) put.items ∙ names-more old.items (draft.Step s ∷ []) in
+            let all : names_in d new ≡ names_in d old ++ s.name ∷ [] =
+                ap (λ (is : List DraftItem). map (λ (e : WrittenStep). e.name) (steps_in (items_in d is))) put.items
+                    ∙ names-more old.items (draft.Step s ∷ []) in
             subst (HaveSameNames new.names) (append_assoc used (names_in d old) (s.name ∷ []) ∙ ap (λ (ns : List Name). used ++ ns) (sym all)) (put.names (used ++ names_in d old) in_step.names);
         sound = subst (AreSound d) (sym put.items) (sound_join old.items (draft.Step s ∷ []) in_step.sound (sound, tt));
       }

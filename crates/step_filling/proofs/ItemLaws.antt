@@ -77,7 +77,8 @@ module _ (h : Held) where
     count =
         let one = are.count in
         let two = is.count in
-        let parts : length (filter_map step_of_item all) ≡ length (filter_map step_of_item front ++ filter_map step_of_item (i ∷ [])) = ap (λ (xs : List SheetItem). length (filter_map step_of_item xs)) e ∙ ap length (filter_map-append step_of_item front (i ∷ [])) in
+        let parts : length (filter_map step_of_item all) ≡ length (filter_map step_of_item front ++ filter_map step_of_item (i ∷ [])) =
+            ap (λ (xs : List SheetItem). length (filter_map step_of_item xs)) e ∙ ap length (filter_map-append step_of_item front (i ∷ [])) in
         let long = length-append (filter_map step_of_item front) (filter_map step_of_item (i ∷ [])) in
         let here = counted i in
         omega (arith, one, two, parts, long, here);
@@ -94,7 +95,8 @@ module _ (h : Held) where
     short = λ kinds text sheet opened binds code short. is.short kinds text sheet opened binds code (are.short kinds text sheet opened binds code short);
   }
 
-  pub fault_item : (k mid : Kept) (front rest items : List SheetItem) (i : SheetItem) → ArePut h k mid front → items ≡ front ++ i ∷ rest → (e : FillFault) → IsItemFault h mid i e → IsFaultAmong h k items e
+  pub fault_item : (k mid : Kept) (front rest items : List SheetItem) (i : SheetItem) → ArePut h k mid front → items ≡ front ++ i ∷ rest
+      → (e : FillFault) → IsItemFault h mid i e → IsFaultAmong h k items e
   fault_item k mid front rest items (item.Comment lines) are split (fault.TooLong name n) f = absurd f
   fault_item k mid front rest items (item.Comment lines) are split fault.LongValue f = absurd f
   fault_item k mid front rest items (item.Comment lines) are split fault.Memory f = tt
@@ -106,7 +108,8 @@ module _ (h : Held) where
     long = λ used in_step kinds text sheet opened binds code short.
         let with_names = are.with_names used in_step in
         let same = with_names.filled kinds text sheet opened binds code in (
-          subst (λ (g : Filling). AreShort (constants_of h) (trees (steps_in g.items))) same (subst (AreShort (constants_of h)) with_names.in_step.trees (are.short kinds text sheet opened binds code short)),
+          subst (λ (g : Filling). AreShort (constants_of h) (trees (steps_in g.items))) same
+              (subst (AreShort (constants_of h)) with_names.in_step.trees (are.short kinds text sheet opened binds code short)),
           subst (λ (g : Filling). IsLongNext h g used s name n) same (f used with_names.in_step kinds text sheet opened binds code),
         );
   }
@@ -118,7 +121,8 @@ module _ (h : Held) where
     long = λ used in_step kinds text sheet opened binds code short.
         let with_names = are.with_names used in_step in
         let same = with_names.filled kinds text sheet opened binds code in (
-          subst (λ (g : Filling). AreShort (constants_of h) (trees (steps_in g.items))) same (subst (AreShort (constants_of h)) with_names.in_step.trees (are.short kinds text sheet opened binds code short)),
+          subst (λ (g : Filling). AreShort (constants_of h) (trees (steps_in g.items))) same
+              (subst (AreShort (constants_of h)) with_names.in_step.trees (are.short kinds text sheet opened binds code short)),
           subst (IsLongValueNext h) same (f kinds text sheet opened binds code),
         );
   }
@@ -131,12 +135,16 @@ split_at [] k i e h = absurd (omega (arith, h))
 split_at (x ∷ xs) zero i e h = (xs, ap (λ (y : SheetItem). y ∷ xs) (sym e))
 split_at (x ∷ xs) (suc k) i e h = let told = split_at xs k i e (omega (arith, h)) in (told.0, ap (λ (ys : List SheetItem). x ∷ ys) told.1)
 
-pub room_left : (h : Held) (items : List SheetItem) (k : ℕ) (i : SheetItem) → i ≡ get_or items k i → k < length items → length (filter_map step_of_item (take k items)) + step_count i ≤ length (filter_map step_of_item items)
+pub room_left : (h : Held) (items : List SheetItem) (k : ℕ) (i : SheetItem) → i ≡ get_or items k i → k < length items
+    → length (filter_map step_of_item (take k items)) + step_count i ≤ length (filter_map step_of_item items)
 room_left h items k i e below =
     let parts = split_at items k i e below in
-    let all : length (filter_map step_of_item items) ≡ length (filter_map step_of_item (take k items) ++ filter_map step_of_item (i ∷ parts.0)) = ap (λ (xs : List SheetItem). length (filter_map step_of_item xs)) parts.1 ∙ ap length (filter_map-append step_of_item (take k items) (i ∷ parts.0)) in
+    let all : length (filter_map step_of_item items) ≡ length (filter_map step_of_item (take k items) ++ filter_map step_of_item (i ∷ parts.0)) =
+        ap (λ (xs : List SheetItem). length (filter_map step_of_item xs)) parts.1
+            ∙ ap length (filter_map-append step_of_item (take k items) (i ∷ parts.0)) in
     let long = length-append (filter_map step_of_item (take k items)) (filter_map step_of_item (i ∷ parts.0)) in
-    let more : length (filter_map step_of_item (i ∷ parts.0)) ≡ length (filter_map step_of_item (i ∷ []) ++ filter_map step_of_item parts.0) = ap length (filter_map-append step_of_item (i ∷ []) parts.0) in
+    let more : length (filter_map step_of_item (i ∷ parts.0)) ≡ length (filter_map step_of_item (i ∷ []) ++ filter_map step_of_item parts.0) =
+        ap length (filter_map-append step_of_item (i ∷ []) parts.0) in
     let two = length-append (filter_map step_of_item (i ∷ [])) (filter_map step_of_item parts.0) in
     let here = counted h i in
     omega (arith, all, long, more, two, here)
@@ -150,7 +158,11 @@ module _ (h : Held) (sheet : Sheet) (k : Kept) (begun : IsBegun sheet k) where
   at_first : IsInStep h.book (step_names sheet) k
   at_first = record {
     trees = begun.trees ∙ sym (ap (λ (is : List DraftItem). trees (steps_in (items_in h.book is))) begun.items);
-    names = subst (HaveSameNames k.names) (sym (ap (λ (is : List DraftItem). step_names sheet ++ map (λ (e : WrittenStep). e.name) (steps_in (items_in h.book is))) begun.items ∙ append-nil (step_names sheet))) begun.names;
+    names =
+        subst (HaveSameNames k.names)
+            (sym
+                (ap (λ (is : List DraftItem). step_names sheet ++ map (λ (e : WrittenStep). e.name) (steps_in (items_in h.book is))) begun.items
+                    ∙ append-nil (step_names sheet))) begun.names;
     sound = subst (AreSound h.book) (sym begun.items) tt;
   }
 
@@ -180,9 +192,11 @@ module _ (h : Held) (sheet : Sheet) (k : Kept) (begun : IsBegun sheet k) where
     rest = f.rest;
     items_are = f.items_are;
     short = λ kinds text s opened binds code.
-        subst (λ (g : Filling). AreShort (constants_of h) (trees (steps_in (filled_behind h (step_names sheet) g f.front).items))) empty_is (f.long (step_names sheet) at_first kinds text s opened binds code short_first).0;
+        subst (λ (g : Filling). AreShort (constants_of h) (trees (steps_in (filled_behind h (step_names sheet) g f.front).items))) empty_is
+            (f.long (step_names sheet) at_first kinds text s opened binds code short_first).0;
     long = λ kinds text s opened binds code.
-        subst (λ (g : Filling). IsLongNext h (filled_behind h (step_names sheet) g f.front) (step_names sheet) f.step name n) empty_is (f.long (step_names sheet) at_first kinds text s opened binds code short_first).1;
+        subst (λ (g : Filling). IsLongNext h (filled_behind h (step_names sheet) g f.front) (step_names sheet) f.step name n) empty_is
+            (f.long (step_names sheet) at_first kinds text s opened binds code short_first).1;
   }
   whole_fault fault.LongValue f = record {
     front = f.front;
@@ -190,7 +204,8 @@ module _ (h : Held) (sheet : Sheet) (k : Kept) (begun : IsBegun sheet k) where
     rest = f.rest;
     items_are = f.items_are;
     short = λ kinds text s opened binds code.
-        subst (λ (g : Filling). AreShort (constants_of h) (trees (steps_in (filled_behind h (step_names sheet) g f.front).items))) empty_is (f.long (step_names sheet) at_first kinds text s opened binds code short_first).0;
+        subst (λ (g : Filling). AreShort (constants_of h) (trees (steps_in (filled_behind h (step_names sheet) g f.front).items))) empty_is
+            (f.long (step_names sheet) at_first kinds text s opened binds code short_first).0;
     value = λ kinds text s opened binds code.
         subst (λ (g : Filling). IsLongValueNext h (filled_behind h (step_names sheet) g f.front)) empty_is (f.long (step_names sheet) at_first kinds text s opened binds code short_first).1;
   }

@@ -53,17 +53,25 @@ module _ (old_items : List DraftItem) (old_trees : List Tree) (old_names : List 
     given_count : length to.given ≡ length made
     given_count = ap length (to.derived.names_are old_names (same_names old_names)) ∙ length-derived_names (length made) old_names
 
-    pub put_more : (items' : List DraftItem) (trees' : List Tree) (names' : List Name) (name : Name) (tree : Tree) (more : List Tree) → ((used : List Name) → HaveSameNames names used → name ≡ derived_name used) → names' ≡ names ++ name ∷ []
+    pub put_more : (items' : List DraftItem) (trees' : List Tree) (names' : List Name) (name : Name) (tree : Tree) (more : List Tree)
+        → ((used : List Name) → HaveSameNames names used → name ≡ derived_name used) → names' ≡ names ++ name ∷ []
         → items' ≡ items ++ derived_item (name, tree) ∷ [] → trees' ≡ trees ++ tree ∷ [] → more ≡ made ++ tree ∷ [] → IsPutTo old_items items' old_trees trees' old_names names' more
     put_more items' trees' names' name tree more is added put pushed last =
         let all : List Name = to.given ++ name ∷ [] in
         let count : length more ≡ length made + 1 = ap length last ∙ length_push made tree in
         record {
           given = all;
-          derived = let d = derived_more old_names names names' to.given all (length made) name to.derived is added refl in record { value = d.value; names_are = λ used have. d.names_are used have ∙ ap (λ (n : ℕ). derived_names n used) (sym count) };
+          derived = let d = derived_more old_names names names' to.given all (length made) name to.derived is added refl in
+              record { value = d.value; names_are = λ used have. d.names_are used have ∙ ap (λ (n : ℕ). derived_names n used) (sym count) };
           trees_are = pushed ∙ ap (λ (ts : List Tree). ts ++ tree ∷ []) to.trees_are ∙ append_assoc old_trees made (tree ∷ []) ∙ ap (λ (ts : List Tree). old_trees ++ ts) (sym last);
-          items_are = put ∙ ap (λ (is : List DraftItem). is ++ derived_item (name, tree) ∷ []) to.items_are ∙ append_assoc old_items (map derived_item (zip to.given made)) (derived_item (name, tree) ∷ [])
-              ∙ ap (λ (is : List DraftItem). old_items ++ is) (sym (ap (λ (ts : List Tree). map derived_item (zip all ts)) last ∙ ap (map derived_item) (zip_push to.given made name tree given_count) ∙ map_push derived_item (zip to.given made) (name, tree)));
+          items_are =
+              put ∙ ap (λ (is : List DraftItem). is ++ derived_item (name, tree) ∷ []) to.items_are
+                  ∙ append_assoc old_items (map derived_item (zip to.given made)) (derived_item (name, tree) ∷ [])
+              ∙ ap (λ (is : List DraftItem). old_items ++ is)
+                  (sym
+                      (ap (λ (ts : List Tree). map derived_item (zip all ts)) last
+                          ∙ ap (map derived_item) (zip_push to.given made name tree given_count)
+                          ∙ map_push derived_item (zip to.given made) (name, tree)));
         }
 
     pub put_all : (all : List Tree) → made ≡ all → AreDerivedPut old_items items old_trees trees old_names names all
@@ -71,7 +79,8 @@ module _ (old_items : List DraftItem) (old_trees : List Tree) (old_names : List 
       trees_are = to.trees_are ∙ ap (λ (ts : List Tree). old_trees ++ ts) e;
       items_are = λ used have.
           let own : to.given ≡ derived_names (length all) used = to.derived.names_are used have ∙ ap (λ (ts : List Tree). derived_names (length ts) used) e in
-          to.items_are ∙ ap (λ (ns : List Name). old_items ++ map derived_item (zip ns made)) own ∙ ap (λ (ts : List Tree). old_items ++ map derived_item (zip (derived_names (length all) used) ts)) e;
+          to.items_are ∙ ap (λ (ns : List Name). old_items ++ map derived_item (zip ns made)) own
+              ∙ ap (λ (ts : List Tree). old_items ++ map derived_item (zip (derived_names (length all) used) ts)) e;
       names_are = λ used have.
           let own : to.given ≡ derived_names (length all) used = to.derived.names_are used have ∙ ap (λ (ts : List Tree). derived_names (length ts) used) e in
           let behind = same_behind old_names used to.given have in
@@ -87,4 +96,5 @@ module _ (count n : ℕ) (old names : List Name) (more : n ≡ count + 1) (are :
   pub name_at : (name x : Name) → x ≡ get_or names count x → name ≡ x → (used : List Name) → HaveSameNames old used → slice_get (derived_names (suc count) used) count ≡ Some name
   name_at name x is e used have =
       let number : n ≡ suc count = omega (arith, more) in
-      ap (λ (k : ℕ). slice_get (derived_names k used) count) (sym number) ∙ ap (λ (ns : List Name). slice_get ns count) (sym (are used have)) ∙ slice_get-get_or names count x names_count ∙ ap (λ (y : Name). Some y) (sym is ∙ sym e)
+      ap (λ (k : ℕ). slice_get (derived_names k used) count) (sym number) ∙ ap (λ (ns : List Name). slice_get ns count) (sym (are used have))
+          ∙ slice_get-get_or names count x names_count ∙ ap (λ (y : Name). Some y) (sym is ∙ sym e)

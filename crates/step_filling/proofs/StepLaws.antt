@@ -1,5 +1,6 @@
 -- A step of the worksheet, put in as the definitions have it.
-use Rattle.std.specs.Prelude.{◌≡◌, ℕ, ◌+◌, List, [], ◌∷◌, ◌++◌, length, map, drop, zip, slice_get, slice_index_or, option_map, option_and_then, Option, Some, None, Result, Ok, Err, OnOk, IfErr, refl}
+use Rattle.std.specs.Prelude.{◌≡◌, ℕ, ◌+◌, List, [], ◌∷◌, ◌++◌, length, map, drop, zip, slice_get, slice_index_or, option_map, option_and_then}
+use Rattle.std.specs.Prelude.{Option, Some, None, Result, Ok, Err, OnOk, IfErr, refl}
 use Rattle.std.specs.List.{list_any}
 use Rattle.std.proofs.Common.{suc, sym, ap, subst, ◌∙◌, arith, inl, inr}
 use Rattle.std.proofs.lemmas.List.{append-nil, length-append, length-map, length_push}
@@ -42,7 +43,8 @@ use Rattle.step_filling.specs.declared.fault.FillFault.{FillFault}
 use Rattle.step_filling.specs.declared.fault.FillFault.TheVariants as fault
 use Rattle.step_filling.specs.Kept.{Kept, draft_of, filling_in, names_in, IsInStep, AreMade, IsOwnPut}
 use Rattle.step_filling.specs.Wanted.{wanted_from, AreShort, IsTooLong, AreWanted}
-use Rattle.step_filling.specs.Filled.{formula_of, accepted_places, IsOwnRead, AreValuesRead, IsValueFault, IsUsedStep, IsOwnAccepted, IsUseFault, IsOwnFault, IsLongNamed, IsLongNext, IsFilledPut, IsWantedPut, IsStandingPut, IsPut, IsNextFault}
+use Rattle.step_filling.specs.Filled.{formula_of, accepted_places, IsOwnRead, AreValuesRead, IsValueFault, IsUsedStep, IsOwnAccepted, IsUseFault}
+use Rattle.step_filling.specs.Filled.{IsOwnFault, IsLongNamed, IsLongNext, IsFilledPut, IsWantedPut, IsStandingPut, IsPut, IsNextFault}
 use Rattle.step_filling.proofs.WantedLaws.{short_join}
 use Rattle.step_filling.proofs.DraftLaws.{made_in, made_in_step, own_in, own_in_step}
 
@@ -87,7 +89,8 @@ module _ (h : Held) (i : ℕ) (s : SheetStep) (x : Accepted) where
     count = used.count x at;
   }
 
-  pub wanted_put : (wanted : List Tree) (old new : Kept) (filled : Filled) (own : DraftStep) (numbers places : List ℕ) → numbers ≡ old.numbers → places ≡ filled.places → filled ≡ fill old.trees wanted
+  pub wanted_put : (wanted : List Tree) (old new : Kept) (filled : Filled) (own : DraftStep) (numbers places : List ℕ) → numbers ≡ old.numbers
+      → places ≡ filled.places → filled ≡ fill old.trees wanted
       → IsOwnAccepted h i numbers s x places own → IsFilledPut old new filled.made own → IsWantedPut h i s x wanted old new
   wanted_put wanted old new filled o numbers places e f g acc put = record {
     own = o;
@@ -95,7 +98,8 @@ module _ (h : Held) (i : ℕ) (s : SheetStep) (x : Accepted) where
     put = subst (λ (r : Filled). IsFilledPut old new r.made o) g put;
   }
 
-  pub wanted_as : (first : ℕ) (long o : Option ℕ) (found given : List Tree) → first ≡ length x.order → long ≡ o → found ≡ given → OfAccepted h i (λ z. AreWanted (constants_of h) (wanted_from (value_of h) i first z.assertion.hyps) found long)
+  pub wanted_as : (first : ℕ) (long o : Option ℕ) (found given : List Tree) → first ≡ length x.order → long ≡ o → found ≡ given
+      → OfAccepted h i (λ z. AreWanted (constants_of h) (wanted_from (value_of h) i first z.assertion.hyps) found long)
       → OfAccepted h i (λ z. AreWanted (constants_of h) (wanted_from (value_of h) i (length x.order) z.assertion.hyps) given o)
   wanted_as first long o found given e f g read =
       subst (λ (ts : List Tree). OfAccepted h i (λ z. AreWanted (constants_of h) (wanted_from (value_of h) i (length x.order) z.assertion.hyps) ts o)) g
@@ -117,7 +121,8 @@ made_none k = record {
   };
 }
 
-module _ (d : Opened) (used : List Name) (old mid new : Kept) (ts : List Tree) (ps : List ℕ) (own : DraftStep) (in_step : IsInStep d used old) (are : AreMade old mid ts) (put : IsOwnPut mid new own) (sound : IsSoundStep d own) where
+module _ (d : Opened) (used : List Name) (old mid new : Kept) (ts : List Tree) (ps : List ℕ) (own : DraftStep) (in_step : IsInStep d used old)
+    (are : AreMade old mid ts) (put : IsOwnPut mid new own) (sound : IsSoundStep d own) where
   mid_in_step : IsInStep d used mid
   mid_in_step = made_in_step d used old mid ts in_step are
 
@@ -135,7 +140,9 @@ module _ (d : Opened) (used : List Name) (old mid new : Kept) (ts : List Tree) (
   pub filled_is : (s : SheetStep) (t : Tree) (g : Valuation) (o : Judgement) → step_in d own ≡ filled_step old.numbers ps s t g o
       → filling_in d new ≡ with_step (used ++ names_in d old) s t g o (filling_in d old) (record { made = ts; places = ps })
   filled_is s t g o is =
-      let items : items_in d new.items ≡ (items_in d old.items ++ map step (map made_step (zip (derived_names (length ts) (used ++ names_in d old)) ts))) ++ step (filled_step old.numbers ps s t g o) ∷ [] =
+      let items : items_in d new.items
+          ≡ (items_in d old.items ++ map step (map made_step (zip (derived_names (length ts) (used ++ names_in d old)) ts)))
+              ++ step (filled_step old.numbers ps s t g o) ∷ [] =
       own_in d used mid new own mid_in_step put sound ∙ ap (λ (is : List WrittenItem). is ++ step (step_in d own) ∷ []) (made_in d used old mid ts in_step are)
       ∙ ap (λ (e : WrittenStep). (items_in d old.items ++ map step (map made_step (zip (derived_names (length ts) (used ++ names_in d old)) ts))) ++ step e ∷ []) is in
       let numbers : new.numbers ≡ old.numbers ++ (length (steps_in (items_in d old.items)) + length ts) ∷ [] =
@@ -211,7 +218,10 @@ module _ (h : Held) (i : ℕ) (s : SheetStep) (v : Verdict) (old : Kept) (next :
             let t : tree ≡ formula h.bound (value_of h) (length old.numbers) = told.0 ∙ ap (formula_of h) next in
             filled_is h.book used old old new [] [] put.own in_step (made_none old) put.put quiet s (formula h.bound (value_of h) (length old.numbers)) (value_of h) (stands v)
             (ap (step_in h.book) (put.is ∙ ap (λ (u : Tree). draft_of s (map (written_place old.numbers) s.places) u (reported v) None) t))
-            ∙ ap (λ (o : Judgement). with_step (used ++ names_in h.book old) s (formula h.bound (value_of h) (length old.numbers)) (value_of h) o (filling_in h.book old) (fill (trees (steps_in (items_in h.book old.items))) (wanted_by (value_of h) o))) (sym own_judgement);
+            ∙ ap
+                (λ (o : Judgement). with_step (used ++ names_in h.book old) s (formula h.bound (value_of h) (length old.numbers)) (value_of h) o
+                    (filling_in h.book old) (fill (trees (steps_in (items_in h.book old.items))) (wanted_by (value_of h) o)))
+                (sym own_judgement);
       };
       short = λ kinds text sheet opened binds code short.
           let told = read kinds text sheet opened binds code in
@@ -223,7 +233,8 @@ module _ (h : Held) (i : ℕ) (s : SheetStep) (v : Verdict) (old : Kept) (next :
   standing_fault (fault.TooLong m n) read = λ used in_step kinds text sheet opened binds code.
       let told = read kinds text sheet opened binds code in
       subst (λ (x : Name). IsLongNext h (filling_in h.book old) used s x n) (sym told.0)
-      (IsLongNext.own n (subst (λ (o : Judgement). AreShort (constants_of h) (wanted_by (value_of h) o)) (sym own_judgement) tt) (subst (λ (k : ℕ). IsTooLong (constants_of h) (formula_of h k) n) next told.1))
+      (IsLongNext.own n (subst (λ (o : Judgement). AreShort (constants_of h) (wanted_by (value_of h) o)) (sym own_judgement) tt)
+          (subst (λ (k : ℕ). IsTooLong (constants_of h) (formula_of h k) n) next told.1))
   standing_fault fault.LongValue read = λ kinds text sheet opened binds code. absurd (read kinds text sheet opened binds code)
   standing_fault fault.Memory read = tt
 
@@ -254,7 +265,9 @@ module _ (h : Held) (i : ℕ) (s : SheetStep) (x : Accepted) (old : Kept) (next 
   wanted_next : wanted_by (value_of h) (slice_index_or (judgements_of h) (length old.numbers) (stands verdict.NoRef)) ≡ all_wanted
   wanted_next = ap (wanted_by (value_of h)) fits_next ∙ wanted_here h i x a judged is_used.usable (value_of h)
 
-  module _ (new : Kept) (found : List Tree) (read : OfAccepted h i (λ z. AreWanted (constants_of h) (wanted_from (value_of h) i (length x.order) z.assertion.hyps) found None)) (put : IsWantedPut h i s x found old new) where
+  module _ (new : Kept) (found : List Tree)
+      (read : OfAccepted h i (λ z. AreWanted (constants_of h) (wanted_from (value_of h) i (length x.order) z.assertion.hyps) found None))
+      (put : IsWantedPut h i s x found old new) where
     abbrev acc : IsOwnAccepted h i old.numbers s x (fill old.trees found).places put.own
     acc = put.accepted
 
@@ -289,30 +302,45 @@ module _ (h : Held) (i : ℕ) (s : SheetStep) (x : Accepted) (old : Kept) (next 
             ap (option_map (λ (b : Assertion). record { assertion = b; values = acc.values })) is_used.usable ∙ ap (λ (us : List Tree). used_with a us) values in
             let f : fill old.trees found ≡ fill (trees (steps_in (items_in h.book old.items))) (wanted_by g (slice_index_or (judgements_of h) (length old.numbers) (stands verdict.NoRef))) =
             ap (λ (ts : List Tree). fill ts found) in_step.trees ∙ ap (fill (trees (steps_in (items_in h.book old.items)))) (want.0 ∙ sym wanted_next) in
-            filled_is h.book used old put.put.mid new (fill old.trees found).made (fill old.trees found).places put.own in_step put.put.are_made put.put.own_put heard s (formula h.bound g (length old.numbers)) g (accepted y)
+            filled_is h.book used old put.put.mid new (fill old.trees found).made
+                (fill old.trees found).places put.own in_step put.put.are_made put.put.own_put heard s (formula h.bound g (length old.numbers)) g
+                (accepted y)
             (ap (step_in h.book) acc.is ∙ ap (λ (u : Tree). accepted_with (accepted_places h i old.numbers x.order (fill old.trees found).places) s u (use_in h.book way)) t
             ∙ ap (λ (o : Option Use). accepted_with (accepted_places h i old.numbers x.order (fill old.trees found).places) s (formula h.bound g (length old.numbers)) o) by)
             ∙ ap (λ (o : Judgement). with_step (used ++ names_in h.book old) s (formula h.bound g (length old.numbers)) g o (filling_in h.book old) (fill old.trees found)) (sym fits_next)
-            ∙ ap (λ (r : Filled). with_step (used ++ names_in h.book old) s (formula h.bound g (length old.numbers)) g (slice_index_or (judgements_of h) (length old.numbers) (stands verdict.NoRef)) (filling_in h.book old) r) f;
+            ∙ ap
+                (λ (r : Filled). with_step (used ++ names_in h.book old) s (formula h.bound g (length old.numbers)) g
+                    (slice_index_or (judgements_of h) (length old.numbers) (stands verdict.NoRef)) (filling_in h.book old) r) f;
       };
       short = λ kinds text sheet opened binds code short.
           let c = constants_of h in
           let told = acc.tree_is kinds text sheet opened binds code in
           let want = read kinds text sheet opened binds code y as_asked in
           let made : AreShort c (fill old.trees found).made = new_short c found old.trees (subst (AreShort c) (sym want.0) want.1) in
-          subst (AreShort c) (sym (put.put.own_put.trees ∙ ap (λ (ts : List Tree). ts ++ put.own.tree ∷ []) put.put.are_made.put.trees_are ∙ ap (λ (o : DraftStep). (old.trees ++ (fill old.trees found).made) ++ o.tree ∷ []) acc.is))
+          subst (AreShort c)
+              (sym
+                  (put.put.own_put.trees ∙ ap (λ (ts : List Tree). ts ++ put.own.tree ∷ []) put.put.are_made.put.trees_are
+                      ∙ ap (λ (o : DraftStep). (old.trees ++ (fill old.trees found).made) ++ o.tree ∷ []) acc.is))
           (short_join c (old.trees ++ (fill old.trees found).made) (acc.tree ∷ []) (short_join c old.trees (fill old.trees found).made short made) (subst (IsShort c) (sym told.0) told.1, tt));
     }
 
-  pub long_fault : (found : List Tree) (n : ℕ) → OfAccepted h i (λ z. AreWanted (constants_of h) (wanted_from (value_of h) i (length x.order) z.assertion.hyps) found (Some n)) → (e : FillFault) → IsLongNamed old found n e → IsNextFault h old s e
+  pub long_fault : (found : List Tree) (n : ℕ)
+      → OfAccepted h i (λ z. AreWanted (constants_of h) (wanted_from (value_of h) i (length x.order) z.assertion.hyps) found (Some n))
+      → (e : FillFault) → IsLongNamed old found n e → IsNextFault h old s e
   long_fault found n read (fault.TooLong name m) named = λ used in_step kinds text sheet opened binds code.
       let want = read kinds text sheet opened binds code y as_asked in
       IsLongNext.wanted found want.1.0 want.1.1 name m (wanted_next ∙ want.1.2) want.0 (subst (IsTooLong (constants_of h) want.1.0) (sym named.0) want.1.3)
-      (subst (λ (ts : List Tree). slice_get (derived_names (suc (length (new_trees ts found))) (used ++ names_in h.book old)) (length (new_trees ts found)) ≡ Some name) in_step.trees (named.1 (used ++ names_in h.book old) in_step.names))
+      (subst
+          (λ (ts : List Tree). slice_get (derived_names (suc (length (new_trees ts found))) (used ++ names_in h.book old))
+              (length (new_trees ts found))
+              ≡ Some name) in_step.trees
+          (named.1 (used ++ names_in h.book old) in_step.names))
   long_fault found n read fault.LongValue named = absurd named
   long_fault found n read fault.Memory named = tt
 
-  pub own_fault : (found : List Tree) → OfAccepted h i (λ z. AreWanted (constants_of h) (wanted_from (value_of h) i (length x.order) z.assertion.hyps) found None) → (e : FillFault) → IsOwnFault h i s.name e → IsNextFault h old s e
+  pub own_fault : (found : List Tree)
+      → OfAccepted h i (λ z. AreWanted (constants_of h) (wanted_from (value_of h) i (length x.order) z.assertion.hyps) found None) → (e : FillFault)
+      → IsOwnFault h i s.name e → IsNextFault h old s e
   own_fault found read (fault.TooLong m n) h' = λ used in_step kinds text sheet opened binds code.
       let told = h' kinds text sheet opened binds code in
       let want = read kinds text sheet opened binds code y as_asked in

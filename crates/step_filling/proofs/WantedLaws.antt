@@ -45,7 +45,9 @@ module _ (h : Held) (i first : ℕ) where
   read_none = record { each = λ kinds text sheet opened binds code y a. (refl, tt) }
 
   module _ (k n : ℕ) (found : List Tree) (count : OfAccepted h i (λ y. n ≡ length y.assertion.hyps)) (to : IsReadTo k found) where
-    pub read_more : k < n → (more : List Tree) (u : Tree) → OfAccepted h i (λ y. (e : Tree) → slice_get y.assertion.hyps k ≡ Some e → IsRead (constants_of h) (instance (value_of h) i e) (Ok u)) → more ≡ found ++ u ∷ [] → IsReadTo (k + 1) more
+    pub read_more : k < n → (more : List Tree) (u : Tree)
+        → OfAccepted h i (λ y. (e : Tree) → slice_get y.assertion.hyps k ≡ Some e → IsRead (constants_of h) (instance (value_of h) i e) (Ok u))
+        → more ≡ found ++ u ∷ [] → IsReadTo (k + 1) more
     read_more below more u read is = record {
       each = λ kinds text sheet opened binds code y a.
           let hyps = y.assertion.hyps in
@@ -68,14 +70,19 @@ module _ (h : Held) (i first : ℕ) where
         let one = to.each kinds text sheet opened binds code y a in
         let long = count kinds text sheet opened binds code y a in
         let here = at_hyp hyps k (omega (arith, below, long)) in
-        (one.1, (instance (value_of h) i here.tree, wanted_from (value_of h) i (k + 1) hyps, one.0 ∙ ap (λ (ts : List Tree). found ++ map (instance (value_of h) i) ts) here.behind, read kinds text sheet opened binds code y a here.tree here.at))
+        (one.1,
+            (instance (value_of h) i here.tree, wanted_from (value_of h) i (k + 1) hyps,
+                one.0 ∙ ap (λ (ts : List Tree). found ++ map (instance (value_of h) i) ts) here.behind,
+                read kinds text sheet opened binds code y a here.tree here.at))
 
     pub read_all : n ≤ k → OfAccepted h i (λ y. AreWanted (constants_of h) (wanted_from (value_of h) i first y.assertion.hyps) found None)
     read_all past kinds text sheet opened binds code y a =
         let hyps = y.assertion.hyps in
         let one = to.each kinds text sheet opened binds code y a in
         let long = count kinds text sheet opened binds code y a in
-        let all : wanted_from (value_of h) i first hyps ≡ found = one.0 ∙ ap (λ (ts : List Tree). found ++ map (instance (value_of h) i) ts) (drop_past hyps k (omega (arith, past, long))) ∙ append-nil found in
+        let all : wanted_from (value_of h) i first hyps ≡ found =
+            one.0 ∙ ap (λ (ts : List Tree). found ++ map (instance (value_of h) i) ts) (drop_past hyps k (omega (arith, past, long)))
+                ∙ append-nil found in
         (sym all, subst (AreShort (constants_of h)) (sym all) one.1)
 
 -- the first that is too long is not short

@@ -1,5 +1,6 @@
 -- Marks of the steps below `qed`, and whether a marked step is done.
-use Rattle.std.specs.Prelude.{◌≡◌, ◌<◌, ◌⊎◌, ◌↔◌, ℕ, IsTrue, Bool, true, false, not, ◌&&◌, ◌||◌, List, length, fold, slice_get, slice_set, slice_index_or, if◌then◌else◌, Option, Some, codes}
+use Rattle.std.specs.Prelude.{◌≡◌, ◌<◌, ◌⊎◌, ◌↔◌, ℕ, IsTrue, Bool, true, false, not, ◌&&◌, ◌||◌, List, length, fold, slice_get, slice_set}
+use Rattle.std.specs.Prelude.{slice_index_or, if◌then◌else◌, Option, Some, codes}
 use Rattle.mm_base.specs.declared.symbols.Pair.{Pair}
 use Rattle.mm_model.specs.Names.{Name}
 use Rattle.sheet_text.specs.declared.sheet.Given.{Given}

@@ -1,5 +1,6 @@
 -- What the tests of the rows of a grammar say.
-use Rattle.std.proofs.Common.{◌≡◌, ◌||◌, ◌⊎◌, take, Some, slice_get, ◌<◌, ◌≤◌, ◌+◌, ◌&&◌, ◌==◌, ℕ, zero, suc, Bool, true, false, List, [], ◌∷◌, length, refl, sym, ap, ◌∙◌, arith, subst, slice_index_or, nat_lt, ⊎_elim}
+use Rattle.std.proofs.Common.{◌≡◌, ◌||◌, ◌⊎◌, take, Some, slice_get, ◌<◌, ◌≤◌, ◌+◌, ◌&&◌, ◌==◌, ℕ, zero, suc, Bool, true, false, List, [], ◌∷◌}
+use Rattle.std.proofs.Common.{length, refl, sym, ap, ◌∙◌, arith, subst, slice_index_or, nat_lt, ⊎_elim}
 use Rattle.std.proofs.lemmas.Bool.{ltb-true, lt-ltb, eqb-true, eq-eqb, and_parts, and_from, or_cases, cases_lt, cases_eq, cases_order}
 use Rattle.std.proofs.lemmas.Bool.Decides.{nat_tests}
 use Rattle.std.proofs.lemmas.Option.{slice_get_within}
@@ -30,7 +31,8 @@ first_parts all (k ∷ rest) at n e =
     within_cons k rest n l h zero m = l
     within_cons k rest n l h (suc j) m = h j (omega arith)
 
-    once_cons : (all : List ℕ) (k : ℕ) (rest : List ℕ) (at : ℕ) → place_of k all ≡ at → ((j : ℕ) → j < length rest → place_of (slice_index_or rest j 0) all ≡ suc at + j) → (j : ℕ) → j < suc (length rest)
+    once_cons : (all : List ℕ) (k : ℕ) (rest : List ℕ) (at : ℕ) → place_of k all ≡ at
+        → ((j : ℕ) → j < length rest → place_of (slice_index_or rest j 0) all ≡ suc at + j) → (j : ℕ) → j < suc (length rest)
         → place_of (slice_index_or (k ∷ rest) j 0) all ≡ at + j
     once_cons all k rest at e h zero m = e ∙ (let same : at ≡ at + 0 = omega arith in same)
     once_cons all k rest at e h (suc j) m = h j (omega arith) ∙ (let same : suc at + j ≡ at + suc j = omega arith in same)
@@ -84,7 +86,8 @@ label_other l m e same =
     let is = ap (λ (x : Label). x.0) same in
     grind (arith, nat_tests)
 
-none_before : (l : Label) (rows : List Production) (k : ℕ) → list_any (λ (r : Production). r.label.0 == l.0) (take k rows) ≡ false → (i : ℕ) (r : Production) → i < k → slice_get rows i ≡ Some r → r.label ≡ l → ⊥
+none_before : (l : Label) (rows : List Production) (k : ℕ) → list_any (λ (r : Production). r.label.0 == l.0) (take k rows) ≡ false
+    → (i : ℕ) (r : Production) → i < k → slice_get rows i ≡ Some r → r.label ≡ l → ⊥
 none_before l [] k e i r m at same = absurd (cc)
 none_before l (x ∷ rows) zero e i r m at same = absurd (omega arith)
 none_before l (x ∷ rows) (suc k) e zero r m at same =
@@ -95,7 +98,8 @@ none_before l (x ∷ rows) (suc k) e (suc i) r m at same =
     let first = or_none (x.label.0 == l.0) (list_any (λ (r : Production). r.label.0 == l.0) (take k rows)) e in
     none_before l rows k first.1 i r (omega arith) at same
 
-pub apart_turn : (rows : List Production) (k : ℕ) (x : Production) → slice_get rows k ≡ Some x → list_any (λ (r : Production). r.label.0 == x.label.0) (take k rows) ≡ false → Apart rows k → Apart rows (k + 1)
+pub apart_turn : (rows : List Production) (k : ℕ) (x : Production) → slice_get rows k ≡ Some x
+    → list_any (λ (r : Production). r.label.0 == x.label.0) (take k rows) ≡ false → Apart rows k → Apart rows (k + 1)
 apart_turn rows k x here none h i j r s l m at there same = ⊎_elim
     (λ (n : j < k). h i j r s l n at there same)
     (λ (n : k ≤ j).
@@ -112,7 +116,8 @@ apart_differ rows k last h i j r s at there same =
     (λ (l : i < j). absurd (h i j r s l (omega arith) at there same))
     (λ (l : j < i). absurd (h j i s r l (omega arith) there at (sym same))) o) (cases_order i j)
 
-some_before : (l : Label) (rows : List Production) (k : ℕ) → list_any (λ (r : Production). r.label.0 == l.0) (take k rows) ≡ true → (i : ℕ) × (r : Production) × (i < k) × (slice_get rows i ≡ Some r) × (r.label ≡ l)
+some_before : (l : Label) (rows : List Production) (k : ℕ) → list_any (λ (r : Production). r.label.0 == l.0) (take k rows) ≡ true
+    → (i : ℕ) × (r : Production) × (i < k) × (slice_get rows i ≡ Some r) × (r.label ≡ l)
 some_before l [] zero e = absurd (cc)
 some_before l [] (suc k) e = absurd (cc)
 some_before l (x ∷ rows) zero e = absurd (cc)

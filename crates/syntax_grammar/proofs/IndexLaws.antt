@@ -93,7 +93,8 @@ taken : (all : List Production) (at : ℕ) (r : Production) (b : Bool) (ns : Lis
 taken all at r true ns rs is same = ap (λ o. cons_option (option_map (λ (x : Production). x.label) o) (labels_of all ns)) is ∙ ap (λ xs. r.label ∷ xs) same
 taken all at r false ns rs is same = same
 
-labels_filtered : (test : Production → Bool) (all : List Production) (at : ℕ) (rest : List Production) → IsTail all at rest → labels_of all (numbers test at rest) ≡ map (λ (x : Production). x.label) (filter test rest)
+labels_filtered : (test : Production → Bool) (all : List Production) (at : ℕ) (rest : List Production) → IsTail all at rest
+    → labels_of all (numbers test at rest) ≡ map (λ (x : Production). x.label) (filter test rest)
 labels_filtered test all at [] h = refl
 labels_filtered test all at (r ∷ rest) h =
     taken all at r (test r) (numbers test (suc at) rest) (filter test rest) (tail_first all at r rest h) (labels_filtered test all (suc at) rest (tail_rest all at r rest h))
@@ -106,7 +107,8 @@ abbrev pub first_row : List Production → List ℕ → Option Production
 first_row rows [] = None
 first_row rows (n ∷ ns) = slice_get rows n
 
-chosen : (all : List Production) (at : ℕ) (r : Production) (b : Bool) (ns : List ℕ) (o : Option Production) → slice_get all at ≡ Some r → first_row all ns ≡ o → first_row all (cond b (at ∷ ns) ns) ≡ cond b (Some r) o
+chosen : (all : List Production) (at : ℕ) (r : Production) (b : Bool) (ns : List ℕ) (o : Option Production) → slice_get all at ≡ Some r
+    → first_row all ns ≡ o → first_row all (cond b (at ∷ ns) ns) ≡ cond b (Some r) o
 chosen all at r true ns o is same = is
 chosen all at r false ns o is same = same
 

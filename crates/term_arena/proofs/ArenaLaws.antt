@@ -1,8 +1,10 @@
 -- How the fields of a store change.
-use Rattle.std.proofs.Common.{◌≡◌, ◌≢◌, ℕ, ◌+◌, ◌^◌, ◌<◌, ◌≤◌, Bool, true, false, cond, Option, Some, None, List, zero, suc, [], ◌∷◌, ◌++◌, length, take, drop, set, get_or, unwrap_or, is_some, refl, ap, sym, ◌∙◌, inl, inr, arith}
+use Rattle.std.proofs.Common.{◌≡◌, ◌≢◌, ℕ, ◌+◌, ◌^◌, ◌<◌, ◌≤◌, Bool, true, false, cond, Option, Some, None, List, zero, suc, [], ◌∷◌, ◌++◌, length}
+use Rattle.std.proofs.Common.{take, drop, set, get_or, unwrap_or, is_some, refl, ap, sym, ◌∙◌, inl, inr, arith}
 use Rattle.std.specs.Prelude.{count_by, slice_get}
 use Rattle.std.proofs.lemmas.Bool.{cases_eq, cases_lt, eq-eqb, ne_eqb}
-use Rattle.std.proofs.lemmas.List.{length-set, length_push, get_or-set_same, get_or-set_other, get_or_append_left, get_or_push, get_or_past, map_push, get_or-take, get_or-drop, length-take-le, take_at}
+use Rattle.std.proofs.lemmas.List.{length-set, length_push, get_or-set_same, get_or-set_other, get_or_append_left, get_or_push, get_or_past, map_push}
+use Rattle.std.proofs.lemmas.List.{get_or-take, get_or-drop, length-take-le, take_at}
 use Rattle.std.proofs.lemmas.List.Sums.{sum_by_push, sum_by-set, sum_by-cons, sum_by-take-drop, count_by-le-length}
 use Rattle.undo_trail.specs.Noted.{Noted}
 use Rattle.term_model.specs.Terms.{Term, term_code, term_at, HasChildrenBelow}
@@ -11,7 +13,8 @@ use Rattle.term_model.specs.Store.{HaveSameCodes, IsStore}
 use Rattle.term_model.specs.Marks.{bound_at}
 use Rattle.term_arena.specs.Walks.{State}
 use Rattle.term_arena.specs.Inside.{links_of, IsArena}
-use Rattle.term_model.proofs.LinkLaws.{last_below, in_order_last, in_order_front, in_order_cut, unbound_past, link_at_below, target_of_link_at, in_order_more, in_order_push, target_of_push_other, target_of_push_same}
+use Rattle.term_model.proofs.LinkLaws.{last_below, in_order_last, in_order_front, in_order_cut, unbound_past, link_at_below, target_of_link_at}
+use Rattle.term_model.proofs.LinkLaws.{in_order_more, in_order_push, target_of_push_other, target_of_push_same}
 
 -- a table with one more unbound node says the same
 pub bound_at_push : (bound : List (Option ℕ)) (i : ℕ) → bound_at (bound ++ None ∷ []) i ≡ bound_at bound i
@@ -49,7 +52,9 @@ store_push nodes e links kids s =
     }
 
 -- one more node
-pub arena_push : (nodes : List Term) (bound : List (Option ℕ)) (trail : Noted) (states : List State) (ready : Bool) (e : Term) → HasChildrenBelow (length nodes) e → length nodes + 1 < 2 ^ 32 → IsArena nodes bound trail states ready → IsArena (nodes ++ e ∷ []) (bound ++ None ∷ []) trail states false
+pub arena_push : (nodes : List Term) (bound : List (Option ℕ)) (trail : Noted) (states : List State) (ready : Bool) (e : Term)
+    → HasChildrenBelow (length nodes) e → length nodes + 1 < 2 ^ 32 → IsArena nodes bound trail states ready
+    → IsArena (nodes ++ e ∷ []) (bound ++ None ∷ []) trail states false
 arena_push nodes bound trail states ready e kids short a =
     let links : links_of trail.entries (bound ++ None ∷ []) ≡ links_of trail.entries bound = links_of_same trail.entries bound (bound ++ None ∷ []) (bound_at_push bound) in
     record {
@@ -73,13 +78,15 @@ target_of_absent (k ∷ trail) bound i to u =
           rw (get_or-set_other bound i k to None (λ e. past (sym e)), target_of_absent trail bound i to rest) refl
     ]
 
-pub links_of_bind : (trail : List ℕ) (bound : List (Option ℕ)) (from to : ℕ) → from < length bound → target_of (links_of trail bound) from ≡ None → links_of (trail ++ from ∷ []) (set bound from (Some to)) ≡ links_of trail bound ++ record { from = from; to = to } ∷ []
+pub links_of_bind : (trail : List ℕ) (bound : List (Option ℕ)) (from to : ℕ) → from < length bound → target_of (links_of trail bound) from ≡ None
+    → links_of (trail ++ from ∷ []) (set bound from (Some to)) ≡ links_of trail bound ++ record { from = from; to = to } ∷ []
 links_of_bind trail bound from to below u =
     map_push (λ (i : ℕ). record { from = i; to = unwrap_or (bound_at (set bound from (Some to)) i) 0 }) trail from
     ∙ ap (λ (o : Option ℕ). links_of trail (set bound from (Some to)) ++ record { from = from; to = unwrap_or o 0 } ∷ []) (get_or-set_same bound from (Some to) None below)
     ∙ ap (λ (links : List Link). links ++ record { from = from; to = to } ∷ []) (target_of_absent trail bound from (Some to) u)
 
-codes_bind : (nodes : List Term) (links : List Link) (link : Link) → HaveSameCodes nodes links → term_code (term_at nodes link.from) ≡ term_code (term_at nodes link.to) → HaveSameCodes nodes (links ++ link ∷ [])
+codes_bind : (nodes : List Term) (links : List Link) (link : Link) → HaveSameCodes nodes links
+    → term_code (term_at nodes link.from) ≡ term_code (term_at nodes link.to) → HaveSameCodes nodes (links ++ link ∷ [])
 codes_bind nodes [] link codes e = (e, tt)
 codes_bind nodes (l ∷ links) link codes e = (codes.0, codes_bind nodes links link codes.1 e)
 
@@ -128,7 +135,9 @@ count_below bound i h u =
     omega (arith, more', within, length-set bound i (Some 0))
 
 -- more room for the trail and the states
-pub arena_room : (nodes : List Term) (bound : List (Option ℕ)) (trail grown : Noted) (states more : List State) (ready now : Bool) → grown.entries ≡ trail.entries → (now ≡ true → (length nodes ≤ length trail.entries + grown.spare) × (length nodes ≤ length more)) → IsArena nodes bound trail states ready → IsArena nodes bound grown more now
+pub arena_room : (nodes : List Term) (bound : List (Option ℕ)) (trail grown : Noted) (states more : List State) (ready now : Bool)
+    → grown.entries ≡ trail.entries → (now ≡ true → (length nodes ≤ length trail.entries + grown.spare) × (length nodes ≤ length more))
+    → IsArena nodes bound trail states ready → IsArena nodes bound grown more now
 arena_room nodes bound trail grown states more ready now e r a =
     let links : links_of grown.entries bound ≡ links_of trail.entries bound = ap (λ (t : List ℕ). links_of t bound) e in
     record {
@@ -147,7 +156,9 @@ link_at_trail (j ∷ trail) bound zero i e = let same : j ≡ i = cc in rw same 
 link_at_trail (j ∷ trail) bound (suc k) i e = link_at_trail trail bound k i e
 
 -- the k-th entry of the trail is bound
-pub trail_bound : (nodes : List Term) (bound : List (Option ℕ)) (trail : Noted) (states : List State) (ready : Bool) (k i : ℕ) → IsArena nodes bound trail states ready → k < length trail.entries → slice_get trail.entries k ≡ Some i → (i < length bound) × (bound_at bound i ≡ Some (link_at (links_of trail.entries bound) k).to)
+pub trail_bound : (nodes : List Term) (bound : List (Option ℕ)) (trail : Noted) (states : List State) (ready : Bool) (k i : ℕ)
+    → IsArena nodes bound trail states ready → k < length trail.entries → slice_get trail.entries k ≡ Some i
+    → (i < length bound) × (bound_at bound i ≡ Some (link_at (links_of trail.entries bound) k).to)
 trail_bound nodes bound trail states ready k i a h e =
     let links = links_of trail.entries bound in
     let h' : k < length links = omega (arith, length-links_of trail.entries bound) in
@@ -161,7 +172,8 @@ codes_front nodes [] link c = tt
 codes_front nodes (l ∷ links) link c = (c.0, codes_front nodes links link c.1)
 
 -- the last binding is taken back
-pub arena_unbind : (nodes : List Term) (bound : List (Option ℕ)) (trail less : Noted) (states : List State) (ready : Bool) (last : ℕ) → IsArena nodes bound trail states ready → trail.entries ≡ less.entries ++ last ∷ [] → less.spare ≡ trail.spare + 1
+pub arena_unbind : (nodes : List Term) (bound : List (Option ℕ)) (trail less : Noted) (states : List State) (ready : Bool) (last : ℕ)
+    → IsArena nodes bound trail states ready → trail.entries ≡ less.entries ++ last ∷ [] → less.spare ≡ trail.spare + 1
     → IsArena nodes (set bound last None) less states ready × (links_of less.entries (set bound last None) ≡ take (length less.entries) (links_of trail.entries bound))
 arena_unbind nodes bound trail less states ready last a e spare =
     let front : List Link = links_of less.entries bound in
@@ -219,7 +231,8 @@ links_of_cut [] bound m b = refl
 links_of_cut (i ∷ trail) bound m b = rw (get_or-take m bound i None b.0.0, links_of_cut trail bound m b.1) refl
 
 -- the nodes are cut, where no binding names a later one
-pub arena_cut : (nodes : List Term) (bound : List (Option ℕ)) (trail : Noted) (states : List State) (ready : Bool) (m : ℕ) → m ≤ length nodes → AreBelow m (links_of trail.entries bound) → IsArena nodes bound trail states ready
+pub arena_cut : (nodes : List Term) (bound : List (Option ℕ)) (trail : Noted) (states : List State) (ready : Bool) (m : ℕ) → m ≤ length nodes
+    → AreBelow m (links_of trail.entries bound) → IsArena nodes bound trail states ready
     → IsArena (take m nodes) (take m bound) trail states ready × (links_of trail.entries (take m bound) ≡ links_of trail.entries bound)
 arena_cut nodes bound trail states ready m h below a =
     let links : List Link = links_of trail.entries bound in
@@ -248,7 +261,8 @@ arena_cut nodes bound trail states ready m h below a =
       same,
     )
 
-pub last_entry_below : (nodes : List Term) (bound : List (Option ℕ)) (trail less : Noted) (states : List State) (ready : Bool) (last : ℕ) → IsArena nodes bound trail states ready → trail.entries ≡ less.entries ++ last ∷ [] → last < length bound
+pub last_entry_below : (nodes : List Term) (bound : List (Option ℕ)) (trail less : Noted) (states : List State) (ready : Bool) (last : ℕ)
+    → IsArena nodes bound trail states ready → trail.entries ≡ less.entries ++ last ∷ [] → last < length bound
 last_entry_below nodes bound trail less states ready last a e =
     let link : Link = record { from = last; to = unwrap_or (bound_at bound last) 0 } in
     let whole : links_of trail.entries bound ≡ links_of less.entries bound ++ link ∷ [] =

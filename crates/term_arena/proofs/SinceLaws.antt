@@ -29,7 +29,8 @@ module _ (nodes : List Term) (bound : List (Option ℕ)) (trail : Noted) (states
   pub trail_below : (k i : ℕ) → slice_get trail.entries k ≡ Some i → i < length nodes
   trail_below k i e = omega (arith, (trail_bound nodes bound trail states ready k i a (entry_within trail.entries k i e) e).0, a.same)
 
-  solved_since : (t : ℕ) → IsClosed nodes (links_of trail.entries bound) → HasSolution nodes (take t (links_of trail.entries bound)) → AreSettled nodes bound trail.entries t → HasSolution nodes (links_of trail.entries bound)
+  solved_since : (t : ℕ) → IsClosed nodes (links_of trail.entries bound) → HasSolution nodes (take t (links_of trail.entries bound))
+      → AreSettled nodes bound trail.entries t → HasSolution nodes (links_of trail.entries bound)
   solved_since t closed old s =
       let links : List Link = links_of trail.entries bound in
       solution_since nodes links bound t s.marks a.store closed a.table old s.long s.solved (λ k from within.
@@ -37,6 +38,8 @@ module _ (nodes : List Term) (bound : List (Option ℕ)) (trail : Noted) (states
       let same : (link_at links k).from ≡ get_or trail.entries k 0 = ap (λ (l : Link). l.from) (link_at_trail trail.entries bound k (get_or trail.entries k 0) read) in
       rw same (s.each k (get_or trail.entries k 0) from read))
 
-  pub since_exact : (t : ℕ) (r : Bool) → IsClosed nodes (links_of trail.entries bound) → HasSolution nodes (take t (links_of trail.entries bound)) → OnTrue r (AreSettled nodes bound trail.entries t) → OnFalse r (IsCyclic nodes bound) → IsTrue r ↔ HasSolution nodes (links_of trail.entries bound)
+  pub since_exact : (t : ℕ) (r : Bool) → IsClosed nodes (links_of trail.entries bound) → HasSolution nodes (take t (links_of trail.entries bound))
+      → OnTrue r (AreSettled nodes bound trail.entries t) → OnFalse r (IsCyclic nodes bound)
+      → IsTrue r ↔ HasSolution nodes (links_of trail.entries bound)
   since_exact t true closed old done cycle = (λ _. solved_since t closed old done, λ _. refl)
   since_exact t false closed old done cycle = (λ (h : IsTrue false). cc, λ sol. absurd (cyclic_none nodes (links_of trail.entries bound) bound a.store a.table cycle sol))

@@ -1,5 +1,6 @@
 -- A step of a walk keeps what the walk knows.
-use Rattle.std.proofs.Common.{◌≡◌, ◌⊎◌, ℕ, ◌+◌, ◌<◌, ◌≤◌, Bool, true, false, ◌&&◌, Option, Some, None, add-one, List, zero, suc, [], ◌∷◌, length, drop, set, get_or, map, refl, ap, sym, subst, ◌∙◌, inl, inr, arith}
+use Rattle.std.proofs.Common.{◌≡◌, ◌⊎◌, ℕ, ◌+◌, ◌<◌, ◌≤◌, Bool, true, false, ◌&&◌, Option, Some, None, add-one, List, zero, suc, [], ◌∷◌, length}
+use Rattle.std.proofs.Common.{drop, set, get_or, map, refl, ap, sym, subst, ◌∙◌, inl, inr, arith}
 use Rattle.std.specs.List.{AllByRecursion, slice_get}
 use Rattle.std.proofs.lemmas.Bool.{cases_eq}
 use Rattle.std.proofs.lemmas.List.{length-map, length-set, map-set, set-get_or, get_or-set_same, get_or-set_other}
@@ -93,7 +94,8 @@ module _ (nodes : List Term) (bound : List (Option ℕ)) (root : ℕ) (first now
         less = rw states (omega (arith, weights));
       }
 
-  opens : (j : ℕ) → IsIn j (parts_of nodes bound last) → j < length nodes → state_at now.states j ≡ unseen → next.states ≡ set now.states j opened → next.path ≡ j ∷ now.path → GoesOn nodes bound root first now next
+  opens : (j : ℕ) → IsIn j (parts_of nodes bound last) → j < length nodes → state_at now.states j ≡ unseen → next.states ≡ set now.states j opened
+      → next.path ≡ j ∷ now.path → GoesOn nodes bound root first now next
   opens j part below fresh states path' =
       let m : is_marked (marks_of now.states) j ≡ false = not_settled now.states j unseen fresh refl in
       let inside : j < length now.states = omega (arith, below, long, walk.room) in
@@ -130,7 +132,10 @@ root_settled states root begun idle = mark_of_state states root ∙ go (state_at
     go settled e = refl
 
 -- the walk at its beginning
-pub walk_begins : (nodes : List Term) (bound : List (Option ℕ)) (root : ℕ) (first next : Walked) → root < length nodes → length nodes ≤ length first.states → IsIdle first → IsPartlySolved nodes bound (marks_of first.states) → is_marked (marks_of first.states) root ≡ false → next.states ≡ set first.states root opened → next.path ≡ root ∷ first.path → IsWalking nodes bound root first next
+pub walk_begins : (nodes : List Term) (bound : List (Option ℕ)) (root : ℕ) (first next : Walked) → root < length nodes
+    → length nodes ≤ length first.states → IsIdle first → IsPartlySolved nodes bound (marks_of first.states)
+    → is_marked (marks_of first.states) root ≡ false → next.states ≡ set first.states root opened → next.path ≡ root ∷ first.path
+    → IsWalking nodes bound root first next
 walk_begins nodes bound root first next below long idle p m states path =
     let marked : marks_of next.states ≡ marks_of first.states = ap marks_of states ∙ opened_marks first.states root m in
     record {

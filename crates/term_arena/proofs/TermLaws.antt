@@ -1,5 +1,6 @@
 -- The children of all terms in one list.
-use Rattle.std.proofs.Common.{◌≡◌, ℕ, ◌+◌, ◌<◌, ◌≤◌, ◌^◌, Option, None, List, zero, suc, [], ◌∷◌, ◌++◌, length, take, drop, get_or, refl, ap, sym, subst, ◌∙◌, arith, length-append, length-drop}
+use Rattle.std.proofs.Common.{◌≡◌, ℕ, ◌+◌, ◌<◌, ◌≤◌, ◌^◌, Option, None, List, zero, suc, [], ◌∷◌, ◌++◌, length, take, drop, get_or, refl, ap, sym}
+use Rattle.std.proofs.Common.{subst, ◌∙◌, arith, length-append, length-drop}
 use Rattle.std.proofs.lemmas.List.{map_push, length_push, length-map, get_or-map, take-map, take-append-le, drop-append-le, take_all, drop_at, length-take-le, take-append-drop}
 use Rattle.term_model.specs.declared.shape.Id.{Id}
 use Rattle.term_model.specs.declared.shape.Shape.{Shape}
@@ -16,7 +17,8 @@ packed_grows start [] end p = omega arith
 packed_grows start (x ∷ entries) end p = omega (arith, packed_grows (start + shape_count x.shape) entries end p.1)
 
 -- the children of an entry stand within the list
-pub packed_at : (start : ℕ) (entries : List Entry) (end : ℕ) (i : ℕ) (d : Entry) → IsPacked start entries end → i < length entries → (get_or entries i d).start + shape_count (get_or entries i d).shape ≤ end
+pub packed_at : (start : ℕ) (entries : List Entry) (end : ℕ) (i : ℕ) (d : Entry) → IsPacked start entries end → i < length entries
+    → (get_or entries i d).start + shape_count (get_or entries i d).shape ≤ end
 packed_at start [] end i d p h = absurd (omega arith)
 packed_at start (x ∷ entries) end zero d p h = omega (arith, p.0, packed_grows (start + shape_count x.shape) entries end p.1)
 packed_at start (x ∷ entries) end (suc i) d p h = packed_at (start + shape_count x.shape) entries end i d p.1 (omega arith)
@@ -61,7 +63,8 @@ entry_shape children e h =
     shape_back e.shape e.constants (take (shape_count e.shape) (drop e.start children))
     (length-take-le (shape_count e.shape) (drop e.start children) (omega (arith, length-drop e.start children)))
 
-pub terms_more : (entries : List Entry) (children more : List Id) (bound : List (Option ℕ)) (e : Entry) → IsTerms entries children bound → e.start ≡ length children → shape_count e.shape ≡ length more
+pub terms_more : (entries : List Entry) (children more : List Id) (bound : List (Option ℕ)) (e : Entry) → IsTerms entries children bound
+    → e.start ≡ length children → shape_count e.shape ≡ length more
     → length entries + 1 < 2 ^ 32 → length children + length more < 2 ^ 32 → IsTerms (entries ++ e ∷ []) (children ++ more) (bound ++ None ∷ [])
 terms_more entries children more bound e t s h few few_children =
     let n = length-append children more in
@@ -77,7 +80,8 @@ pub record IsCutTo (entries : List Entry) (children left : List Id) (bound : Lis
   pub terms : IsTerms (take m entries) left (take m bound)
   pub nodes : entry_terms left (take m entries) ≡ take m (entry_terms children entries)
 
-pub terms_less : (entries : List Entry) (children left : List Id) (bound : List (Option ℕ)) (m n : ℕ) → IsTerms entries children bound → m ≤ length entries → n ≤ length children → IsPacked 0 (take m entries) n → left ≡ take n children → IsCutTo entries children left bound m
+pub terms_less : (entries : List Entry) (children left : List Id) (bound : List (Option ℕ)) (m n : ℕ) → IsTerms entries children bound
+    → m ≤ length entries → n ≤ length children → IsPacked 0 (take m entries) n → left ≡ take n children → IsCutTo entries children left bound m
 terms_less entries children left bound m n t h k p e =
     let short : length (take n children) ≡ n = length-take-le n children k in
     rw e (record {
@@ -96,13 +100,15 @@ packed_before entries end m e p h is =
     (subst (IsPacked 0 (take m entries)) start (packed_take 0 entries end m e p h), omega (arith, packed_at 0 entries end m e p h, start))
 
 -- the entry at a place, with its children within the list
-pub entry_within : (entries : List Entry) (children : List Id) (bound : List (Option ℕ)) (i : ℕ) (e : Entry) → IsTerms entries children bound → i < length (entry_terms children entries) → e ≡ get_or entries i e → e.start + shape_count e.shape ≤ length children
+pub entry_within : (entries : List Entry) (children : List Id) (bound : List (Option ℕ)) (i : ℕ) (e : Entry) → IsTerms entries children bound
+    → i < length (entry_terms children entries) → e ≡ get_or entries i e → e.start + shape_count e.shape ≤ length children
 entry_within entries children bound i e t h is =
     let within : i < length entries = omega (arith, h, length-map entries (entry_term children)) in
     let P : Entry → Type 0 = λ (x : Entry). x.start + shape_count x.shape ≤ length children in
     subst P (sym is) (packed_at 0 entries (length children) i e t.packed within)
 
-pub shape_at : (entries : List Entry) (children : List Id) (bound : List (Option ℕ)) (i : ℕ) (e : Entry) → IsTerms entries children bound → i < length (entry_terms children entries) → e ≡ get_or entries i e → e.shape ≡ shape_of (term_at (entry_terms children entries) i)
+pub shape_at : (entries : List Entry) (children : List Id) (bound : List (Option ℕ)) (i : ℕ) (e : Entry) → IsTerms entries children bound
+    → i < length (entry_terms children entries) → e ≡ get_or entries i e → e.shape ≡ shape_of (term_at (entry_terms children entries) i)
 shape_at entries children bound i e t h is =
     let within : i < length entries = omega (arith, h, length-map entries (entry_term children)) in
     let here : term_at (entry_terms children entries) i ≡ entry_term children e = get_or-map (entry_term children) entries i e (Free no_code) within ∙ ap (entry_term children) (sym is) in

@@ -1,5 +1,6 @@
 -- What changes of a walk's fields say of its states and its path.
-use Rattle.std.proofs.Common.{◌≡◌, ◌≢◌, ℕ, ◌+◌, ◌-◌, ◌<◌, ◌≤◌, ◌^◌, eqb, cond, List, zero, suc, [], ◌∷◌, ◌++◌, length, set, get_or, map, Option, Some, None, refl, ap, sym, subst, ◌∙◌, inl, inr, arith}
+use Rattle.std.proofs.Common.{◌≡◌, ◌≢◌, ℕ, ◌+◌, ◌-◌, ◌<◌, ◌≤◌, ◌^◌, eqb, cond, List, zero, suc, [], ◌∷◌, ◌++◌, length, set, get_or, map, Option, Some}
+use Rattle.std.proofs.Common.{None, refl, ap, sym, subst, ◌∙◌, inl, inr, arith}
 use Rattle.std.specs.Prelude.{reverse, count_by, slice_get}
 use Rattle.std.proofs.lemmas.Bool.{cases_eq, cases_lt, eq-eqb, ne_eqb}
 use Rattle.std.proofs.lemmas.List.{length-map, length-set, length_push, reverse-append, get_or-set_same, get_or-set_other, get_or_past, get_or-reverse, map-set, length-reverse}
@@ -43,7 +44,8 @@ open_count_none (s ∷ states) none =
     omega (arith, cons', rest)
 
 -- where all are new, the path is empty
-pub walk_fresh : (stamps : List ℕ) (round : ℕ) (path : Noted) → 0 < round → round + 1 < 2 ^ 32 → ((i : ℕ) → get_or stamps i 0 ≤ round + 1) → ((i : ℕ) → state_at (map (state_of round) stamps) i ≡ unseen) → path.entries ≡ [] → length stamps ≤ path.spare → IsWalk stamps round path
+pub walk_fresh : (stamps : List ℕ) (round : ℕ) (path : Noted) → 0 < round → round + 1 < 2 ^ 32 → ((i : ℕ) → get_or stamps i 0 ≤ round + 1)
+    → ((i : ℕ) → state_at (map (state_of round) stamps) i ≡ unseen) → path.entries ≡ [] → length stamps ≤ path.spare → IsWalk stamps round path
 walk_fresh stamps round path h l old fresh e room = record {
   started = h;
   limit = l;
@@ -58,7 +60,9 @@ pub fresh_states : (stamps : List ℕ) (round : ℕ) → 0 < round → ((i : ℕ
 fresh_states stamps round h past i = state_by_stamp round stamps i h ∙ state_of_old round (get_or stamps i 0) (past i)
 
 -- where a walk with an empty path and new states has more room
-pub walk_room : (stamps more : List ℕ) (round : ℕ) (path after : Noted) → IsWalk stamps round path → ((i : ℕ) → state_at (map (state_of round) stamps) i ≡ unseen) → ((i : ℕ) → get_or more i 0 ≡ get_or stamps i 0) → after.entries ≡ [] → length more ≤ after.spare → IsWalk more round after
+pub walk_room : (stamps more : List ℕ) (round : ℕ) (path after : Noted) → IsWalk stamps round path
+    → ((i : ℕ) → state_at (map (state_of round) stamps) i ≡ unseen) → ((i : ℕ) → get_or more i 0 ≡ get_or stamps i 0) → after.entries ≡ []
+    → length more ≤ after.spare → IsWalk more round after
 walk_room stamps more round path after w fresh same e room =
     walk_fresh more round after w.started w.limit (λ i. rw (same i) (w.stamps_old i))
     (λ i. state_by_stamp round more i w.started ∙ ap (state_of round) (same i) ∙ sym (state_by_stamp round stamps i w.started) ∙ fresh i) e room
@@ -74,7 +78,8 @@ pub reverse_push : (xs : List ℕ) (i : ℕ) → reverse (xs ++ i ∷ []) ≡ i 
 reverse_push xs i = reverse-append xs (i ∷ [])
 
 -- what changes of the counts of open nodes
-pub open_count_set : (states : List State) (i : ℕ) (s : State) → i < length states → count_by is_open (set states i s) + cond (is_open (state_at states i)) 1 0 ≡ count_by is_open states + cond (is_open s) 1 0
+pub open_count_set : (states : List State) (i : ℕ) (s : State) → i < length states
+    → count_by is_open (set states i s) + cond (is_open (state_at states i)) 1 0 ≡ count_by is_open states + cond (is_open s) 1 0
 open_count_set states i s h = sum_by-set (λ (x : State). cond (is_open x) 1 0) states i s unseen h
 
 -- one of the nodes is not open
@@ -209,7 +214,8 @@ settled_read stamps round path i w = sym (mark_of_state (map (state_of round) st
 pub open_read : (stamps : List ℕ) (round : ℕ) (path : Noted) (i : ℕ) → IsWalk stamps round path → get_or stamps i 0 ≡ round → IsIn i (reverse path.entries)
 open_read stamps round path i w e = w.on_path i (state_by_stamp round stamps i w.started ∙ ap (state_of round) e ∙ state_of_open round)
 
-pub idle_when_empty : (stamps : List ℕ) (round : ℕ) (path : Noted) → IsWalk stamps round path → path.entries ≡ [] → IsIdle (record { states = map (state_of round) stamps; path = reverse path.entries })
+pub idle_when_empty : (stamps : List ℕ) (round : ℕ) (path : Noted) → IsWalk stamps round path → path.entries ≡ []
+    → IsIdle (record { states = map (state_of round) stamps; path = reverse path.entries })
 idle_when_empty stamps round path w e = record { path = ap reverse e; none = λ i o. absurd (subst (λ (xs : List ℕ). IsIn i (reverse xs)) e (w.on_path i o)) }
 
 pub idle_when_new : (states : List State) (path : List ℕ) → ((i : ℕ) → state_at states i ≡ unseen) → path ≡ [] → IsIdle (record { states = states; path = path })

@@ -1,5 +1,6 @@
 -- A walk through the nodes of a store: what it knows of each node, and the path on which it is.
-use Rattle.std.specs.Prelude.{◌≡◌, ℕ, ◌+◌, ◌<◌, ◌≤◌, ◌^◌, ◌==◌, if◌then◌else◌, Bool, true, false, List, [], ◌∷◌, length, map, reverse, set, sum_by, count_by, slice_index_or, slice_get, Option, Some}
+use Rattle.std.specs.Prelude.{◌≡◌, ℕ, ◌+◌, ◌<◌, ◌≤◌, ◌^◌, ◌==◌, if◌then◌else◌, Bool, true, false, List, [], ◌∷◌, length, map, reverse, set, sum_by}
+use Rattle.std.specs.Prelude.{count_by, slice_index_or, slice_get, Option, Some}
 use Rattle.undo_trail.specs.Noted.{Noted}
 use Rattle.term_arena.specs.declared.walk.Step.{Step}
 use Rattle.term_model.specs.Terms.{Term}
@@ -64,7 +65,9 @@ pub record IsWalk (stamps : List ℕ) (round : ℕ) (path : Noted) : Type 0 wher
 -- what a step of a walk did, from the last node of its path
 abbrev pub IsStep : List Term → List (Option ℕ) → ℕ → Walked → Walked → Step → Type 0
 IsStep nodes bound last old new Step.Settled = (are_marked (marks_of old.states) (parts_of nodes bound last) ≡ true) × (new.states ≡ set old.states last settled) × (old.path ≡ last ∷ new.path)
-IsStep nodes bound last old new Step.Opened = (j : ℕ) × IsIn j (parts_of nodes bound last) × (j < length nodes) × (state_at old.states j ≡ unseen) × (new.states ≡ set old.states j opened) × (new.path ≡ j ∷ old.path)
+IsStep nodes bound last old new Step.Opened =
+    (j : ℕ) × IsIn j (parts_of nodes bound last) × (j < length nodes) × (state_at old.states j ≡ unseen) × (new.states ≡ set old.states j opened)
+        × (new.path ≡ j ∷ old.path)
 IsStep nodes bound last old new Step.Cycle = (new ≡ old) × ((j : ℕ) × IsIn j (parts_of nodes bound last) × IsIn j old.path)
 
 -- no node stands on the path

@@ -51,7 +51,8 @@ closed_push k nodes links link h c = record {
 }
 
 -- one more link gone through: its two nodes agree
-pub closed_step : (k : ℕ) (nodes : List Term) (links : List Link) (d : Link) → k < length links → IsClosedUpTo k nodes links → Agrees links (term_at nodes (get_or links k d).from) (term_at nodes (get_or links k d).to) → IsClosedUpTo (k + 1) nodes links
+pub closed_step : (k : ℕ) (nodes : List Term) (links : List Link) (d : Link) → k < length links → IsClosedUpTo k nodes links
+    → Agrees links (term_at nodes (get_or links k d).from) (term_at nodes (get_or links k d).to) → IsClosedUpTo (k + 1) nodes links
 closed_step k nodes links d h c here = record {
   agrees = λ i below.
       let link : Link = get_or links k d in

@@ -1,5 +1,6 @@
 -- Closed bindings have a solution exactly where no path comes back to itself.
-use Rattle.std.proofs.Common.{◌≡◌, ◌≢◌, ◌⊎◌, ℕ, ◌+◌, ◌*◌, ◌<◌, ◌≤◌, Bool, true, false, Option, Some, None, List, zero, suc, [], ◌∷◌, length, take, set, replicate, map, sum, refl, ap, sym, subst, ◌∙◌, inl, inr, arith}
+use Rattle.std.proofs.Common.{◌≡◌, ◌≢◌, ◌⊎◌, ℕ, ◌+◌, ◌*◌, ◌<◌, ◌≤◌, Bool, true, false, Option, Some, None, List, zero, suc, [], ◌∷◌, length, take}
+use Rattle.std.proofs.Common.{set, replicate, map, sum, refl, ap, sym, subst, ◌∙◌, inl, inr, arith}
 use Rattle.std.specs.List.{AllByRecursion}
 use Rattle.std.proofs.Math.Nat.{mul-le-mul_left}
 use Rattle.std.proofs.lemmas.Bool.{cases_eq, cases_lt, cases_Bool, eq-eqb, ne_eqb, both_ways}
@@ -63,7 +64,8 @@ same_ends trees links [] r = refl
 same_ends trees links (id ∷ xs) r = rw (sym (respects_end trees links id.0 r), same_ends trees links xs r) refl
 
 -- the tree of the end fits the node
-fits_Node_end : (trees : List Tree) (links : List Link) (t : Tree) (l : Label) (c : Typecode) (xs : List Id) (e : Term) → Respects trees links → IsSameNode links l c xs e → Fits trees t e → t ≡ tree.Node l c (trees_at trees xs)
+fits_Node_end : (trees : List Tree) (links : List Link) (t : Tree) (l : Label) (c : Typecode) (xs : List Id) (e : Term) → Respects trees links
+    → IsSameNode links l c xs e → Fits trees t e → t ≡ tree.Node l c (trees_at trees xs)
 fits_Node_end trees links t l c xs (Var s d) r a f = absurd a
 fits_Node_end trees links t l c xs (Free d) r a f = absurd a
 fits_Node_end trees links t l c xs (Node m d k ys) r a f =
@@ -76,7 +78,9 @@ fits_end trees links t (Free c) e r a codes f = fits_code trees t e f ∙ sym co
 fits_end trees links t (Node l c k xs) e r a codes f = fits_Node_end trees links t l c xs e r a f
 
 -- closed bindings with every node marked have a solution
-pub solution_from_marks : (nodes : List Term) (links : List Link) (bound : List (Option ℕ)) (marks : List Bool) → IsStore nodes links → IsClosed nodes links → IsTableOf bound links → IsPartlySolved nodes bound marks → ((i : ℕ) → i < length nodes → is_marked marks i ≡ true) → (trees : List Tree) × Solution nodes links trees
+pub solution_from_marks : (nodes : List Term) (links : List Link) (bound : List (Option ℕ)) (marks : List Bool) → IsStore nodes links
+    → IsClosed nodes links → IsTableOf bound links → IsPartlySolved nodes bound marks → ((i : ℕ) → i < length nodes → is_marked marks i ≡ true)
+    → (trees : List Tree) × Solution nodes links trees
 solution_from_marks nodes links bound marks store closed table p all =
     let n = length nodes in
     let at_target : (i j : ℕ) → target_of links i ≡ Some j → tree_at p.trees i ≡ tree_at p.trees j = λ i j e.
@@ -144,7 +148,9 @@ child_smaller trees t (Node l c k kids) j f h =
     let size : size_of t ≡ sum (map size_of (trees_at trees kids)) + 1 = ap size_of f ∙ nodes-Node l c (trees_at trees kids) in
     omega (arith, child_size trees j kids h, size)
 
-pub parts_fall : (nodes : List Term) (links : List Link) (bound : List (Option ℕ)) (trees : List Tree) → InOrder (length nodes) links → Solution nodes links trees → (i j : ℕ) → i < length nodes → bound_at bound i ≡ target_of links i → IsIn j (parts_of nodes bound i) → weight links trees j < weight links trees i
+pub parts_fall : (nodes : List Term) (links : List Link) (bound : List (Option ℕ)) (trees : List Tree) → InOrder (length nodes) links
+    → Solution nodes links trees → (i j : ℕ) → i < length nodes → bound_at bound i ≡ target_of links i → IsIn j (parts_of nodes bound i)
+    → weight links trees j < weight links trees i
 parts_fall nodes links bound trees order sol i j below table h = go (bound_at bound i) refl h
   where
     go : (o : Option ℕ) → bound_at bound i ≡ o → IsIn j (parts_at o (term_at nodes i)) → weight links trees j < weight links trees i
@@ -202,7 +208,8 @@ module _ (nodes : List Term) (bound : List (Option ℕ)) (g : IsGraph nodes boun
   abbrev pub Falls : List Bool → Type 0
   Falls marks = (i j : ℕ) → i < length nodes → is_marked marks i ≡ false → IsIn j (parts_of nodes bound i) → w j < w i
 
-  lowest : (marks : List Bool) → Falls marks → (s i : ℕ) → i < length nodes → is_marked marks i ≡ false → w i < s → (k : ℕ) × (k < length nodes) × (is_marked marks k ≡ false) × (are_marked marks (parts_of nodes bound k) ≡ true)
+  lowest : (marks : List Bool) → Falls marks → (s i : ℕ) → i < length nodes → is_marked marks i ≡ false → w i < s
+      → (k : ℕ) × (k < length nodes) × (is_marked marks k ≡ false) × (are_marked marks (parts_of nodes bound k) ≡ true)
   lowest marks f zero i below fresh h = absurd (omega (arith, h))
   lowest marks f (suc s) i below fresh h = elim (cases_Bool (are_marked marks (parts_of nodes bound i))) [
     | inl all ↦ (i, below, fresh, all)
@@ -248,7 +255,8 @@ graph_of_store nodes links bound store table = record {
 
 -- ---- what a walk found
 
-solved_by : (nodes : List Term) (links : List Link) (bound : List (Option ℕ)) (n : ℕ) → IsStore nodes links → IsClosed nodes links → IsTableOf bound links → AllSolved nodes bound n → HasSolution nodes links
+solved_by : (nodes : List Term) (links : List Link) (bound : List (Option ℕ)) (n : ℕ) → IsStore nodes links → IsClosed nodes links
+    → IsTableOf bound links → AllSolved nodes bound n → HasSolution nodes links
 solved_by nodes links bound n store closed table a = solution_from_marks nodes links bound a.marks store closed table a.solved a.all
 
 none_bound : (i : ℕ) → bound_at [] i ≡ None
@@ -287,12 +295,14 @@ target_take (suc t) [] i n = refl
 target_take (suc t) (l ∷ links) i n = rw (target_take t links i (λ k h below. n (suc k) (omega (arith, h)) (omega (arith, below)))) refl
 
 -- where the nodes of all later bindings are settled, a solution before them gives one after them
-pub solution_since : (nodes : List Term) (links : List Link) (bound : List (Option ℕ)) (t : ℕ) (marks : List Bool) → IsStore nodes links → IsClosed nodes links → IsTableOf bound links → HasSolution nodes (take t links) → length nodes ≤ length marks → IsPartlySolved nodes bound marks
+pub solution_since : (nodes : List Term) (links : List Link) (bound : List (Option ℕ)) (t : ℕ) (marks : List Bool) → IsStore nodes links
+    → IsClosed nodes links → IsTableOf bound links → HasSolution nodes (take t links) → length nodes ≤ length marks → IsPartlySolved nodes bound marks
     → ((k : ℕ) → t ≤ k → k < length links → is_marked marks (link_at links k).from ≡ true) → HasSolution nodes links
 solution_since nodes links bound t marks store closed table old long p roots =
     let early : List Link = take t links in
     let falls : (i j : ℕ) → i < length nodes → is_marked marks i ≡ false → IsIn j (parts_of nodes bound i) → weight early old.0 j < weight early old.0 i = λ i j below m h.
-    let other : (k : ℕ) → t ≤ k → k < length links → (link_at links k).from ≢ i = λ k from within e. both_ways (is_marked marks i) m (subst (λ (x : ℕ). is_marked marks x ≡ true) e (roots k from within)) in
+    let other : (k : ℕ) → t ≤ k → k < length links → (link_at links k).from ≢ i =
+        λ k from within e. both_ways (is_marked marks i) m (subst (λ (x : ℕ). is_marked marks x ≡ true) e (roots k from within)) in
     parts_fall nodes early bound old.0 (in_order_take (length nodes) t links store.in_order) old.1 i j below (table.each i ∙ sym (target_take t links i other)) h in
     solved_by nodes links bound (length marks) store closed table
     (settle_rest nodes bound (graph_of_store nodes links bound store table) (weight early old.0) (unmarked_count marks + 1) marks (omega arith) long falls p)

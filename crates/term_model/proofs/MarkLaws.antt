@@ -1,5 +1,6 @@
 -- Marking one more node keeps a solution of the marked nodes.
-use Rattle.std.proofs.Common.{◌≡◌, ◌≢◌, ℕ, ◌+◌, ◌-◌, ◌<◌, ◌≤◌, Bool, true, false, Option, Some, None, List, [], ◌∷◌, length, set, get_or, replicate, not, cond, map, refl, sym, ◌∙◌, inl, inr, arith}
+use Rattle.std.proofs.Common.{◌≡◌, ◌≢◌, ℕ, ◌+◌, ◌-◌, ◌<◌, ◌≤◌, Bool, true, false, Option, Some, None, List, [], ◌∷◌, length, set, get_or, replicate}
+use Rattle.std.proofs.Common.{not, cond, map, refl, sym, ◌∙◌, inl, inr, arith}
 use Rattle.std.proofs.lemmas.Bool.{cases_eq, and_parts, and_from, and_cases, both_ways}
 use Rattle.std.proofs.lemmas.List.Sums.{sum_by-set, count_by-le-length}
 use Rattle.std.proofs.lemmas.List.{length-replicate, length-set, get_or-set_same, get_or-set_other}
@@ -97,7 +98,8 @@ module _ (nodes : List Term) (bound : List (Option ℕ)) (marks : List Bool) (i 
   rank_same : (ranks : List ℕ) (r k : ℕ) → is_marked marks k ≡ true → rank_at (set ranks i r) k ≡ rank_at ranks k
   rank_same ranks r k m = get_or-set_other ranks i k r 0 (other marks i fresh k m)
 
-  well_more : (trees : List Tree) (ranks : List ℕ) (t : Tree) (r k : ℕ) → is_marked marks k ≡ true → IsMarkedWell nodes bound marks trees ranks k → IsMarkedWell nodes bound (set marks i true) (set trees i t) (set ranks i r) k
+  well_more : (trees : List Tree) (ranks : List ℕ) (t : Tree) (r k : ℕ) → is_marked marks k ≡ true → IsMarkedWell nodes bound marks trees ranks k
+      → IsMarkedWell nodes bound (set marks i true) (set trees i t) (set ranks i r) k
   well_more trees ranks t r k m w = record {
     parts = all_marked_more marks i fresh (parts_of nodes bound k) w.parts;
     fits = rw (tree_same marks trees i t fresh k m) (fits_more marks trees i t fresh (tree_at trees k) (term_at nodes k) (bound_at bound k) w.parts w.fits);

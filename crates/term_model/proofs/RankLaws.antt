@@ -59,7 +59,8 @@ module _ (nodes : List Term) (links : List Link) (bound : List (Option ℕ)) (st
       let q : Q (end_of links i) = passes_to_end (length nodes) Q links i store.in_order (λ k j e q. step k j e q) (below, omega arith) in
       q.1
     where
-      step : (k j : ℕ) → target_of links k ≡ Some j → (k < length nodes) × (rank_at a.solved.ranks k ≤ rank_at a.solved.ranks i) → (j < length nodes) × (rank_at a.solved.ranks j ≤ rank_at a.solved.ranks i)
+      step : (k j : ℕ) → target_of links k ≡ Some j → (k < length nodes) × (rank_at a.solved.ranks k ≤ rank_at a.solved.ranks i)
+          → (j < length nodes) × (rank_at a.solved.ranks j ≤ rank_at a.solved.ranks i)
       step k j e q =
           let o : bound_at bound k ≡ Some j = table.each k ∙ e in
           let part : IsIn j (parts_of nodes bound k) = subst (λ (p : Option ℕ). IsIn j (parts_at p (term_at nodes k))) (sym o) (inl refl) in

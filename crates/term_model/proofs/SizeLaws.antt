@@ -1,5 +1,6 @@
 -- The tokens of nodes, while they are counted and in the end.
-use Rattle.std.proofs.Common.{◌≡◌, ℕ, ◌+◌, ◌-◌, ◌^◌, ◌<◌, min, Bool, true, false, Option, Some, None, List, zero, suc, [], ◌∷◌, length, set, map, sum, refl, ap, sym, ◌∙◌, inl, inr, arith}
+use Rattle.std.proofs.Common.{◌≡◌, ℕ, ◌+◌, ◌-◌, ◌^◌, ◌<◌, min, Bool, true, false, Option, Some, None, List, zero, suc, [], ◌∷◌, length, set, map, sum}
+use Rattle.std.proofs.Common.{refl, ap, sym, ◌∙◌, inl, inr, arith}
 use Rattle.std.specs.List.{sum_by}
 use Rattle.std.proofs.lemmas.Bool.{cases_eq, and_parts, both_ways}
 use Rattle.std.proofs.lemmas.List.{length-set, get_or-set_same, get_or-set_other}
@@ -32,7 +33,9 @@ module _ (marks : List Bool) (sizes : List ℕ) (i v : ℕ) (fresh : is_marked m
   sizes_same [] m = refl
   sizes_same (id ∷ kids) m =
       let both = and_parts (is_marked marks id.0) (are_marked marks (map (λ (id : Id). id.0) kids)) m in
-      let new : sum_by (λ (id : Id). size_at (set sizes i v) id.0) (id ∷ kids) ≡ size_at (set sizes i v) id.0 + sum_by (λ (id : Id). size_at (set sizes i v) id.0) kids = sum_by-cons (λ (id : Id). size_at (set sizes i v) id.0) id kids in
+      let new : sum_by (λ (id : Id). size_at (set sizes i v) id.0) (id ∷ kids)
+          ≡ size_at (set sizes i v) id.0 + sum_by (λ (id : Id). size_at (set sizes i v) id.0) kids =
+          sum_by-cons (λ (id : Id). size_at (set sizes i v) id.0) id kids in
       let old : sum_by (λ (id : Id). size_at sizes id.0) (id ∷ kids) ≡ size_at sizes id.0 + sum_by (λ (id : Id). size_at sizes id.0) kids = sum_by-cons (λ (id : Id). size_at sizes id.0) id kids in
       omega (arith, new, old, size_same id.0 both.0, sizes_same kids both.1)
 
@@ -42,7 +45,8 @@ module _ (marks : List Bool) (sizes : List ℕ) (i v : ℕ) (fresh : is_marked m
   tokens_same None (Free c) m = refl
   tokens_same None (Node l c k kids) m = ap (λ (n : ℕ). saturated (k + n)) (sizes_same kids m)
 
-pub measured_more : (nodes : List Term) (bound : List (Option ℕ)) (marks : List Bool) (sizes : List ℕ) (i : ℕ) → i < length nodes → is_marked marks i ≡ false → are_marked marks (parts_of nodes bound i) ≡ true → AreMeasured nodes bound marks sizes
+pub measured_more : (nodes : List Term) (bound : List (Option ℕ)) (marks : List Bool) (sizes : List ℕ) (i : ℕ) → i < length nodes
+    → is_marked marks i ≡ false → are_marked marks (parts_of nodes bound i) ≡ true → AreMeasured nodes bound marks sizes
     → AreMeasured nodes bound (set marks i true) (set sizes i (node_tokens sizes (bound_at bound i) (term_at nodes i)))
 measured_more nodes bound marks sizes i below fresh can a =
     let v = node_tokens sizes (bound_at bound i) (term_at nodes i) in
@@ -62,7 +66,8 @@ measured_more nodes bound marks sizes i below fresh can a =
       ];
     }
 
-pub none_measured : (nodes : List Term) (bound : List (Option ℕ)) (marks : List Bool) (sizes : List ℕ) → ((k : ℕ) → is_marked marks k ≡ false) → length sizes ≡ length nodes → AreMeasured nodes bound marks sizes
+pub none_measured : (nodes : List Term) (bound : List (Option ℕ)) (marks : List Bool) (sizes : List ℕ) → ((k : ℕ) → is_marked marks k ≡ false)
+    → length sizes ≡ length nodes → AreMeasured nodes bound marks sizes
 none_measured nodes bound marks sizes none count = record {
   count = count;
   parts = λ i below m. absurd (both_ways (is_marked marks i) (none i) m);
@@ -71,7 +76,9 @@ none_measured nodes bound marks sizes none count = record {
 
 -- ---- all are counted
 
-pub measured_all : (nodes : List Term) (links : List Link) (bound : List (Option ℕ)) (marks : List Bool) (sizes : List ℕ) → InOrder (length nodes) links → IsTableOf bound links → ((i : ℕ) → i < length nodes → is_marked marks i ≡ true) → AreMeasured nodes bound marks sizes → AreSizes nodes links sizes
+pub measured_all : (nodes : List Term) (links : List Link) (bound : List (Option ℕ)) (marks : List Bool) (sizes : List ℕ)
+    → InOrder (length nodes) links → IsTableOf bound links → ((i : ℕ) → i < length nodes → is_marked marks i ≡ true)
+    → AreMeasured nodes bound marks sizes → AreSizes nodes links sizes
 measured_all nodes links bound marks sizes order table all a = record {
   count = a.count;
   each = λ i below.
@@ -105,7 +112,8 @@ min_sum : (m k a s : ℕ) → min (k + (min a m + s)) m ≡ min (k + (a + s)) m
 min_sum m k a s = omega arith
 
 -- a sum of numbers that stand still at m, and of the numbers
-sums_saturate : (m : ℕ) (sizes : List ℕ) (trees : List Tree) (f : Tree → ℕ) (kids : List Id) (k : ℕ) → ((id : Id) → IsIn id.0 (map (λ (id : Id). id.0) kids) → size_at sizes id.0 ≡ min (f (tree_at trees id.0)) m)
+sums_saturate : (m : ℕ) (sizes : List ℕ) (trees : List Tree) (f : Tree → ℕ) (kids : List Id) (k : ℕ)
+    → ((id : Id) → IsIn id.0 (map (λ (id : Id). id.0) kids) → size_at sizes id.0 ≡ min (f (tree_at trees id.0)) m)
     → min (k + sum_by (λ (id : Id). size_at sizes id.0) kids) m ≡ min (k + sum (map f (trees_at trees kids))) m
 sums_saturate m sizes trees f [] k each = refl
 sums_saturate m sizes trees f (id ∷ kids) k each =

@@ -34,7 +34,8 @@ pub same_end : (trees : List Tree) (links : List Link) (i j : ℕ) → Respects 
 same_end trees links i j r e = respects_end trees links i r ∙ ap (tree_at trees) e ∙ sym (respects_end trees links j r)
 
 -- a binding of two ends is forced where the nodes have one tree
-pub solution_push : (nodes : List Term) (links : List Link) (trees : List Tree) (i j : ℕ) → Solution nodes links trees → tree_at trees i ≡ tree_at trees j → Solution nodes (links ++ record { from = end_of links i; to = end_of links j } ∷ []) trees
+pub solution_push : (nodes : List Term) (links : List Link) (trees : List Tree) (i j : ℕ) → Solution nodes links trees
+    → tree_at trees i ≡ tree_at trees j → Solution nodes (links ++ record { from = end_of links i; to = end_of links j } ∷ []) trees
 solution_push nodes links trees i j s e = record {
   count = s.count;
   nodes_fit = s.nodes_fit;
@@ -52,7 +53,8 @@ fits_code trees t (Free c) f = f
 fits_code trees t (Node l c k kids) f = ap code_of f ∙ code_of-Node l c (trees_at trees kids)
 
 -- two nodes with one tree: their children have the same trees
-pub fits_Node : (trees : List Tree) (t : Tree) (l m : Label) (c d : Typecode) (k h : ℕ) (xs ys : List Id) → Fits trees t (Node l c k xs) → Fits trees t (Node m d h ys) → (l ≡ m) × (c ≡ d) × (trees_at trees xs ≡ trees_at trees ys)
+pub fits_Node : (trees : List Tree) (t : Tree) (l m : Label) (c d : Typecode) (k h : ℕ) (xs ys : List Id) → Fits trees t (Node l c k xs)
+    → Fits trees t (Node m d h ys) → (l ≡ m) × (c ≡ d) × (trees_at trees xs ≡ trees_at trees ys)
 fits_Node trees t l m c d k h xs ys f g = Node-parts l m c d (trees_at trees xs) (trees_at trees ys) (sym f ∙ g)
 
 pub fits_Var : (trees : List Tree) (t : Tree) (x y : Sym) (c d : Typecode) → Fits trees t (Var x c) → Fits trees t (Var y d) → (x ≡ y) × (c ≡ d)

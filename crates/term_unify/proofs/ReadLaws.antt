@@ -42,7 +42,8 @@ fits_shape_Var trees t (Var x d) s c e f = let parts : ◌≡◌ {A = Shape} (Sh
 fits_shape_Var trees t (Free d) s c e f = let impossible : ◌≡◌ {A = Shape} (Shape.Free d) (Shape.Var s c) = e in cc
 fits_shape_Var trees t (Node m d k xs) s c e f = let impossible : ◌≡◌ {A = Shape} (Shape.Node m d (length xs)) (Shape.Var s c) = e in cc
 
-pub fits_shape_Node : (trees : List Tree) (t : Tree) (e : Term) (l : Label) (c : Typecode) (n : ℕ) → shape_of e ≡ Shape.Node l c n → Fits trees t e → (t ≡ tree.Node l c (trees_at trees (children_of e))) × (length (children_of e) ≡ n)
+pub fits_shape_Node : (trees : List Tree) (t : Tree) (e : Term) (l : Label) (c : Typecode) (n : ℕ) → shape_of e ≡ Shape.Node l c n → Fits trees t e
+    → (t ≡ tree.Node l c (trees_at trees (children_of e))) × (length (children_of e) ≡ n)
 fits_shape_Node trees t (Var x d) l c n e f = let impossible : ◌≡◌ {A = Shape} (Shape.Var x d) (Shape.Node l c n) = e in cc
 fits_shape_Node trees t (Free d) l c n e f = let impossible : ◌≡◌ {A = Shape} (Shape.Free d) (Shape.Node l c n) = e in cc
 fits_shape_Node trees t (Node m d k xs) l c n e f =
@@ -60,7 +61,9 @@ module _ (nodes : List Term) (links : List Link) (i end : ℕ) (is : end ≡ end
   pub read_Fresh : (c : Typecode) → filled (tree_at trees) (tree.Fresh c end) ≡ tree_at trees i
   read_Fresh c = filled-Fresh (tree_at trees) c end ∙ sym tree_of_end
 
-  pub read_Node : (l : Label) (c : Typecode) (n k : ℕ) (kids : List Tree) → shape_of (term_at nodes end) ≡ Shape.Node l c n → n ≤ k → map (filled (tree_at trees)) kids ≡ take k (trees_at trees (children_of (term_at nodes end))) → filled (tree_at trees) (tree.Node l c kids) ≡ tree_at trees i
+  pub read_Node : (l : Label) (c : Typecode) (n k : ℕ) (kids : List Tree) → shape_of (term_at nodes end) ≡ Shape.Node l c n → n ≤ k
+      → map (filled (tree_at trees)) kids ≡ take k (trees_at trees (children_of (term_at nodes end)))
+      → filled (tree_at trees) (tree.Node l c kids) ≡ tree_at trees i
   read_Node l c n k kids e h m =
       let at : Id → Tree = λ (id : Id). tree_at trees id.0 in
       let fit = fits_shape_Node trees (tree_at trees end) (term_at nodes end) l c n e (sol.nodes_fit end below) in
@@ -69,7 +72,9 @@ module _ (nodes : List Term) (links : List Link) (i end : ℕ) (is : end ≡ end
       filled-Node (tree_at trees) l c kids ∙ ap (tree.Node l c) (m ∙ whole) ∙ sym (tree_of_end ∙ fit.0)
 
 -- one more child has been read
-pub read_more : (trees : List Tree) (xs : List Id) (k : ℕ) (child : Id) (kids more : List Tree) (t : Tree) → more ≡ kids ++ t ∷ [] → slice_get xs k ≡ Some child → k < length xs → filled (tree_at trees) t ≡ tree_at trees child.0 → map (filled (tree_at trees)) kids ≡ take k (trees_at trees xs) → map (filled (tree_at trees)) more ≡ take (k + 1) (trees_at trees xs)
+pub read_more : (trees : List Tree) (xs : List Id) (k : ℕ) (child : Id) (kids more : List Tree) (t : Tree) → more ≡ kids ++ t ∷ []
+    → slice_get xs k ≡ Some child → k < length xs → filled (tree_at trees) t ≡ tree_at trees child.0
+    → map (filled (tree_at trees)) kids ≡ take k (trees_at trees xs) → map (filled (tree_at trees)) more ≡ take (k + 1) (trees_at trees xs)
 read_more trees xs k child kids more t e at h f m =
     let tree' : Id → Tree = λ (id : Id). tree_at trees id.0 in
     let all = trees_at trees xs in
@@ -110,6 +115,7 @@ pub above_zero : (nodes : List Term) (links : List Link) (depth i : ℕ) → IsA
 above_zero nodes links depth i a = omega (arith, a.2)
 
 -- a child's tree is less deep
-pub child_above : (nodes : List Term) (links : List Link) (depth less i end k : ℕ) (child : Id) → end ≡ end_of links i → i < length nodes → slice_get (children_of (term_at nodes end)) k ≡ Some child → IsAbove nodes links depth i → depth ≡ less + 1 → IsAbove nodes links less child.0
+pub child_above : (nodes : List Term) (links : List Link) (depth less i end k : ℕ) (child : Id) → end ≡ end_of links i → i < length nodes
+    → slice_get (children_of (term_at nodes end)) k ≡ Some child → IsAbove nodes links depth i → depth ≡ less + 1 → IsAbove nodes links less child.0
 child_above nodes links depth less i end k child is below at a e =
     (a.0, a.1, omega (arith, a.1.falls i k child below (rw is at at), a.2, e))

@@ -1,5 +1,6 @@
 -- Laws of stores that gain bindings.
-use Rattle.std.proofs.Common.{◌≡◌, ◌≢◌, ◌↔◌, ℕ, ◌+◌, ◌<◌, ◌≤◌, Bool, true, false, not, eqb, ◌&&◌, add-one, Option, Some, None, List, zero, suc, [], ◌∷◌, ◌++◌, length, take, drop, map, refl, ap, sym, subst, ◌∙◌, arith, length-append, append_assoc, append-nil}
+use Rattle.std.proofs.Common.{◌≡◌, ◌≢◌, ◌↔◌, ℕ, ◌+◌, ◌<◌, ◌≤◌, Bool, true, false, not, eqb, ◌&&◌, add-one, Option, Some, None, List, zero, suc, []}
+use Rattle.std.proofs.Common.{◌∷◌, ◌++◌, length, take, drop, map, refl, ap, sym, subst, ◌∙◌, arith, length-append, append_assoc, append-nil}
 use Rattle.std.proofs.lemmas.Bool.{and_from, eq-eqb, eqb-true, eqb-false, not-true, not-false}
 use Rattle.std.proofs.lemmas.List.{take_all, take_at, drop_at, get_or_append_left, drop-append-le, take-map, take_more_same, length-map}
 use Rattle.std.proofs.lemmas.Option.{get_or_from_slice_get}
@@ -54,7 +55,9 @@ ends_of_append links more [] = refl
 ends_of_append links more (id ∷ xs) = rw (end_of_append links more id.0, ends_of_append links more xs) refl
 
 -- a link between the two ends joins them
-pub joined : (links : List Link) (i j : ℕ) → end_of links i ≢ end_of links j → end_of (links ++ record { from = end_of links i; to = end_of links j } ∷ []) i ≡ end_of (links ++ record { from = end_of links i; to = end_of links j } ∷ []) j
+pub joined : (links : List Link) (i j : ℕ) → end_of links i ≢ end_of links j
+    → end_of (links ++ record { from = end_of links i; to = end_of links j } ∷ []) i
+        ≡ end_of (links ++ record { from = end_of links i; to = end_of links j } ∷ []) j
 joined links i j ne =
     let link : Link = record { from = end_of links i; to = end_of links j } in
     end_of_push links link i ∙ hop_at link (end_of links i) refl ∙ sym (end_of_push links link j ∙ hop_past link (end_of links j) (λ e. ne (sym e)))
@@ -72,7 +75,9 @@ pub record IsJoined (s t : Store) (i j : ℕ) : Type 0 where
   pub joined : end_of t.links i ≡ end_of t.links j
   pub forced : Forces s t (HaveSameTree i j)
 
-pub bound_step : (s t : Store) (i j from to : ℕ) → from ≡ end_of s.links i → to ≡ end_of s.links j → from ≢ to → (is_free (term_at s.nodes to) ≡ true → is_free (term_at s.nodes from) ≡ true) → target_of s.links to ≡ None → t ≡ with_link s (record { from = from; to = end_of s.links to }) → IsJoined s t i j
+pub bound_step : (s t : Store) (i j from to : ℕ) → from ≡ end_of s.links i → to ≡ end_of s.links j → from ≢ to
+    → (is_free (term_at s.nodes to) ≡ true → is_free (term_at s.nodes from) ≡ true) → target_of s.links to ≡ None
+    → t ≡ with_link s (record { from = from; to = end_of s.links to }) → IsJoined s t i j
 bound_step s t i j from to f g ne oriented free is =
     let link : Link = record { from = end_of s.links i; to = end_of s.links j } in
     let same : record { from = from; to = end_of s.links to } ≡ link = rw (end_of_unbound s.links to free, f, g) refl in
@@ -88,7 +93,8 @@ pub joined_swap : (s t : Store) (i j : ℕ) → IsJoined s t i j → IsJoined s 
 joined_swap s t i j b = record { extends = b.extends; joined = sym b.joined; forced = λ trees sol e. b.forced trees sol (sym e) }
 
 -- nodes of two typecodes have two trees
-pub codes_exclude : (s : Store) (i j : ℕ) → end_of s.links i < length s.nodes → end_of s.links j < length s.nodes → term_code (term_at s.nodes (end_of s.links i)) ≢ term_code (term_at s.nodes (end_of s.links j)) → Excludes s (HaveSameTree i j)
+pub codes_exclude : (s : Store) (i j : ℕ) → end_of s.links i < length s.nodes → end_of s.links j < length s.nodes
+    → term_code (term_at s.nodes (end_of s.links i)) ≢ term_code (term_at s.nodes (end_of s.links j)) → Excludes s (HaveSameTree i j)
 codes_exclude s i j hi hj ne trees sol e =
     let ri = end_of s.links i in
     let rj = end_of s.links j in
@@ -119,14 +125,17 @@ slice_get-map f (y ∷ xs) zero x e = let same : y ≡ x = cc in ap (λ z. Some 
 slice_get-map f (y ∷ xs) (suc k) x e = slice_get-map f xs k x e
 
 -- the k-th children of two productions with the same children's trees have one tree
-pub child_trees : (trees : List Tree) (xs ys : List Id) (k : ℕ) (x y : Id) → trees_at trees xs ≡ trees_at trees ys → slice_get xs k ≡ Some x → slice_get ys k ≡ Some y → tree_at trees x.0 ≡ tree_at trees y.0
+pub child_trees : (trees : List Tree) (xs ys : List Id) (k : ℕ) (x y : Id) → trees_at trees xs ≡ trees_at trees ys → slice_get xs k ≡ Some x
+    → slice_get ys k ≡ Some y → tree_at trees x.0 ≡ tree_at trees y.0
 child_trees trees xs ys k x y e f g =
     let tree : Id → Tree = λ (id : Id). tree_at trees id.0 in
     let both : Some (tree x) ≡ Some (tree y) = sym (slice_get-map tree xs k x f) ∙ ap (λ (ts : List Tree). slice_get ts k) e ∙ slice_get-map tree ys k y g in
     cc
 
 -- one more pair of children has one end
-pub ends_more : (s t : Store) (xs ys : List Id) (k : ℕ) (x y : Id) → Extends s t → take k (ends_of s.links xs) ≡ take k (ends_of s.links ys) → slice_get xs k ≡ Some x → slice_get ys k ≡ Some y → k < length xs → k < length ys → end_of t.links x.0 ≡ end_of t.links y.0 → take (k + 1) (ends_of t.links xs) ≡ take (k + 1) (ends_of t.links ys)
+pub ends_more : (s t : Store) (xs ys : List Id) (k : ℕ) (x y : Id) → Extends s t → take k (ends_of s.links xs) ≡ take k (ends_of s.links ys)
+    → slice_get xs k ≡ Some x → slice_get ys k ≡ Some y → k < length xs → k < length ys → end_of t.links x.0 ≡ end_of t.links y.0
+    → take (k + 1) (ends_of t.links xs) ≡ take (k + 1) (ends_of t.links ys)
 ends_more s t xs ys k x y p e f g hx hy same =
     let end : Id → ℕ = λ (id : Id). end_of t.links id.0 in
     let old : take k (ends_of t.links xs) ≡ take k (ends_of t.links ys) =
@@ -140,7 +149,8 @@ link_tree trees [] k r h = absurd (omega arith)
 link_tree trees (l ∷ links) zero r h = r.0
 link_tree trees (l ∷ links) (suc k) r h = link_tree trees links k r.1 (omega arith)
 
-pairs_children : (trees : List Tree) (t : Tree) (e f : Term) (n : ℕ) → pairs_of (shape_of e) (shape_of f) ≡ Some n → Fits trees t e → Fits trees t f → trees_at trees (children_of e) ≡ trees_at trees (children_of f)
+pairs_children : (trees : List Tree) (t : Tree) (e f : Term) (n : ℕ) → pairs_of (shape_of e) (shape_of f) ≡ Some n → Fits trees t e → Fits trees t f
+    → trees_at trees (children_of e) ≡ trees_at trees (children_of f)
 pairs_children trees t (Var x c) (Var y d) n p a b = refl
 pairs_children trees t (Var x c) (Free d) n p a b = let impossible : ◌≡◌ {A = Option ℕ} None (Some n) = p in cc
 pairs_children trees t (Var x c) (Node m d h ys) n p a b = let impossible : ◌≡◌ {A = Option ℕ} None (Some n) = p in cc
@@ -154,7 +164,8 @@ pairs_children trees t (Node l c k xs) (Var y d) n p a b = let impossible : ◌�
 pairs_children trees t (Node l c k xs) (Free d) n p a b = let impossible : ◌≡◌ {A = Option ℕ} None (Some n) = p in cc
 pairs_children trees t (Node l c k xs) (Node m d h ys) n p a b = (fits_Node trees t l m c d k h xs ys a b).2
 
-pairs_none : (trees : List Tree) (t : Tree) (e f : Term) → pairs_of (shape_of e) (shape_of f) ≡ None → is_free e ≡ false → (is_free f ≡ true → is_free e ≡ true) → Fits trees t e → Fits trees t f → ⊥
+pairs_none : (trees : List Tree) (t : Tree) (e f : Term) → pairs_of (shape_of e) (shape_of f) ≡ None → is_free e ≡ false
+    → (is_free f ≡ true → is_free e ≡ true) → Fits trees t e → Fits trees t f → ⊥
 pairs_none trees t (Var x c) (Var y d) p bound o a b =
     let parts = fits_Var trees t x y c d a b in
     let test : (eqb x.0 y.0 && eqb c.0.0 d.0.0) ≡ true = and_from _ _ (eq-eqb x.0 y.0 (ap (λ (s : Sym). s.0) parts.0)) (eq-eqb c.0.0 d.0.0 (ap (λ (t : Typecode). t.0.0) parts.1)) in
@@ -207,7 +218,8 @@ close_oriented s t k p h o =
     let rest : drop (k + 1) (s.links ++ p.more) ≡ drop (k + 1) s.links ++ p.more = drop-append-le (k + 1) s.links p.more (omega arith) in
     rw (p.nodes, p.links, rest) (oriented_append s.nodes s.nodes (drop (k + 1) s.links) p.more refl (oriented_drop s.nodes k s.links o) p.oriented)
 
-pub close_step : (s t : Store) (k : ℕ) → Extends s t → k < length s.links → IsClosedUpTo k s.nodes s.links → Agrees t.links (term_at s.nodes (link_at s.links k).from) (term_at s.nodes (link_at s.links k).to) → IsClosedUpTo (k + 1) t.nodes t.links
+pub close_step : (s t : Store) (k : ℕ) → Extends s t → k < length s.links → IsClosedUpTo k s.nodes s.links
+    → Agrees t.links (term_at s.nodes (link_at s.links k).from) (term_at s.nodes (link_at s.links k).to) → IsClosedUpTo (k + 1) t.nodes t.links
 close_step s t k p h c a =
     let d : Link = record { from = 0; to = 0 } in
     let same : link_at t.links k ≡ link_at s.links k = rw p.links (get_or_append_left s.links p.more d k h) in
@@ -237,7 +249,8 @@ pub start_oriented : (s t : Store) → Extends s t → AllByRecursion (IsOriente
 start_oriented s t p = rw (p.nodes, p.links, drop_at s.links p.more (length s.links) refl) p.oriented
 
 -- the solutions are exactly those before in which the two nodes have one tree
-pub exact : (s t : Store) (a b : ℕ) → Extends s t → end_of t.links a ≡ end_of t.links b → Forces s t (HaveSameTree a b) → (trees : List Tree) → Solution t.nodes t.links trees ↔ (Solution s.nodes s.links trees × HaveSameTree a b trees)
+pub exact : (s t : Store) (a b : ℕ) → Extends s t → end_of t.links a ≡ end_of t.links b → Forces s t (HaveSameTree a b) → (trees : List Tree)
+    → Solution t.nodes t.links trees ↔ (Solution s.nodes s.links trees × HaveSameTree a b trees)
 exact s t a b p joined forced trees = (
   λ sol.
       let all : Solution s.nodes (s.links ++ p.more) trees = rw (p.nodes, p.links) at sol in

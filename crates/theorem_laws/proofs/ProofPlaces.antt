@@ -1,5 +1,6 @@
 -- The proof of a `$p` of a text without a fault stands between its `$=` and its `$.`.
-use Rattle.std.proofs.Common.{◌≡◌, ◌==◌, ◌+◌, ℕ, suc, Bool, true, false, not, cond, ◌||◌, List, [], ◌∷◌, ◌++◌, take, reverse, Option, Some, None, option_map, IsSome, refl, sym, ap, ◌∙◌, arith, subst, inl, inr, codes}
+use Rattle.std.proofs.Common.{◌≡◌, ◌==◌, ◌+◌, ℕ, suc, Bool, true, false, not, cond, ◌||◌, List, [], ◌∷◌, ◌++◌, take, reverse, Option, Some, None}
+use Rattle.std.proofs.Common.{option_map, IsSome, refl, sym, ap, ◌∙◌, arith, subst, inl, inr, codes}
 use Rattle.std.specs.Prelude.{find}
 use Rattle.std.specs.List.{AllByRecursion, list_any, prefix_len, slice_get}
 use Rattle.std.specs.Option.{option_and_then, option_map_or}
@@ -70,7 +71,8 @@ apart w k ends none = elim (cases_Bool (is k w)) [
   | inr e ↦ e
 ]
 
-no_word_by : (a b c : Bool) (w : Word) → bytes_eq w.bytes (codes "$.") ≡ a → bytes_eq w.bytes (codes "${") ≡ b → bytes_eq w.bytes (codes "$}") ≡ c → (a || (b || (c || false))) ≡ true → is_word w ≡ false
+no_word_by : (a b c : Bool) (w : Word) → bytes_eq w.bytes (codes "$.") ≡ a → bytes_eq w.bytes (codes "${") ≡ b → bytes_eq w.bytes (codes "$}") ≡ c
+    → (a || (b || (c || false))) ≡ true → is_word w ≡ false
 no_word_by true b c w x y z h = ap (λ (bs : List ℕ). not (list_any (λ n. n == 36) bs)) ((bytes_eq-Decides w.bytes (codes "$.")).0 x)
 no_word_by false true c w x y z h = ap (λ (bs : List ℕ). not (list_any (λ n. n == 36) bs)) ((bytes_eq-Decides w.bytes (codes "${")).0 y)
 no_word_by false false true w x y z h = ap (λ (bs : List ℕ). not (list_any (λ n. n == 36) bs)) ((bytes_eq-Decides w.bytes (codes "$}")).0 z)
@@ -121,7 +123,9 @@ two_found s v w e f = rw (e, f) refl
 has_place : (e : List Statement) (s : Statement) → IsChecked e s → IsEnded s → has_keyword (codes "$p") s ≡ true → IsSome (proof_in s)
 has_place e s c n h =
     let a : At e n.front n.last c.after = at_split e s n.front n.last [] c n.whole in
-    let keyword : has_keyword (codes "$p") n.front ≡ true = keyword_in_front (codes "$p") n.front n.last (apart n.last (codes "$p") n.ends refl) (subst (λ (x : Statement). has_keyword (codes "$p") x ≡ true) n.whole h) in
+    let keyword : has_keyword (codes "$p") n.front ≡ true =
+        keyword_in_front (codes "$p") n.front n.last (apart n.last (codes "$p") n.ends refl)
+            (subst (λ (x : Statement). has_keyword (codes "$p") x ≡ true) n.whole h) in
     let sh = shape n.front (codes "$p") keyword in
     let some : is_empty n.front ≡ false = ap is_empty sh.whole ∙ not_empty sh.ls sh.kw (sh.us ++ sh.tail) in
     let more : is_label_alone n.front ≡ false = ap is_label_alone sh.whole ∙ not_alone sh.ls sh.kw (sh.us ++ sh.tail) sh.keyword_stops in
@@ -138,7 +142,9 @@ has_place e s c n h =
 
 -- ---- by labels
 
-at_number : (ss : List Statement) (o : Option ℕ) (at : ℕ) (s : Statement) → option_and_then (λ n. option_map (λ (t : Statement). let p : ℕ × Statement = (n, t) in p) (slice_get ss n)) o ≡ Some (at, s) → slice_get ss at ≡ Some s
+at_number : (ss : List Statement) (o : Option ℕ) (at : ℕ) (s : Statement)
+    → option_and_then (λ n. option_map (λ (t : Statement). let p : ℕ × Statement = (n, t) in p) (slice_get ss n)) o ≡ Some (at, s)
+    → slice_get ss at ≡ Some s
 at_number ss None at s e = absurd cc
 at_number ss (Some n) at s e = with_statement (slice_get ss n) refl e
   where

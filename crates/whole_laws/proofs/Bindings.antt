@@ -80,7 +80,8 @@ without_few : (x : Open) (ys : List Open) → length (without x ys) ≤ length y
 without_few x [] = omega arith
 without_few x (y ∷ ys) = kept_few x y (opens_decided x y) ys (without x ys) (without_few x ys)
 
-kept_fewer : (x y : Open) (d : Decided (x ≡ y)) (ys zs : List Open) → length zs ≤ length ys → (y ≡ x) ⊎ Contains ys x → (Contains ys x → length zs < length ys) → length (kept x y d zs) < length (y ∷ ys)
+kept_fewer : (x y : Open) (d : Decided (x ≡ y)) (ys zs : List Open) → length zs ≤ length ys → (y ≡ x) ⊎ Contains ys x
+    → (Contains ys x → length zs < length ys) → length (kept x y d zs) < length (y ∷ ys)
 kept_fewer x y (inl e) ys zs h o more = omega (arith, h)
 kept_fewer x y (inr n) ys zs h (inl e) more = absurd (n (sym e))
 kept_fewer x y (inr n) ys zs h (inr o) more = let less = more o in omega (arith, less)

@@ -16,7 +16,8 @@ use Rattle.sheet_text.specs.declared.sheet.Given.TheVariants as given
 use Rattle.solve_model.specs.declared.bound.BoundStep.{BoundStep}
 use Rattle.solve_model.specs.declared.bound.Bound.{Bound}
 use Rattle.solve_model.specs.Trees.{Open, work, fresh, leaf_tree, open_code, open_leaves, Occurs}
-use Rattle.solve_model.specs.Solutions.{Unknown, blank, copy, Valuation, IsValuation, IsUnknown, Asked, Solves, PlacesFit, Solvable, unknown_code, open_value, formula_value, formula, instance, no_step}
+use Rattle.solve_model.specs.Solutions.{Unknown, blank, copy, Valuation, IsValuation, IsUnknown, Asked, Solves, PlacesFit, Solvable, unknown_code}
+use Rattle.solve_model.specs.Solutions.{open_value, formula_value, formula, instance, no_step}
 use Rattle.solve_model.specs.MostGeneral.{Refinement, refine}
 use Rattle.solve_model.proofs.TreeLaws.{replace-Var}
 use Rattle.solve_laws.specs.ReplacedTypes.{IsTypedAs, KeepsTypes}
@@ -167,13 +168,15 @@ module _ (db : Database) (bound : Bound) where
         formula_valued : (i : ℕ) → refine r (formula bound leaf_of i) ≡ formula bound (valued r) i
         formula_valued i = value_valued i (slice_index_or bound.steps i no_step).tree (ready_at bound.steps i ready)
 
-        places_solved : (i : ℕ) (vars : List TypedVariable) (gs : List Given) (es : List Tree) → AllByRecursion (IsOver vars) es → PlacesFit bound (valued r) i gs es → Solved r (place_equations i gs es)
+        places_solved : (i : ℕ) (vars : List TypedVariable) (gs : List Given) (es : List Tree) → AllByRecursion (IsOver vars) es
+            → PlacesFit bound (valued r) i gs es → Solved r (place_equations i gs es)
         places_solved i vars [] es o f = tt
         places_solved i vars (g ∷ gs) [] o f = tt
         places_solved i vars (given.Gap ∷ gs) (e ∷ es) o f = places_solved i vars gs es o.1 f
         places_solved i vars (given.Step k ∷ gs) (e ∷ es) o f = (instance_valued i vars e o.0 ∙ f.0 ∙ sym (formula_valued k), places_solved i vars gs es o.1 f.1)
 
-        places_fit : (i : ℕ) (vars : List TypedVariable) (gs : List Given) (es : List Tree) → HasRoom gs es → AllByRecursion (IsOver vars) es → Solved r (place_equations i gs es) → PlacesFit bound (valued r) i gs es
+        places_fit : (i : ℕ) (vars : List TypedVariable) (gs : List Given) (es : List Tree) → HasRoom gs es → AllByRecursion (IsOver vars) es
+            → Solved r (place_equations i gs es) → PlacesFit bound (valued r) i gs es
         places_fit i vars [] es h o s = tt
         places_fit i vars (g ∷ gs) [] h o s = h
         places_fit i vars (given.Gap ∷ gs) (e ∷ es) h o s = places_fit i vars gs es h o.1 s
@@ -288,5 +291,6 @@ module _ (db : Database) (bound : Bound) (asked : List Asked) (ready : IsReadyBo
   solvable_decided = elim (rooms_decided asked) [
     | inr n ↦ inr (λ (s : Solvable db bound asked). n (rooms bound s.value asked s.solves))
     | inl g ↦ decided_with (is_solvable g) (λ (s : Solvable db bound asked). has_solver s.value s.is_valuation s.solves)
-        (solver_decided db.rows bound.place (opens asked_equations) asked_equations (ready_in db bound (opens asked_equations) asked_equations (equations_typed db bound us ready asked asked_ready) (λ x o. o)))
+        (solver_decided db.rows bound.place (opens asked_equations) asked_equations
+            (ready_in db bound (opens asked_equations) asked_equations (equations_typed db bound us ready asked asked_ready) (λ x o. o)))
   ]

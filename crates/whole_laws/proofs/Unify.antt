@@ -26,7 +26,8 @@ use Rattle.solve_laws.specs.ReplacedTypes.{IsTypedAs}
 use Rattle.answer_laws.proofs.Elements.{all_by-append}
 use Rattle.writing_laws.specs.Decisions.{Decided}
 use Rattle.writing_laws.proofs.Decide.{both_decided, decided_with, trees_decided, codes_decided, numbers_decided, contains_decided}
-use Rattle.whole_laws.proofs.Bindings.{opens_decided, leaf_occurs, leaf_refined, leaf_typed, without, without_fewer, bind, IsFine, refined_typed, cannot_be, unseen, composed, composed_is, composed_joins, bind_fine, composed_fine, leaves_left}
+use Rattle.whole_laws.proofs.Bindings.{opens_decided, leaf_occurs, leaf_refined, leaf_typed, without, without_fewer, bind, IsFine, refined_typed}
+use Rattle.whole_laws.proofs.Bindings.{cannot_be, unseen, composed, composed_is, composed_joins, bind_fine, composed_fine, leaves_left}
 
 -- two trees that are to become one
 abbrev pub Equation : Type 0
@@ -269,7 +270,8 @@ module _ (rows : List Production) (before : ℕ) where
       var_no_node : (v : Sym) (c : Typecode) (l : Label) (d : Typecode) (ts : List Tree) (r : Refinement) → refine r (Var v c) ≡ refine r (Node l d ts) → ⊥
       var_no_node v c l d ts r e = var_is_no_node v c l d (map (refine r) ts) (sym (replace-Var _ r v c) ∙ e ∙ replace-Node _ r l d ts)
 
-      node_pairs : (l : Label) (c : Typecode) (ts us : List Tree) → length ts ≡ length us → weight ((Node l c ts, Node l c us) ∷ es) < suc s → Ready xs (Node l c ts) → Ready xs (Node l c us) → Decided (Has ((Node l c ts, Node l c us) ∷ es))
+      node_pairs : (l : Label) (c : Typecode) (ts us : List Tree) → length ts ≡ length us → weight ((Node l c ts, Node l c us) ∷ es) < suc s
+          → Ready xs (Node l c ts) → Ready xs (Node l c us) → Decided (Has ((Node l c ts, Node l c us) ∷ es))
       node_pairs l c ts us n few ht hu =
           let size = nodes-Node l c ts in
           let light = pairs_weight ts us es in
@@ -294,7 +296,9 @@ module _ (rows : List Production) (before : ℕ) where
       by_look a b (is_node l c ts e) (is_open x f) rest few ha hb =
           turned a b es (subst (λ (u : Tree). Decided (Has ((u, a) ∷ es))) (sym f) (leaf_and_tree x a es rest (subst (Ready xs) f hb) ha ready))
       by_look a b (is_var v c e) (is_var r d f) rest few ha hb =
-          subst (λ (u : Tree). Decided (Has ((u, b) ∷ es))) (sym e) (subst (λ (u : Tree). Decided (Has ((Var v c, u) ∷ es))) (sym f) (two_vars v r c d rest (both_decided (syms_decided v r) (codes_decided c d))))
+          subst (λ (u : Tree). Decided (Has ((u, b) ∷ es))) (sym e)
+              (subst (λ (u : Tree). Decided (Has ((Var v c, u) ∷ es))) (sym f)
+                  (two_vars v r c d rest (both_decided (syms_decided v r) (codes_decided c d))))
       by_look a b (is_var v c e) (is_node l d ts f) rest few ha hb =
           never_one a b es (λ r fine h. var_no_node v c l d ts r (ap (refine r) (sym e) ∙ h ∙ ap (refine r) f))
       by_look a b (is_node l c ts e) (is_var v d f) rest few ha hb =

@@ -1,5 +1,6 @@
 -- Names of work variables: a token has one reading as the part before the number and the number.
-use Rattle.std.proofs.Common.{◌≡◌, ℕ, zero, suc, ◌-◌, ◌<◌, ◌≤◌, ◌^◌, ◌⊎◌, Bool, true, false, ◌&&◌, ◌==◌, if◌then◌else◌, Some, None, lit<, List, [], ◌∷◌, ◌++◌, length, take, drop, get_or, codes, decimal, append_assoc, refl, sym, ap, subst, ◌∙◌, inl, inr, arith}
+use Rattle.std.proofs.Common.{◌≡◌, ℕ, zero, suc, ◌-◌, ◌<◌, ◌≤◌, ◌^◌, ◌⊎◌, Bool, true, false, ◌&&◌, ◌==◌, if◌then◌else◌, Some, None, lit<, List, []}
+use Rattle.std.proofs.Common.{◌∷◌, ◌++◌, length, take, drop, get_or, codes, decimal, append_assoc, refl, sym, ap, subst, ◌∙◌, inl, inr, arith}
 use Rattle.std.specs.Char.{is_ascii_digit}
 use Rattle.std.specs.Str.{bytes_eq, all_ascii_digits}
 use Rattle.std.proofs.lemmas.Bool.{cases_Bool}
@@ -146,7 +147,8 @@ decimal_digits n h = digits_decimal own n h
 pub name_parted : (token : List ℕ) (k : ℕ) → k ≤ length token → all_ascii_digits (drop k token) ≡ true → (0 < k → is_ascii_digit (get_or token (k - 1) 0) ≡ false)
     → (c : Name) (n : ℕ) → n < 2 ^ 32 → token ≡ spelling c n → Parted (take k token) (prefix_of c) (drop k token) (decimal n)
 name_parted token k h d b c n small e =
-    parted_once (take k token) (prefix_of c) (drop k token) (decimal n) (plain_before token k h (by_place token k b)) (prefix_plain c) d (decimal_digits n (omega arith)) (take-append-drop k token ∙ e)
+    parted_once (take k token) (prefix_of c) (drop k token) (decimal n) (plain_before token k h (by_place token k b)) (prefix_plain c) d
+        (decimal_digits n (omega arith)) (take-append-drop k token ∙ e)
 
 -- ---- different typecodes have different prefixes
 

@@ -1,5 +1,6 @@
 -- A database of a text without a fault has no more symbols than the text has bytes.
-use Rattle.std.specs.Prelude.{◌≡◌, ◌<◌, ◌≤◌, ◌+◌, ◌^◌, ℕ, suc, Bool, true, false, not, List, [], ◌∷◌, ◌++◌, length, take, drop, filter, flat_map, reverse, nat_lt, ◌==◌, Option, Some, None, codes, refl}
+use Rattle.std.specs.Prelude.{◌≡◌, ◌<◌, ◌≤◌, ◌+◌, ◌^◌, ℕ, suc, Bool, true, false, not, List, [], ◌∷◌, ◌++◌, length, take, drop, filter, flat_map}
+use Rattle.std.specs.Prelude.{reverse, nat_lt, ◌==◌, Option, Some, None, codes, refl}
 use Rattle.std.specs.List.{prefix_len}
 use Rattle.std.proofs.Common.{ap, ◌∙◌, arith, inl, inr, length-append, length-drop, ltb-false, cond}
 use Rattle.std.proofs.lemmas.Bool.{cases_Bool}

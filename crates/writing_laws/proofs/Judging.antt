@@ -1,5 +1,6 @@
 -- The steps of a worksheet have judgements, where it is decided what can be solved.
-use Rattle.std.specs.Prelude.{◌≡◌, ◌<◌, ◌≤◌, ◌+◌, ◌++◌, ℕ, zero, suc, Bool, true, false, List, [], ◌∷◌, length, take, nat_lt, slice_get, if◌then◌else◌, Contains, Option, Some, None, refl}
+use Rattle.std.specs.Prelude.{◌≡◌, ◌<◌, ◌≤◌, ◌+◌, ◌++◌, ℕ, zero, suc, Bool, true, false, List, [], ◌∷◌, length, take, nat_lt, slice_get}
+use Rattle.std.specs.Prelude.{if◌then◌else◌, Contains, Option, Some, None, refl}
 use Rattle.std.specs.List.{AllByRecursion, AllZip, list_all}
 use Rattle.std.proofs.Common.{sym, ap, subst, arith, inl, inr, append_assoc, length-append, ltb-true}
 use Rattle.std.proofs.lemmas.Bool.{and_parts}
@@ -78,11 +79,13 @@ module _ (db : Database) (facts : IsDatabase db) (s : Sheet) (spelled : are_step
       zero_plus : (m : ℕ) → 0 + m ≡ m
       zero_plus m = omega arith
 
-  order_places : (b : Bool) (gs hs : List Given) → AllByRecursion (IsPlaceIn (length bound.steps)) gs → Contains (if b then orders (length gs) gs else gs ∷ []) hs → AllByRecursion (IsPlaceIn (length bound.steps)) hs
+  order_places : (b : Bool) (gs hs : List Given) → AllByRecursion (IsPlaceIn (length bound.steps)) gs
+      → Contains (if b then orders (length gs) gs else gs ∷ []) hs → AllByRecursion (IsPlaceIn (length bound.steps)) hs
   order_places true gs hs h o = orders_within (IsPlaceIn (length bound.steps)) (length gs) gs hs h o
   order_places false gs hs h o = elim (parted hs gs [] o) [ inl e ↦ subst (AllByRecursion (IsPlaceIn (length bound.steps))) e h | inr l ↦ absurd (nothing hs l) ]
 
-  asked_fine : (i : ℕ) (b : BoundStep) (a : Assertion) (gs : List Given) → slice_get bound.steps i ≡ Some b → standing db bound.place b ≡ candidate a → Contains (orders_of b a) gs → Fine (asked i a gs)
+  asked_fine : (i : ℕ) (b : BoundStep) (a : Assertion) (gs : List Given) → slice_get bound.steps i ≡ Some b → standing db bound.place b ≡ candidate a
+      → Contains (orders_of b a) gs → Fine (asked i a gs)
   asked_fine i b a gs e k o =
       let c = is_candidate db bound.place b a k in
       let label = (facts.usable c.label a c.usable).label in
@@ -185,7 +188,8 @@ module _ (db : Database) (facts : IsDatabase db) (s : Sheet) (spelled : are_step
   solved_more : (front : List Judgement) (o : Judgement) → Solvable db bound (accepted_in front ++ accepted_in (o ∷ [])) → Solvable db bound (accepted_in (front ++ o ∷ []))
   solved_more front o h = subst (Solvable db bound) (sym (filter_map-append asked_of front (o ∷ []))) h
 
-  after : (front : List Judgement) (o : Judgement) (b : BoundStep) (bs : List BoundStep) → ((k : ℕ) (c : BoundStep) → slice_get (b ∷ bs) k ≡ Some c → slice_get bound.steps (length front + k) ≡ Some c)
+  after : (front : List Judgement) (o : Judgement) (b : BoundStep) (bs : List BoundStep)
+      → ((k : ℕ) (c : BoundStep) → slice_get (b ∷ bs) k ≡ Some c → slice_get bound.steps (length front + k) ≡ Some c)
       → (k : ℕ) (c : BoundStep) → slice_get bs k ≡ Some c → slice_get bound.steps (length (front ++ o ∷ []) + k) ≡ Some c
   after front o b bs at k c e =
       let long = length-append front (o ∷ []) in

@@ -29,7 +29,8 @@ use Rattle.written_model.specs.Written.{Writing, Writes, formula_tokens, step_to
 use Rattle.answer_laws.proofs.Elements.{first, later, nothing, parted}
 use Rattle.answer_laws.proofs.Moved.{new_by}
 use Rattle.writing_laws.specs.TokenCounts.{formula_count, IsLong}
-use Rattle.writing_laws.specs.HasLong.{AreShort, IsLongStep, filled_front, next_number, next_judgement, next_wanted, front_trees, used_names, IsFirstLong, own, wanted, IsFrontOf, FrontStays, FrontIsLate, GrowsShort, ShortIsNotLate}
+use Rattle.writing_laws.specs.HasLong.{AreShort, IsLongStep, filled_front, next_number, next_judgement, next_wanted, front_trees, used_names}
+use Rattle.writing_laws.specs.HasLong.{IsFirstLong, own, wanted, IsFrontOf, FrontStays, FrontIsLate, GrowsShort, ShortIsNotLate}
 use Rattle.writing_laws.proofs.Decide.{less_decided}
 use Rattle.writing_laws.proofs.Counts.{formula_counted}
 use Rattle.writing_laws.proofs.Fronts.{first_in_front, first_behind, first_there}
@@ -228,7 +229,9 @@ module _ (db : Database) where
     made_by ts = map made_step (zip (derived_names (length ts) used) ts)
 
     at_wanted : (before : List Tree) (t : Tree) (more : List Tree) (name : Name) → next_wanted db names bound g judgements front ≡ before ++ t ∷ more → AreShort db before → IsLong db t
-        → slice_get (derived_names (suc (length (new_trees (front_trees db names bound g judgements front) before))) used) (length (new_trees (front_trees db names bound g judgements front) before)) ≡ Some name
+        → slice_get (derived_names (suc (length (new_trees (front_trees db names bound g judgements front) before))) used)
+            (length (new_trees (front_trees db names bound g judgements front) before))
+            ≡ Some name
         → IsFirstStep name t
     at_wanted before t more name e h l n =
         let seen = front_trees db names bound g judgements front in
@@ -276,7 +279,9 @@ module _ (db : Database) (names : List Name) (bound : Bound) (g : Valuation) (ju
   abbrev trees_of : List SheetItem → List Tree
   trees_of front = front_trees db names bound g judgements front
 
-  one_more : (front : List SheetItem) (i : SheetItem) → filled_front db names bound g judgements (front ++ i ∷ []) ≡ fill_item names bound g judgements (filled_front db names bound g judgements front) i
+  one_more : (front : List SheetItem) (i : SheetItem)
+      → filled_front db names bound g judgements (front ++ i ∷ [])
+          ≡ fill_item names bound g judgements (filled_front db names bound g judgements front) i
   one_more front i = let empty : Filling = record { items = []; numbers = [] } in fold-append (fill_item names bound g judgements) empty front (i ∷ [])
 
   trees_append : (es fs : List WrittenStep) → trees (es ++ fs) ≡ trees es ++ trees fs
@@ -291,7 +296,10 @@ module _ (db : Database) (names : List Name) (bound : Bound) (g : Valuation) (ju
   at_comment : (front : List SheetItem) (lines : List Name) → AreShort db (trees_of front) → AreShort db (trees_of (front ++ item.Comment lines ∷ []))
   at_comment front lines h =
       subst (λ (f : Filling). AreShort db (trees (steps_in f.items))) (sym (one_more front (item.Comment lines)))
-      (subst (λ es. AreShort db (trees es)) (sym (filter_map-append step_of (filled_front db names bound g judgements front).items (comment lines ∷ []) ∙ sym (append_nil (steps_in (filled_front db names bound g judgements front).items)))) h)
+      (subst (λ es. AreShort db (trees es))
+          (sym
+              (filter_map-append step_of (filled_front db names bound g judgements front).items (comment lines ∷ [])
+                  ∙ sym (append_nil (steps_in (filled_front db names bound g judgements front).items)))) h)
 
   at_step : (front : List SheetItem) (s : SheetStep) → AreShort db (trees_of front) → AreShort db (next_wanted db names bound g judgements front)
       → (IsLong db (formula bound g (next_number db names bound g judgements front)) → ⊥) → AreShort db (trees_of (front ++ item.Step s ∷ []))

@@ -107,7 +107,8 @@ module _ (has : HasDatabaseFacts) (standing : MandatoryVariablesStand) (owned : 
   lines_sound text e = no_fault (nat_lt most_sheet_bytes (length text)) (fault 1 50) (line_fault text) e
 
   module _ (spellable : ReadIsSpellable) (is_read : SoundIsRead) (db : Database) (text : List ℕ) (options : Options) (opened : IsOpened options.kinds db)
-      (decide : (s : Sheet) (bound : Bound) → Binds db s bound → SolvingIsDecided db bound) (general : (s : Sheet) (bound : Bound) (accepted : List Asked) → HasMostGeneral options.kinds db s bound accepted) where
+      (decide : (s : Sheet) (bound : Bound) → Binds db s bound → SolvingIsDecided db bound)
+          (general : (s : Sheet) (bound : Bound) (accepted : List Asked) → HasMostGeneral options.kinds db s bound accepted) where
     abbrev Answered : Type 0
     Answered = (a : Answer) × Answers db text options a
 

@@ -97,7 +97,9 @@ abbrev before : Writing
 before = record {
   read = unnumbered (sheet (codes "id") lines);
   bound = trees;
-  judgements = accepted (asked 0 ax_1 []) ∷ accepted (asked 1 ax_1 []) ∷ accepted (asked 2 ax_2 []) ∷ accepted (asked 3 ax_mp (second ∷ third ∷ [])) ∷ accepted (asked 4 ax_mp (first ∷ fourth ∷ [])) ∷ [];
+  judgements =
+      accepted (asked 0 ax_1 []) ∷ accepted (asked 1 ax_1 []) ∷ accepted (asked 2 ax_2 []) ∷ accepted (asked 3 ax_mp (second ∷ third ∷ []))
+          ∷ accepted (asked 4 ax_mp (first ∷ fourth ∷ [])) ∷ [];
   value = value;
   names = names;
   items = [];

@@ -22,7 +22,9 @@ pub in_text_order : works_in Q (cab (Work wff 2) (Work wff 1)) ≡ work_variable
 in_text_order = simp texts refl
 
 -- those that the worksheet as it was read has are not new, and each new one stands once
-pub new : new_works P (bound (hypothesis (codes "1") (codes "r.1") (Work wff 3) ∷ [])) (wi (Work wff 3) (Work wff 2) ∷ wi (Work wff 1) (Work wff 2) ∷ []) ≡ work_variable wff 2 ∷ work_variable wff 1 ∷ []
+pub new : new_works P (bound (hypothesis (codes "1") (codes "r.1") (Work wff 3) ∷ []))
+    (wi (Work wff 3) (Work wff 2) ∷ wi (Work wff 1) (Work wff 2) ∷ [])
+    ≡ work_variable wff 2 ∷ work_variable wff 1 ∷ []
 new = simp texts refl
 
 -- ---- one fresh leaf in two trees

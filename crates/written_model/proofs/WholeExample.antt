@@ -40,7 +40,8 @@ use Rattle.written_model.specs.ProofTrees.{Finished, is_complete}
 use Rattle.written_model.specs.Found.{is_ground}
 use Rattle.written_model.specs.WholeExample.{wff, ps, variable, any, db, options, read_text, written_text_is, numbered, qed, trees, candidate, value, fitting, writing}
 use Rattle.written_model.specs.WrittenSteps.{WrittenStep, step, steps_in, trees as trees_of}
-use Rattle.written_model.specs.Written.{Writing, Writes, HasNoLateFault, LateFault, Answers, wrote, after_filling, after_naming, ItemIsSearched, written_sheet, written_text, written_bound, qed_proof, proof_text, step_tokens, formula_tokens}
+use Rattle.written_model.specs.Written.{Writing, Writes, HasNoLateFault, LateFault, Answers, wrote, after_filling, after_naming, ItemIsSearched}
+use Rattle.written_model.specs.Written.{written_sheet, written_text, written_bound, qed_proof, proof_text, step_tokens, formula_tokens}
 use Rattle.written_model.proofs.SyntaxProofs.{syntax_proofs}
 use Rattle.written_model.proofs.WholeDatabase.{parses_variable, parses_only}
 
@@ -68,7 +69,8 @@ StepRule = ℕ × (ℕ → SheetStep → Bool)
 no_header_rule : (n code : ℕ) (a rule : Sheet → Bool) → ◌≡◌ {A = Option HeaderRule} (Some (n, a)) (Some (code, rule)) → a numbered ≡ false → rule numbered ≡ true → ⊥
 no_header_rule n code a rule e f h = let value : a numbered ≡ rule numbered = ap (λ (r : HeaderRule). r.1 numbered) (some_is {X = HeaderRule} (n, a) (code, rule) e) in cc
 
-no_step_rule : (n code i : ℕ) (a rule : ℕ → SheetStep → Bool) (t : SheetStep) → ◌≡◌ {A = Option StepRule} (Some (n, a)) (Some (code, rule)) → Some the_step ≡ Some t → a i the_step ≡ false → rule i t ≡ true → ⊥
+no_step_rule : (n code i : ℕ) (a rule : ℕ → SheetStep → Bool) (t : SheetStep) → ◌≡◌ {A = Option StepRule} (Some (n, a)) (Some (code, rule))
+    → Some the_step ≡ Some t → a i the_step ≡ false → rule i t ≡ true → ⊥
 no_step_rule n code i a rule t e s f h =
     let step_is : the_step ≡ t = some_is the_step t s in
     let value : a i the_step ≡ rule i the_step = ap (λ (r : StepRule). r.1 i the_step) (some_is {X = StepRule} (n, a) (code, rule) e) in

@@ -1,5 +1,6 @@
 -- Finished worksheets, and the proof of a step.
-use Rattle.std.specs.Prelude.{◌≡◌, ℕ, Bool, true, false, ◌&&◌, ◌||◌, ◌==◌, List, [], ◌∷◌, ◌++◌, length, map, find, fold, unwrap_or, slice_get, slice_index_or, Contains, if◌then◌else◌, Option, Some, None, is_none, codes}
+use Rattle.std.specs.Prelude.{◌≡◌, ℕ, Bool, true, false, ◌&&◌, ◌||◌, ◌==◌, List, [], ◌∷◌, ◌++◌, length, map, find, fold, unwrap_or, slice_get}
+use Rattle.std.specs.Prelude.{slice_index_or, Contains, if◌then◌else◌, Option, Some, None, is_none, codes}
 use Rattle.std.specs.List.{list_all}
 use Rattle.std.specs.Option.{option_map_or}
 use Rattle.mm_base.specs.declared.symbols.Sym.{Sym}

@@ -190,6 +190,7 @@ pub data Answer : Type 0 where
 pub data Answers (db : Database) (text : List ℕ) (options : Options) : Answer → Type 0 where
   bad_text : {f : Fault} → text_fault text ≡ Some f → Answers db text options (refused (at_line f))
   unbound : {s : Sheet} {f : Fault} → text_fault text ≡ None → Reads text s → IsBindFault db s f → Answers db text options (refused (at_line f))
-  much : {s : Sheet} {bound : Bound} → text_fault text ≡ None → Reads text s → Binds db s bound → most_work_size < work_size db bound → Answers db text options (refused (too_much (told_number (work_size db bound))))
+  much : {s : Sheet} {bound : Bound} → text_fault text ≡ None → Reads text s → Binds db s bound → most_work_size < work_size db bound
+      → Answers db text options (refused (too_much (told_number (work_size db bound))))
   late : {w : Writing} {r : Refusal} → text_fault text ≡ None → Writes db text options w → IsLate db options w r → Answers db text options (refused r)
   written : {w : Writing} → text_fault text ≡ None → Writes db text options w → HasNoLateFault db options w → Answers db text options (wrote w)

@@ -9,7 +9,8 @@ use Rattle.written_steps.specs.declared.draft.DraftItem.{DraftItem}
 use Rattle.written_steps.specs.declared.draft.DraftItem.TheVariants as draft
 use Rattle.written_steps.specs.Drafts.{step_of, drafts_in, refs}
 
-pub step_more : (items : List DraftItem) (k : ℕ) (d : DraftItem) (steps more : List (Bor DraftStep)) (r : Bor DraftStep) (s : DraftStep) → k < length items → get_or items k d ≡ draft.Step s → r.now ≡ s
+pub step_more : (items : List DraftItem) (k : ℕ) (d : DraftItem) (steps more : List (Bor DraftStep)) (r : Bor DraftStep) (s : DraftStep)
+    → k < length items → get_or items k d ≡ draft.Step s → r.now ≡ s
     → refs steps ≡ drafts_in (take k items) → more ≡ steps ++ r ∷ [] → refs more ≡ drafts_in (take (k + 1) items)
 step_more items k d steps more r s l e n h m =
     let found = filter_map_found step_of items k d l s (ap step_of e) in

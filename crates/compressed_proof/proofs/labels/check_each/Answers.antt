@@ -8,7 +8,8 @@ returns-in_err-check_label-clause-fault c = λ mandatory same.
     let p = err_from_is_err_and c.from_residual.result c.from_residual.ensures.1 in
     rw (p.1, p.2) (
     fault_put mandatory c.args.listed.now c.args.labels.now c.loop-place.before c.loop-place.place c.index-labels-place.result c.as_slice-label.result.now c.in_err-check_label.field-0.0
-    c.loop-place-test.true (record { same = same }) c.loop-place.invariant.before c.as_slice-label.ensures c.index-labels-place.is (c.loop-place.invariant.fine mandatory same) c.in_err-check_label.ensures.fault)
+    c.loop-place-test.true (record { same = same }) c.loop-place.invariant.before c.as_slice-label.ensures c.index-labels-place.is
+        (c.loop-place.invariant.fine mandatory same) c.in_err-check_label.ensures.fault)
 
 pub loop-place-preserved : goal.loop-place-preserved
 loop-place-preserved c = record {
@@ -16,7 +17,9 @@ loop-place-preserved c = record {
       c.loop-place-test.true c.in_ok-add.ensures.added c.loop-place.invariant.before c.as_slice-label.ensures c.index-labels-place.is;
   fine = λ mandatory same.
       fine_put mandatory c.args.listed.now c.args.labels.now c.loop-place.before c.loop-place.place c.index-labels-place.result c.as_slice-label.result.now
-      c.loop-place-test.true (record { same = same }) c.loop-place.invariant.before c.as_slice-label.ensures c.index-labels-place.is c.in_ok-check_label.ensures.fresh (c.loop-place.invariant.fine mandatory same);
+      c.loop-place-test.true
+          (record { same = same }) c.loop-place.invariant.before c.as_slice-label.ensures c.index-labels-place.is c.in_ok-check_label.ensures.fresh
+          (c.loop-place.invariant.fine mandatory same);
 }
 
 pub returns-clause-sound : goal.returns-clause-sound

@@ -11,13 +11,20 @@ use Rattle.compressed_proof.specs.Reading.{with_front, read_letters, FailsWith, 
 use Rattle.compressed_proof.proofs.steps.read_letters.Goals as goal
 
 -- one more letter is read
-read_on : (m n marks more : ℕ) (p q : Prior) (old new : List Step) (letters : List ℕ) (i : ℕ) (whole : Result (List Step) CodeFault) → i < length letters → with_front new (read_letters m n more q (suc i) (drop (suc i) letters)) ≡ with_front old (read_letters m n marks p i (get_or letters i 0 ∷ drop (suc i) letters)) → with_front old (read_letters m n marks p i (drop i letters)) ≡ whole → with_front new (read_letters m n more q (i + 1) (drop (i + 1) letters)) ≡ whole
+read_on : (m n marks more : ℕ) (p q : Prior) (old new : List Step) (letters : List ℕ) (i : ℕ) (whole : Result (List Step) CodeFault)
+    → i < length letters
+    → with_front new (read_letters m n more q (suc i) (drop (suc i) letters))
+        ≡ with_front old (read_letters m n marks p i (get_or letters i 0 ∷ drop (suc i) letters))
+    → with_front old (read_letters m n marks p i (drop i letters)) ≡ whole
+    → with_front new (read_letters m n more q (i + 1) (drop (i + 1) letters)) ≡ whole
 read_on m n marks more p q old new letters i whole h goes_on read = rw add-one (goes_on ∙ (ap (λ (s : List ℕ). with_front old (read_letters m n marks p i s)) (sym (drop-cons letters i 0 h)) ∙ read))
 
 pub loop-i-preserved : goal.loop-i-preserved
 loop-i-preserved c = record {
   marks = omega (arith, c.in_ok-next.ensures.marks);
-  reads = read_on c.args.mandatory c.args.labels c.loop-i.marks c.in_ok-next.next.1 c.loop-i.prior c.in_ok-next.next.0 c.loop-i.steps.items c.read_letter.new.steps.items c.args.letters.now c.loop-i.i _
+  reads =
+      read_on c.args.mandatory c.args.labels c.loop-i.marks c.in_ok-next.next.1 c.loop-i.prior c.in_ok-next.next.0 c.loop-i.steps.items
+          c.read_letter.new.steps.items c.args.letters.now c.loop-i.i _
       c.loop-i-test.true (c.in_ok-next.ensures.goes_on (drop (suc c.loop-i.i) c.args.letters.now)) c.loop-i.invariant.reads;
 }
 
@@ -47,7 +54,8 @@ returns-in_err-next c =
     rw (p.1, p.2) (failed c.in_err-next.field-0.0 front _ whole read (c.in_err-next.ensures.fails (drop (suc i) letters)))
 
 -- what is read at the end
-ended : (m n marks i : ℕ) (p : Prior) (front new : List Step) (whole : Result (List Step) CodeFault) → ((x : ℕ) → p ≡ prior.Digits x → ⊥) → new ≡ front ++ pending p → with_front front (read_letters m n marks p i []) ≡ whole → whole ≡ Ok new
+ended : (m n marks i : ℕ) (p : Prior) (front new : List Step) (whole : Result (List Step) CodeFault) → ((x : ℕ) → p ≡ prior.Digits x → ⊥)
+    → new ≡ front ++ pending p → with_front front (read_letters m n marks p i []) ≡ whole → whole ≡ Ok new
 ended m n marks i (prior.Digits v) front new whole other e read = absurd (other v refl)
 ended m n marks i (prior.Step w) front new whole other e read = sym read ∙ ap (λ (ss : List Step). Ok ss) (sym e)
 ended m n marks i prior.Start front new whole other e read = sym read ∙ ap (λ (ss : List Step). Ok ss) (sym e)
@@ -65,7 +73,8 @@ returns c =
     ap (λ (s : List ℕ). with_front front (read_letters m n c.loop-i.marks c.loop-i.prior i s)) (sym (drop_all i letters c.loop-i-test.false)) ∙ c.loop-i.invariant.reads in
     ended m n c.loop-i.marks i c.loop-i.prior front c.push_pending.new.steps.items whole c.in_default.not-Digits c.in_ok-push_pending.ensures read
 
-unended : (m n marks i end_ v : ℕ) (p : Prior) (front : List Step) (whole : Result (List Step) CodeFault) → p ≡ prior.Digits v → i ≡ end_ → with_front front (read_letters m n marks p i []) ≡ whole → whole ≡ Err (faults.UnendedNumber end_)
+unended : (m n marks i end_ v : ℕ) (p : Prior) (front : List Step) (whole : Result (List Step) CodeFault) → p ≡ prior.Digits v → i ≡ end_
+    → with_front front (read_letters m n marks p i []) ≡ whole → whole ≡ Err (faults.UnendedNumber end_)
 unended m n marks i end_ v p front whole e stop read =
     sym read ∙ ap (λ (q : Prior). with_front front (read_letters m n marks q i [])) e ∙ ap (λ (k : ℕ). with_front front (read_letters m n marks (prior.Digits v) k [])) stop
 

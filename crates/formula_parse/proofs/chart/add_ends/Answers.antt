@@ -11,7 +11,9 @@ loop-end-preserved c =
     let s = c.in_ok-add_entry.ensures in (
       stays_then c.args.entries.now.items xs ys c.loop-end.invariant.0 s.stays,
       (λ once. s.once (c.loop-end.invariant.1 once)),
-      at_turn (λ e. IsIn ys (entry_of e c.args.production.now.gives c.args.row)) c.args.ends.now c.loop-end.end-index (get_or c.args.ends.now c.loop-end.end-index 0) (slice_get-get_or c.args.ends.now c.loop-end.end-index 0 (omega (arith, c.loop-end-test.true)))
+      at_turn (λ e. IsIn ys (entry_of e c.args.production.now.gives c.args.row)) c.args.ends.now c.loop-end.end-index
+          (get_or c.args.ends.now c.loop-end.end-index 0)
+          (slice_get-get_or c.args.ends.now c.loop-end.end-index 0 (omega (arith, c.loop-end-test.true)))
           (λ j e i at. stays_in xs ys s.stays (entry_of e c.args.production.now.gives c.args.row) (c.loop-end.invariant.2 j e i at)) s.stands,
     )
 

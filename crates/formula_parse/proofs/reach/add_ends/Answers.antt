@@ -14,7 +14,8 @@ loop-entry-preserved c =
     let ys = c.add_end.new.next.items in
     let s = c.in_ok-add_end.ensures in (
       λ j x e. s.stays j x (c.loop-entry.invariant.0 j x e),
-      at_turn (λ (x : Entry). x.code ≡ c.args.code → CanLead c.args.leaves.now c.args.behind.now x.end → IsIn ys x.end) entries n (get_or entries n none) (slice_get-get_or entries n none c.loop-entry-test.true)
+      at_turn (λ (x : Entry). x.code ≡ c.args.code → CanLead c.args.leaves.now c.args.behind.now x.end → IsIn ys x.end) entries n
+          (get_or entries n none) (slice_get-get_or entries n none c.loop-entry-test.true)
           (λ j x i is code can. stays_in xs ys s.stays x.end (c.loop-entry.invariant.1 j x i is code can)) s.stands,
     )
 

@@ -24,7 +24,11 @@ use Rattle.mm_model.specs.Rows.{slot_order}
 use Rattle.mm_model.proofs.RowLaws.{is_row}
 use Rattle.formula_parse.proofs.Weights.{tree_weight, split_weight, items_weight, split_to_tree, split_to_items, tree_to_items, items_to_rest, items_to_split}
 use Rattle.formula_parse.proofs.search.+parse.Goals as goal
-use Rattle.formula_parse.proofs.search.+parse.Goals.{trees-then-entry-end+then-eq+in-Some-get+then-row-before+then-eq-2+in-Ok+in_ok-add_nodes-in-Ok+in_default-found, trees-then-entry-end+then-eq+in-Some-get+else-row-before, trees-else-row-before-via-then-row-before+else-eq-2, trees-else-row-before-via-else-row-before, trees-then-entry-end+then-eq+in_default-get, trees-else-entry-end, trees-else-entry-end-via-then-entry-end+else-eq, trees-else-entry-end-via-else-entry-end}
+use Rattle.formula_parse.proofs.search.+parse.Goals.{trees-then-entry-end+then-eq+in-Some-get+then-row-before+then-eq-2+in-Ok+in_ok-add_nodes-in-Ok+in_default-found}
+use Rattle.formula_parse.proofs.search.+parse.Goals.{trees-then-entry-end+then-eq+in-Some-get+else-row-before}
+use Rattle.formula_parse.proofs.search.+parse.Goals.{trees-else-row-before-via-then-row-before+else-eq-2, trees-else-row-before-via-else-row-before}
+use Rattle.formula_parse.proofs.search.+parse.Goals.{trees-then-entry-end+then-eq+in_default-get, trees-else-entry-end}
+use Rattle.formula_parse.proofs.search.+parse.Goals.{trees-else-entry-end-via-then-entry-end+else-eq, trees-else-entry-end-via-else-entry-end}
 use Rattle.mm_model.specs.declared.rows.Production.{Production}
 use Rattle.formula_parse.specs.Fits.{IsOf}
 use Rattle.formula_parse.specs.Charts.{entry_of}
@@ -43,20 +47,23 @@ divisions-loop-n-init t c = place_begin c.args.rows.now c.args.before c.requires
 
 pub divisions-loop-n-preserved-then-not-has : goal.divisions-loop-n-preserved-then-not-has
 divisions-loop-n-preserved-then-not-has t c =
-    part_skip c.args.rows.now c.args.before c.requires.grammar.rows_hold c.args.leaves.now c.args.chart.now c.requires.full c.args.slots.now c.args.items.now c.args.code c.args.begin c.args.end c.requires.order c.requires.within
+    part_skip c.args.rows.now c.args.before c.requires.grammar.rows_hold c.args.leaves.now c.args.chart.now c.requires.full c.args.slots.now
+        c.args.items.now c.args.code c.args.begin c.args.end c.requires.order c.requires.within
     c.loop-n.n (omega arith) (λ h. off c.has.result (c.has.ensures h) c.if-not-has.true) c.loop-n.found c.loop-n.invariant
 
 pub divisions-loop-n-preserved-then-not-may_divide : goal.divisions-loop-n-preserved-then-not-may_divide
 divisions-loop-n-preserved-then-not-may_divide t c =
     let middle = c.args.begin + c.loop-n.n + 1 in
-    part_skip_both c.args.rows.now c.args.before c.requires.grammar.rows_hold c.args.leaves.now c.args.chart.now c.requires.full c.args.slots.now c.args.items.now c.args.code c.args.begin c.args.end c.requires.order c.requires.within
+    part_skip_both c.args.rows.now c.args.before c.requires.grammar.rows_hold c.args.leaves.now c.args.chart.now c.requires.full c.args.slots.now
+        c.args.items.now c.args.code c.args.begin c.args.end c.requires.order c.requires.within
     c.loop-n.n (omega arith) (λ has reach.
     let can = can_of c.args.leaves.now c.args.chart.now c.args.slots.now c.args.items.now middle c.args.end reach in
     off c.may_divide.result (c.may_divide.ensures (c.ends_from-ends.ensures middle has can) can) c.if-not-may_divide.true) c.loop-n.found c.loop-n.invariant
 
 pub divisions-loop-n-preserved-then-not-branch : goal.divisions-loop-n-preserved-then-not-branch
 divisions-loop-n-preserved-then-not-branch t c =
-    part_skip_rest c.args.rows.now c.args.before c.requires.grammar.rows_hold c.args.leaves.now c.args.chart.now c.requires.full c.args.slots.now c.args.items.now c.args.code c.args.begin c.args.end c.requires.order c.requires.within
+    part_skip_rest c.args.rows.now c.args.before c.requires.grammar.rows_hold c.args.leaves.now c.args.chart.now c.requires.full c.args.slots.now
+        c.args.items.now c.args.code c.args.begin c.args.end c.requires.order c.requires.within
     c.loop-n.n (omega arith) (λ h. off c.in_ok-may_fit.field-0 (c.in_ok-may_fit.ensures h) c.if-not-branch.true) c.loop-n.found c.loop-n.invariant
 
 pub divisions-trees-requires : goal.divisions-trees-requires
@@ -71,17 +78,27 @@ divisions-sequences-searched-requires t c =
 
 pub divisions-returns-in-Two : goal.divisions-returns-in-Two
 divisions-returns-in-Two t c =
-    let turn = part_found c.args.rows.now c.args.before c.requires.grammar.rows_hold c.args.leaves.now c.args.chart.now c.requires.full c.args.slots.now c.args.items.now c.args.code c.args.begin c.args.end c.requires.order c.requires.within
-    c.loop-n.n (omega arith) c.loop-n.found c.trees.new.found c.sequences-searched.new.found (paired c.trees.new.found c.sequences-searched.new.found) c.add_pairs.new.found c.loop-n.invariant c.in_default.ensures c.in-Ok.ensures refl c.in_ok-add_pairs-in-Ok.ensures in
-    place_stop c.args.rows.now c.args.before c.requires.grammar.rows_hold c.args.slots.now c.args.items.now c.args.code (span c.args.leaves.now c.args.begin c.args.end) (c.loop-n.n + 1) c.add_pairs.new.found c.in-Two.field-0 c.in-Two.field-1 c.in-Two.is turn
+    let turn =
+        part_found c.args.rows.now c.args.before c.requires.grammar.rows_hold c.args.leaves.now c.args.chart.now c.requires.full c.args.slots.now
+            c.args.items.now c.args.code c.args.begin c.args.end c.requires.order c.requires.within
+    c.loop-n.n (omega arith) c.loop-n.found c.trees.new.found c.sequences-searched.new.found
+        (paired c.trees.new.found
+            c.sequences-searched.new.found) c.add_pairs.new.found c.loop-n.invariant c.in_default.ensures c.in-Ok.ensures refl c.in_ok-add_pairs-in-Ok.ensures in
+    place_stop c.args.rows.now c.args.before c.requires.grammar.rows_hold c.args.slots.now c.args.items.now c.args.code
+        (span c.args.leaves.now c.args.begin c.args.end) (c.loop-n.n + 1) c.add_pairs.new.found c.in-Two.field-0 c.in-Two.field-1 c.in-Two.is turn
 
 pub divisions-loop-n-preserved : goal.divisions-loop-n-preserved
 divisions-loop-n-preserved t c =
-    part_found c.args.rows.now c.args.before c.requires.grammar.rows_hold c.args.leaves.now c.args.chart.now c.requires.full c.args.slots.now c.args.items.now c.args.code c.args.begin c.args.end c.requires.order c.requires.within
-    c.loop-n.n (omega arith) c.loop-n.found c.trees.new.found c.sequences-searched.new.found (paired c.trees.new.found c.sequences-searched.new.found) c.add_pairs.new.found c.loop-n.invariant c.in_default.ensures c.in-Ok.ensures refl c.in_ok-add_pairs-in-Ok.ensures
+    part_found c.args.rows.now c.args.before c.requires.grammar.rows_hold c.args.leaves.now c.args.chart.now c.requires.full c.args.slots.now
+        c.args.items.now c.args.code c.args.begin c.args.end c.requires.order c.requires.within
+    c.loop-n.n (omega arith) c.loop-n.found c.trees.new.found c.sequences-searched.new.found
+        (paired c.trees.new.found
+            c.sequences-searched.new.found) c.add_pairs.new.found c.loop-n.invariant c.in_default.ensures c.in-Ok.ensures refl c.in_ok-add_pairs-in-Ok.ensures
 
 pub divisions-returns : goal.divisions-returns
-divisions-returns t c = part_end c.args.rows.now c.args.before c.requires.grammar.rows_hold c.args.leaves.now c.args.chart.now c.requires.full c.args.slots.now c.args.items.now c.args.code c.args.begin c.args.end c.requires.order c.requires.within
+divisions-returns t c =
+    part_end c.args.rows.now c.args.before c.requires.grammar.rows_hold c.args.leaves.now c.args.chart.now c.requires.full c.args.slots.now
+        c.args.items.now c.args.code c.args.begin c.args.end c.requires.order c.requires.within
     c.loop-n.n (omega arith) c.loop-n.found c.loop-n.invariant
 
 pub sequences-divisions-requires : goal.sequences-divisions-requires
@@ -91,7 +108,11 @@ sequences-divisions-requires t c =
     let first : get_or c.args.items.now 0 (Const record { 0 = 0 }) ≡ Slot c.in-Slot.k = search rules in
     let split = cons_of c.args.items.now (Const record { 0 = 0 }) (Slot c.in-Slot.k) c.in-Slot.len_at_least first in
     let less = items_to_split c.args.rows.now n c.args.slots.now c.in-Slot.k c.in-Some.code.now (take (length c.args.items.now - 1) (drop 1 c.args.items.now)) slot in
-    let all = subst (λ xs. split_weight c.args.rows.now c.in-Some.code.now (take (length c.args.items.now - 1) (drop 1 c.args.items.now)) n < items_weight c.args.rows.now c.args.slots.now xs n) (sym split) less in
+    let all =
+        subst
+            (λ xs. split_weight c.args.rows.now c.in-Some.code.now (take (length c.args.items.now - 1) (drop 1 c.args.items.now)) n
+                < items_weight c.args.rows.now c.args.slots.now xs n)
+            (sym split) less in
     (omega (arith, all, c.decreases), (c.requires.grammar, (c.requires.full, (c.requires.order, c.requires.within))))
 
 pub sequences-returns-in-None : goal.sequences-returns-in-None
@@ -140,8 +161,11 @@ trees-returns-after-loop-entry t c =
     let b = c.args.begin in
     let e = c.args.end in
     let at = slice_get-get_or c.args.chart.now b c.in-Some.entries.now c.in-Some.ensures.lookup.3.0 ∙ ap (λ x. Some x) (sym c.in-Some.ensures.lookup.1) in
-    let full = subst (IsComplete rows c.args.before leaves b) (sym c.as_slice-entry-items.ensures) (chart_entries rows c.args.before leaves c.args.chart.now b c.in-Some.entries.now c.requires.full at) in
-    entry_end rows c.args.before c.requires.grammar.rows_hold leaves b e c.requires.order c.requires.within c.args.want c.as_slice-entry-items.result.now full c.loop-entry.entry-index c.loop-entry-test.false c.loop-entry.found c.loop-entry.invariant
+    let full =
+        subst (IsComplete rows c.args.before leaves b) (sym c.as_slice-entry-items.ensures)
+            (chart_entries rows c.args.before leaves c.args.chart.now b c.in-Some.entries.now c.requires.full at) in
+    entry_end rows c.args.before c.requires.grammar.rows_hold leaves b e c.requires.order c.requires.within c.args.want
+        c.as_slice-entry-items.result.now full c.loop-entry.entry-index c.loop-entry-test.false c.loop-entry.found c.loop-entry.invariant
 
 pub trees-returns-in_default : goal.trees-returns-in_default
 trees-returns-in_default t c =
@@ -157,7 +181,9 @@ trees-returns-in-Two t c =
     let text = span leaves b e in
     let r = c.in-Some-get.row.now in
     let at = slice_get-get_or c.args.chart.now b c.in-Some.entries.now c.in-Some.ensures.lookup.3.0 ∙ ap (λ x. Some x) (sym c.in-Some.ensures.lookup.1) in
-    let full = subst (IsComplete rows c.args.before leaves b) (sym c.as_slice-entry-items.ensures) (chart_entries rows c.args.before leaves c.args.chart.now b c.in-Some.entries.now c.requires.full at) in
+    let full =
+        subst (IsComplete rows c.args.before leaves b) (sym c.as_slice-entry-items.ensures)
+            (chart_entries rows c.args.before leaves c.args.chart.now b c.in-Some.entries.now c.requires.full at) in
     let entry = slice_get-get_or c.as_slice-entry-items.result.now c.loop-entry.entry-index _ (omega (arith, c.loop-entry-test.true)) in
     let stands = slice_get-get_or rows _ r c.in-Some-get.ensures.lookup.3.0 ∙ ap (λ x. Some x) (sym c.in-Some-get.ensures.lookup.1) in
     let row = is_row rows c.requires.grammar.rows_hold _ r stands in
@@ -167,9 +193,14 @@ trees-returns-in-Two t c =
     (subst (λ xs. Finds (Fits rows c.args.before xs c.as_slice.result.now text) fitting) c.as_slice-then-eq-2.ensures c.in-Ok.ensures) in
     let added = c.in_ok-add_nodes-in-Ok.ensures in
     let made = made_finds rows c.args.before r row.each_once c.if-row-before.true text c.args.want gives fitting added.0 added.1 fits in
-    let turn = entry_found rows c.args.before c.requires.grammar.rows_hold leaves b e c.requires.order c.requires.within c.args.want c.as_slice-entry-items.result.now full c.loop-entry.entry-index _ r entry c.if-entry-end.true (code_same _ c.args.want c.if-eq.ensures) stands
+    let turn =
+        entry_found rows c.args.before c.requires.grammar.rows_hold leaves b e c.requires.order c.requires.within c.args.want
+            c.as_slice-entry-items.result.now full c.loop-entry.entry-index _ r entry c.if-entry-end.true
+            (code_same _ c.args.want c.if-eq.ensures) stands
     c.loop-entry.found added.0 c.add_nodes.new.found c.loop-entry.invariant made added.2 in
-    entry_stop rows c.args.before c.requires.grammar.rows_hold leaves b e c.requires.order c.requires.within c.args.want c.as_slice-entry-items.result.now full (c.loop-entry.entry-index + 1) c.add_nodes.new.found c.in-Two.field-0 c.in-Two.field-1 c.in-Two.is turn
+    entry_stop rows c.args.before c.requires.grammar.rows_hold leaves b e c.requires.order c.requires.within c.args.want
+        c.as_slice-entry-items.result.now full
+        (c.loop-entry.entry-index + 1) c.add_nodes.new.found c.in-Two.field-0 c.in-Two.field-1 c.in-Two.is turn
 
 pub trees-add_nodes-requires-clause-count : goal.trees-add_nodes-requires-clause-count
 trees-add_nodes-requires-clause-count t c =
@@ -193,7 +224,9 @@ trees-loop-entry-preserved t c =
     let entries = c.as_slice-entry-items.result.now in
     let n = c.loop-entry.entry-index in
     let there = slice_get-get_or c.args.chart.now b c.in-Some.entries.now c.in-Some.ensures.lookup.3.0 ∙ ap (λ x. Some x) (sym c.in-Some.ensures.lookup.1) in
-    let full = subst (IsComplete rows c.args.before leaves b) (sym c.as_slice-entry-items.ensures) (chart_entries rows c.args.before leaves c.args.chart.now b c.in-Some.entries.now c.requires.full there) in
+    let full =
+        subst (IsComplete rows c.args.before leaves b) (sym c.as_slice-entry-items.ensures)
+            (chart_entries rows c.args.before leaves c.args.chart.now b c.in-Some.entries.now c.requires.full there) in
     let d = entry_of 0 (record { 0 = record { 0 = 0 } }) 0 in
     let x = get_or entries n d in
     let at : slice_get entries n ≡ Some x = slice_get-get_or entries n d (omega (arith, c.loop-entry-test.true)) in
@@ -234,7 +267,9 @@ trees-loop-entry-preserved t c =
 pub sequences-sequences-requires : goal.sequences-sequences-requires
 sequences-sequences-requires t c =
     let next = c.has_const.ensures.within c.if-has_const.true in
-    let less = items_to_rest c.args.rows.now (c.args.end - (c.args.begin + 1)) (c.args.end - c.args.begin) c.args.slots.now c.args.items.now (take (length c.args.items.now - 1) (drop 1 c.args.items.now)) (omega (arith, next)) in
+    let less =
+        items_to_rest c.args.rows.now (c.args.end - (c.args.begin + 1)) (c.args.end - c.args.begin) c.args.slots.now c.args.items.now
+            (take (length c.args.items.now - 1) (drop 1 c.args.items.now)) (omega (arith, next)) in
     (omega (arith, less, c.decreases), (c.requires.grammar, (c.requires.full, (omega (arith, next), c.requires.within))))
 
 pub sequences-returns-then-has_const : goal.sequences-returns-then-has_const

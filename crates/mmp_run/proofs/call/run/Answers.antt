@@ -6,7 +6,9 @@ use Rattle.call_answers.specs.CommandLine.{Command, command_of}
 use Rattle.call_answers.specs.Given.{told, target, GivesWhole, GivesPart}
 use Rattle.mm_base.specs.Outside.{Files, Rose}
 use Rattle.mmp_run.specs.Answers.{MayEndFor}
-use Rattle.mmp_run.proofs.Delivered.{Delivered, due_given, given_without_files, only_words, words_ends, says_unread, cut_short, is_complete, ends_not_write, ends_not_memory, ends_silent, nowhere, no_place, placed, out_stays, files_kept, out_kept, since_start, in_its_place}
+use Rattle.mmp_run.proofs.Delivered.{Delivered, due_given, given_without_files, only_words, words_ends, says_unread, cut_short, is_complete}
+use Rattle.mmp_run.proofs.Delivered.{ends_not_write, ends_not_memory, ends_silent, nowhere, no_place, placed, out_stays, files_kept, out_kept}
+use Rattle.mmp_run.proofs.Delivered.{since_start, in_its_place}
 use Rattle.mmp_run.proofs.call.run.Goals as goal
 
 pub deliver-requires : goal.deliver-requires
@@ -34,7 +36,11 @@ returns-in-Ok g c =
       fell = c.deliver.ensures.read_faults;
       place_is = place_is;
       files_are = refl;
-      whole = λ w m. subst (λ (f : Option Files). GivesWhole place end s (told f (g.O.Sink.told c.args.out.now) (g.L.Sink.told c.args.log.now)) new) c.in-Ok.ensures.same_files (c.deliver.ensures.whole w m);
+      whole =
+          λ w m. subst
+              (λ (f : Option Files). GivesWhole place end s
+                  (told f (g.O.Sink.told c.args.out.now) (g.L.Sink.told c.args.log.now)) new) c.in-Ok.ensures.same_files
+              (c.deliver.ensures.whole w m);
       part = λ w. subst (λ (f : Option Files). GivesPart place end (told f (g.O.Sink.told c.args.out.now) (g.L.Sink.told c.args.log.now)) new) c.in-Ok.ensures.same_files (c.deliver.ensures.part w);
     } in
     let replaced_before = g.S.Store.replace_faults c.args.store.now in
@@ -59,10 +65,13 @@ returns-in-Ok g c =
       memory = λ m. let kept = c.deliver.ensures.memory m in (kept.0 ∙ c.in-Ok.ensures.same_files, kept.1, kept.2);
       kept_output = out_kept c.args.out.now c.deliver.new.out place end s old new d.whole (ends_silent files before mid end (command_of words) may)
           (λ m. (c.deliver.ensures.memory m).1) c.deliver.ensures.empty;
-      kept_files = files_kept files (g.S.Store.told c.end_words.new.store) (g.S.Store.told c.deliver.new.store) place end s (command_of words) old new c.in-Ok.ensures.same_files d.whole place_is refl refl
+      kept_files =
+          files_kept files (g.S.Store.told c.end_words.new.store) (g.S.Store.told c.deliver.new.store) place end s
+              (command_of words) old new c.in-Ok.ensures.same_files d.whole place_is refl refl
           (λ m. (c.deliver.ensures.memory m).0);
       same_files = λ none.
           ap g.S.Store.told (c.deliver.ensures.not_called (nowhere c.place_of.result (command_of words) end.status place_is none)) ∙ c.in-Ok.ensures.same_files;
       in_place = λ some.
-          out_stays c.args.out.now c.deliver.new.out c.place_of.result (command_of words) end place_is some (ends_silent files before mid end (command_of words) may) c.deliver.ensures.no_output c.deliver.ensures.empty;
+          out_stays c.args.out.now c.deliver.new.out c.place_of.result (command_of words) end place_is some
+              (ends_silent files before mid end (command_of words) may) c.deliver.ensures.no_output c.deliver.ensures.empty;
     }

@@ -12,6 +12,7 @@ loop-len-preserved c = record {
 pub returns : goal.returns
 returns c =
     elim c.loop-len-test.branch [
-      | then-loop-len-test+else-is_white w ↦ trims-done c.args.bytes.now c.loop-len.len w.loop-len-test.true c.loop-len.invariant.within (sym w.is_white.ensures ∙ w.if-is_white.false) c.loop-len.invariant.trims
+      | then-loop-len-test+else-is_white w ↦ trims-done c.args.bytes.now c.loop-len.len w.loop-len-test.true c.loop-len.invariant.within
+          (sym w.is_white.ensures ∙ w.if-is_white.false) c.loop-len.invariant.trims
       | else-loop-len-test w ↦ trims-none c.args.bytes.now c.loop-len.len (omega arith) c.loop-len.invariant.trims
     ]

@@ -9,5 +9,6 @@ abbrev pub invariant-loop : goal.invariant-loop
 invariant-loop l = record {
   same : l.arena ≡ l.fn.arena;
   at : slice_get (tried (may_reorder l.places (length l.hyps)) (length l.places)) l.counter ≡ Some l.order;
-  before : (j : ℕ) (o : List ℕ) → j < l.counter → slice_get (tried (may_reorder l.places (length l.hyps)) (length l.places)) j ≡ Some o → CannotJoin l.fn.arena.nodes l.fn.arena.links (pairs_of (id_pairs l.formulas (reordered l.places o) l.hyps));
+  before : (j : ℕ) (o : List ℕ) → j < l.counter → slice_get (tried (may_reorder l.places (length l.hyps)) (length l.places)) j ≡ Some o
+      → CannotJoin l.fn.arena.nodes l.fn.arena.links (pairs_of (id_pairs l.formulas (reordered l.places o) l.hyps));
 }

@@ -21,7 +21,10 @@ measure_all-requires-clause-acyclic c = λ cycle.
 counted : (c : goal.After-from_vec) → AreSizes c.args.self.now.nodes c.args.self.now.links c.from_vec.result
 counted c =
     let now = c.self.inside in
-    rw (← c.self.view_is, c.from_vec.ensures) (all_sizes now.terms.nodes (links_of now.trail.entries now.terms.bound) now.terms.bound c.in_ok-sizes.sizes.items c.self.invariant.store c.self.invariant.table c.in_ok-sizes.ensures)
+    rw (← c.self.view_is, c.from_vec.ensures)
+        (all_sizes now.terms.nodes
+            (links_of now.trail.entries
+                now.terms.bound) now.terms.bound c.in_ok-sizes.sizes.items c.self.invariant.store c.self.invariant.table c.in_ok-sizes.ensures)
 
 pub returns-clause-sizes : goal.returns-clause-sizes
 returns-clause-sizes c = counted c

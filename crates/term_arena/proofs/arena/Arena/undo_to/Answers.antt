@@ -39,7 +39,8 @@ invariant_of-self c =
     let kept : AreBelow c.args.mark.nodes (take c.args.mark.trail was) = rw (← c.self.view_is) at c.requires.kept in
     let within : c.args.mark.nodes ≤ length c.self.inside.terms.nodes = rw (← c.self.view_is) at c.requires.nodes in
     rw (c.cut.ensures, end.1)
-    (arena_cut now.terms.nodes now.terms.bound now.trail now.walk.states now.ready c.args.mark.nodes (omega (arith, within, ap length inv.nodes)) (subst (AreBelow c.args.mark.nodes) (sym links) kept) inv.whole).0
+    (arena_cut now.terms.nodes now.terms.bound now.trail now.walk.states now.ready c.args.mark.nodes (omega (arith, within, ap length inv.nodes))
+        (subst (AreBelow c.args.mark.nodes) (sym links) kept) inv.whole).0
 
 pub returns : goal.returns
 returns c =
@@ -50,5 +51,7 @@ returns c =
     let links : links_of now.trail.entries now.terms.bound ≡ take c.args.mark.trail was = inv.front ∙ ap (λ (n : ℕ). take n was) end.0 in
     let kept : AreBelow c.args.mark.nodes (take c.args.mark.trail was) = rw (← c.self.view_is) at c.requires.kept in
     let within : c.args.mark.nodes ≤ length c.self.inside.terms.nodes = rw (← c.self.view_is) at c.requires.nodes in
-    let same = (arena_cut now.terms.nodes now.terms.bound now.trail now.walk.states now.ready c.args.mark.nodes (omega (arith, within, ap length inv.nodes)) (subst (AreBelow c.args.mark.nodes) (sym links) kept) inv.whole).1 in
+    let same =
+        (arena_cut now.terms.nodes now.terms.bound now.trail now.walk.states now.ready c.args.mark.nodes (omega (arith, within, ap length inv.nodes))
+            (subst (AreBelow c.args.mark.nodes) (sym links) kept) inv.whole).1 in
     rw (← c.self.view_is, c.cut.ensures, end.1, same, links, inv.nodes, inv.ready) refl
