@@ -158,8 +158,8 @@ module _ (db : Database) (options : Options) (w : Writing) (numbers : List ℕ) 
   formula_typed_by k b at tokens None is h = valuation.typed (blank k) (IsUnknown.is_blank b at is)
   formula_typed_by k b at tokens (Some t) is h =
       (replaced_on db.rows place (λ s c. Var s c) (open_value g) t
-          (λ v o. record { code = code-Var v.sym v.code; typed = typed-Var db.rows place v.sym v.code })
-          (open_typed k b t at is h.parses.named) h.parses.typed).typed
+      (λ v o. record { code = code-Var v.sym v.code; typed = typed-Var db.rows place v.sym v.code })
+      (open_typed k b t at is h.parses.named) h.parses.typed).typed
 
   pub tree_at : (k : ℕ) (b : BoundStep) → slice_get w.bound.steps k ≡ Some b → (slice_index_or w.bound.steps k no_step).tree ≡ b.tree
   tree_at k b at = ap (λ (x : BoundStep). x.tree) (index_from_get w.bound.steps k b no_step at)

@@ -168,13 +168,13 @@ module _ (db : Database) (options : Options) (w : Writing) (numbers : List ℕ) 
     value : (v : TypedVariable) → Contains a.vars v → value_of u v.sym ≡ name_tree names (g (copy x.step v.sym v.code))
     value v m =
         value_is u (λ (z : TypedVariable). name_tree names (g (copy x.step z.sym z.code))) whole.differ
-            (map-map (name_tree names) (λ (z : TypedVariable). g (copy x.step z.sym z.code)) a.vars) v m
+        (map-map (name_tree names) (λ (z : TypedVariable). g (copy x.step z.sym z.code)) a.vars) v m
 
     valued_is : (t : Tree) → IsClosedTree t → HasOnly a.vars t → valued u t ≡ name_tree names (instance g x.step t)
     valued_is t closed known = sym (
         replace-replace (λ s c. Var s c) (λ s c. g (copy x.step s c)) (name_leaf names) leaf_tree t
         ∙ replace-both (λ s c. name_tree names (g (copy x.step s c))) (λ s c. value_of u s) (λ y. name_tree names (leaf_tree y)) leaf_tree t
-            (λ v o. sym (value v (known v o))) (λ y o. absurd (closed y o))
+        (λ v o. sym (value v (known v o))) (λ y o. absurd (closed y o))
         )
 
     conclusion : valued u a.tree ≡ step_accepted.tree
@@ -257,8 +257,8 @@ module _ (db : Database) (options : Options) (w : Writing) (numbers : List ℕ) 
     value_typed : (v : TypedVariable) → Contains a.vars v → IsTyped db.rows w.bound.place (value_of u v.sym)
     value_typed v m =
         subst (IsTyped db.rows w.bound.place) (sym (value v m))
-            (name_typed db w.bound.place names (g (copy x.step v.sym v.code))
-                (S.the.most_general.is_valuation.typed (copy x.step v.sym v.code) (on v m))).typed
+        (name_typed db w.bound.place names (g (copy x.step v.sym v.code))
+        (S.the.most_general.is_valuation.typed (copy x.step v.sym v.code) (on v m))).typed
 
     value_code : (v : TypedVariable) → Contains a.vars v → code_of (value_of u v.sym) ≡ v.code
     value_code v m =
@@ -282,7 +282,7 @@ module _ (db : Database) (options : Options) (w : Writing) (numbers : List ℕ) 
       lone : IsLoose w.bound (accepted_all db options w numbers ds S) g x.step v
       lone =
           loose db w.bound (accepted_all db options w numbers ds S) g S.the (all_closed db options w numbers ds S) x v is.member own
-              (λ y m e. once db options w numbers ds S x y is.member m e) not_listed
+          (λ y m e. once db options w numbers ds S x y is.member m e) not_listed
 
       abbrev leaf : Open
       leaf = fresh v.code lone.number

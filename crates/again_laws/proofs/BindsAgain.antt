@@ -140,8 +140,12 @@ module _ (facts_law : HasDatabaseFacts) (whole_law : AssertionsAreWhole) (spella
   owns : (l : Label) (f : Frame) → db.frame l ≡ Some f → IsOwn db f f.formula
   owns l f frame =
       (own_law opened.text db
-          (record { symbols = opened.is_database.symbols; frame = opened.is_database.frame; active_at = opened.is_database.active_at;
-              is_constant_at = opened.is_database.is_constant_at }) opened.sound l f frame).formula
+      (record {
+        symbols = opened.is_database.symbols;
+        frame = opened.is_database.frame;
+        active_at = opened.is_database.active_at;
+        is_constant_at = opened.is_database.is_constant_at;
+      }) opened.sound l f frame).formula
 
   logic_is : db.is_constant_at (logic_code db).0 db.statement_count ≡ true
   logic_is = let b = S.bound_steps q.at q.qed q.there in logic_constant db options w numbers ds S places symbols q.qed.formula b.0.tree qed_filled b.2.tree
@@ -162,7 +166,7 @@ module _ (facts_law : HasDatabaseFacts) (whole_law : AssertionsAreWhole) (spella
     written_few =
         let few = work_few db (written_bound db options w) (within db options w late) in
         let same : flat_map step_leaves (written_bound db options w).steps ≡ flat_map open_leaves (map (name_tree w.names) (trees ds)) =
-            same_leaves db options w es ∙ ap (flat_map open_leaves) (trees_named db options w numbers ds S) in
+        same_leaves db options w es ∙ ap (flat_map open_leaves) (trees_named db options w numbers ds S) in
         subst (λ (xs : List Open). length xs ≤ most_work_size) same few
 
     small : (c : Typecode) (k j : ℕ) → slice_get (new_works db w.bound (map (name_tree w.names) (trees ds))) j ≡ Some (work_variable c k) → k < 2 ^ 32

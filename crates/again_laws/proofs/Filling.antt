@@ -164,10 +164,12 @@ module _ (bound : Bound) (g : Valuation) (judgements : List Judgement) (ss : Lis
     own_now j n e = elim (get_parted numbers (i ∷ []) j n e) [
       | inl old ↦
           let r = h.own j n old in
-          let within = get_within numbers j n old in
-          (r.0, get_front es (made ++ d ∷ []) n r.0 r.1,
-              subst (λ ts. IsOwn ts now j n r.0) (sym trees_are)
-                  (own_later (trees es) (new ++ d.tree ∷ []) numbers (i ∷ []) j n r.0 (omega (arith, within)) r.2))
+          let within = get_within numbers j n old in (
+            r.0,
+            get_front es (made ++ d ∷ []) n r.0 r.1,
+            subst (λ ts. IsOwn ts now j n r.0) (sym trees_are)
+                (own_later (trees es) (new ++ d.tree ∷ []) numbers (i ∷ []) j n r.0 (omega (arith, within)) r.2),
+          )
       | inr new_ ↦ last_case new_.0 new_.1 new_.2
     ]
       where
@@ -248,8 +250,8 @@ module _ (names : List Name) (bound : Bound) (g : Valuation) (judgements : List 
       let last = filled_step f.numbers (fill (trees es) (wanted_by g o)).places s (formula bound g (length f.numbers)) g o in
       let steps_are : steps_in ((f.items ++ map step made) ++ step last ∷ []) ≡ es ++ (made ++ last ∷ []) =
       steps-append (f.items ++ map step made) (step last ∷ [])
-          ∙ ap (λ xs. xs ++ last ∷ []) (steps-append f.items (map step made) ∙ ap (λ xs. es ++ xs) (steps-steps made))
-          ∙ append_assoc es made (last ∷ []) in
+      ∙ ap (λ xs. xs ++ last ∷ []) (steps-append f.items (map step made) ∙ ap (λ xs. es ++ xs) (steps-steps made))
+      ∙ append_assoc es made (last ∷ []) in
       subst (λ xs. IsFilling bound g judgements ss xs (f.numbers ++ (length es + length new) ∷ [])) (sym steps_are) (filling_step bound g judgements ss es f.numbers h s o used at o_at)
 
   one : (f : Filling) (s : SheetStep) → Good f → slice_get ss (length f.numbers) ≡ Some s → Good (fill_item names bound g judgements f (item.Step s))
@@ -281,8 +283,8 @@ module _ (names : List Name) (bound : Bound) (g : Valuation) (judgements : List 
       let sum = left.2 in
       let place : length left.0 + 0 ≡ length f.numbers = omega (arith, sum) in
       let at : slice_get ss (length f.numbers) ≡ Some s =
-          ap (λ xs. slice_get xs (length f.numbers)) left.1
-              ∙ subst (λ n. slice_get (left.0 ++ s ∷ filter_map step_of_item items) n ≡ Some s) place here in
+      ap (λ xs. slice_get xs (length f.numbers)) left.1
+      ∙ subst (λ n. slice_get (left.0 ++ s ∷ filter_map step_of_item items) n ≡ Some s) place here in
       let last : List ℕ = (fill_item names bound g judgements f (item.Step s)).numbers in
       let grown : length last ≡ suc (length f.numbers) = grows f.numbers _ in
       let front = length-append left.0 (s ∷ []) in

@@ -60,8 +60,8 @@ work_same a b e =
 
 seen_by : (seen : List WorkVariable) (x : WorkVariable) (ws : List WorkVariable) (w : WorkVariable) → is_in seen w ≡ false → (x ≡ w) ⊎ Contains ws w
     → (Contains ws w → is_in seen w ≡ false → Contains (not_seen seen ws) w)
-        → (Contains ws w → is_in (x ∷ seen) w ≡ false → Contains (not_seen (x ∷ seen) ws) w) → (t : Bool) → is_in seen x ≡ t
-        → Contains (not_seen seen (x ∷ ws)) w
+    → (Contains ws w → is_in (x ∷ seen) w ≡ false → Contains (not_seen (x ∷ seen) ws) w) → (t : Bool) → is_in seen x ≡ t
+    → Contains (not_seen seen (x ∷ ws)) w
 seen_by seen x ws w off m old new true e = elim m [
   | inl s ↦ absurd (both_ways (is_in seen w) off (ap (is_in seen) (sym s) ∙ e))
   | inr k ↦ rw e (old k off)

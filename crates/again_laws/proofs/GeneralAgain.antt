@@ -129,9 +129,12 @@ module _ (db : Database) (options : Options) (w : Writing) (numbers : List ℕ) 
 
     shown_at : Contains (shown_by u.assertion e.places) v → IsShown
     shown_at o = elim (Contains-append_cases (typed_leaves u.assertion.tree) (shown_leaves e.places u.assertion.hyps) v o) [
-      | inl h ↦ record { number = x.step; tree = u.assertion.tree;
-          at = tree_of db options w numbers ds S x.step e (its db options w numbers ds S x m).at ∙ ap (λ t. Some t) (sym use_.conclusion);
-          inside = h }
+      | inl h ↦ record {
+        number = x.step;
+        tree = u.assertion.tree;
+        at = tree_of db options w numbers ds S x.step e (its db options w numbers ds S x m).at ∙ ap (λ t. Some t) (sym use_.conclusion);
+        inside = h;
+      }
       | inr h ↦ let r = shown_place (trees es) u e.places u.assertion.hyps v use_.places h in record { number = r.0; tree = r.1; at = r.2; inside = r.3 }
     ]
 
@@ -154,15 +157,15 @@ module _ (db : Database) (options : Options) (w : Writing) (numbers : List ℕ) 
   -- two variables with one fresh leaf are one
   same_holder : (x y : Asked) (mx : Contains asks x) (my : Contains asks y) (v q : TypedVariable) (ox : Contains x.assertion.vars v) (oy : Contains y.assertion.vars q)
       → (h : LooseValue db options w numbers ds S x.step (its db options w numbers ds S x mx).use_ v)
-          → V (copy y.step q.sym q.code) ≡ Fresh v.code h.is.number → copy y.step q.sym q.code ≡ copy x.step v.sym v.code
+      → V (copy y.step q.sym q.code) ≡ Fresh v.code h.is.number → copy y.step q.sym q.code ≡ copy x.step v.sym v.code
   same_holder x y mx my v q ox oy h is = elim (shown_or_loose y my q oy) [
     | inl s ↦ absurd (no_fresh_shown y my q oy s v.code h.is.number (subst (Occurs (fresh v.code h.is.number)) (sym is) (occurs_leaf (fresh v.code h.is.number))))
     | inr k ↦
         let parts = fresh_parts q.code v.code k.is.number h.is.number (sym (loose_is y my q oy k) ∙ is) in
         let inside : Occurs (fresh v.code h.is.number) (w.value (copy k.origin q.sym q.code)) =
         subst (λ t. Occurs (fresh v.code h.is.number) t)
-            (sym (k.is.is ∙ ap (λ (c : Typecode). Fresh c k.is.number) parts.0 ∙ ap (λ (n : ℕ). Fresh v.code n) parts.1))
-            (occurs_leaf (fresh v.code h.is.number)) in
+        (sym (k.is.is ∙ ap (λ (c : Typecode). Fresh c k.is.number) parts.0 ∙ ap (λ (n : ℕ). Fresh v.code n) parts.1))
+        (occurs_leaf (fresh v.code h.is.number)) in
         let held = h.is.alone (copy k.origin q.sym q.code) k.on inside in
         let both = copy_parts k.origin h.origin q v held in
         let step_same : y.step ≡ x.step = some_same y.step x.step (sym k.origin_at ∙ ap (slice_get numbers) both.0 ∙ h.origin_at) in
@@ -178,7 +181,7 @@ module _ (db : Database) (options : Options) (w : Writing) (numbers : List ℕ) 
   copy_in : (x : Asked) (v : TypedVariable) → Contains asks x → Contains x.assertion.vars v → Contains copies (x.step, v)
   copy_in x v m o =
       into_flat_map (λ (y : Asked). map (λ z. let q : ℕ × TypedVariable = (y.step, z) in q) y.assertion.vars) asks x (x.step, v) m
-          (contains_map (λ z. let q : ℕ × TypedVariable = (x.step, z) in q) x.assertion.vars v o)
+      (contains_map (λ z. let q : ℕ × TypedVariable = (x.step, z) in q) x.assertion.vars v o)
 
   pub record IsCopy (p : ℕ × TypedVariable) : Type 0 where
     pub asked_ : Asked
@@ -264,11 +267,11 @@ module _ (db : Database) (options : Options) (w : Writing) (numbers : List ℕ) 
           let found = found_or_none (holds q.code h.is.number) copies (x.step, q) (copy_in x q m own) passes_ in
           let other = copy_from found.0 found.2 in
           let value : V (copy found.0.0 found.0.1.sym found.0.1.code) ≡ Fresh q.code h.is.number =
-              (same_tree-Decides (V (copy found.0.0 found.0.1.sym found.0.1.code)) (Fresh q.code h.is.number)).0 found.3 in
+          (same_tree-Decides (V (copy found.0.0 found.0.1.sym found.0.1.code)) (Fresh q.code h.is.number)).0 found.3 in
           let value' : V (copy other.asked_.step found.0.1.sym found.0.1.code) ≡ Fresh q.code h.is.number = ap (λ (n : ℕ). V (copy n found.0.1.sym found.0.1.code)) other.step_is ∙ value in
           let same = same_holder x other.asked_ m other.member q found.0.1 own other.own h value' in
           let found_is : r (fresh q.code h.is.number) ≡ v (copy found.0.0 found.0.1.sym found.0.1.code) =
-              ap (λ o. option_map_or (λ (p : ℕ × TypedVariable). v (copy p.0 p.1.sym p.1.code)) o (Fresh q.code h.is.number)) found.1 in
+          ap (λ o. option_map_or (λ (p : ℕ × TypedVariable). v (copy p.0 p.1.sym p.1.code)) o (Fresh q.code h.is.number)) found.1 in
           sym (
           ap (refine r) is ∙ refine-leaf r (fresh q.code h.is.number) ∙ found_is
           ∙ ap (λ (n : ℕ). v (copy n found.0.1.sym found.0.1.code)) (sym other.step_is) ∙ ap v same
@@ -319,8 +322,12 @@ module _ (db : Database) (options : Options) (w : Writing) (numbers : List ℕ) 
       let is = loose_is x m q own h in
       let alone : fresh q.code h.is.number ≡ y = only y (fresh q.code h.is.number) (subst (λ ys. Contains ys y) (open_leaves-Fresh q.code h.is.number) (subst (Occurs y) is o)) in
       subst (IsNamedLeaf On V) alone
-          (record { holder = copy x.step q.sym q.code; is_unknown = IsUnknown.in_frame x q m own; holds = is;
-              named_least = λ k on z. work_is_no_fresh q.code q.code k h.is.number z })
+      (record {
+        holder = copy x.step q.sym q.code;
+        is_unknown = IsUnknown.in_frame x q m own;
+        holds = is;
+        named_least = λ k on z. work_is_no_fresh q.code q.code k h.is.number z;
+      })
 
   canonical : (z : Unknown) (y : Open) → On z → Occurs y (V z) → IsNamedLeaf On V y
   canonical (named c n) y on o = subst (IsNamedLeaf On V) (only y (work c n) (subst (λ ys. Contains ys y) (open_leaves-Work c n) o)) (named_leaf c n on)

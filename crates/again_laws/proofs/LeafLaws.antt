@@ -51,8 +51,8 @@ module _ (a b : Sym → Typecode → Tree) (p q : Open → Tree) where
   all_same (t ∷ ts) h f g =
       let one = h.0 (λ v o. f v (Contains-append_left (typed_leaves t) (flatten (map typed_leaves ts)) v o)) (λ x o. g x (Contains-append_left (open_leaves t) (flatten (map open_leaves ts)) x o)) in
       let rest =
-          all_same ts h.1 (λ v o. f v (Contains-append_right (typed_leaves t) (flatten (map typed_leaves ts)) v o))
-              (λ x o. g x (Contains-append_right (open_leaves t) (flatten (map open_leaves ts)) x o)) in
+      all_same ts h.1 (λ v o. f v (Contains-append_right (typed_leaves t) (flatten (map typed_leaves ts)) v o))
+      (λ x o. g x (Contains-append_right (open_leaves t) (flatten (map open_leaves ts)) x o)) in
       cc
 
   pub replace-both : (t : Tree) → Same t

@@ -269,7 +269,7 @@ module _ (db : Database) (options : Options) (w : Writing) (numbers : List ℕ) 
   variable_back : (q : TypedVariable) → IsReadVariable db w.bound (accepted_all db options w numbers ds S) g S.the.most_general (all_closed db options w numbers ds S) q → IsReadBack (variable_leaf q)
   variable_back q r =
       read_leaf r.step r.bound_step r.tree r.at r.tree_is (variable_leaf q)
-          (variable_shown db.rows place S.facts.grammar.rows_hold q r.tree (tree_typed r.step r.bound_step r.tree r.at r.tree_is) r.inside)
+      (variable_shown db.rows place S.facts.grammar.rows_hold q r.tree (tree_typed r.step r.bound_step r.tree r.at r.tree_is) r.inside)
 
   held_variable : (u : Unknown) (q : TypedVariable) → OnRead u → Contains (typed_leaves (g u)) q → IsReadBack (variable_leaf q)
   held_variable u q on o = variable_back q (read_variable db w.bound (accepted_all db options w numbers ds S) g S.the.most_general (all_closed db options w numbers ds S) u q on o)
@@ -356,8 +356,8 @@ module _ (db : Database) (options : Options) (w : Writing) (numbers : List ℕ) 
         let r = S.filling.own k.0 i k.1 in
         let same : r.0 ≡ d = some_same r.0 d (sym r.1 ∙ e) in
         let tree : d.tree ≡ formula w.bound g k.0 =
-            ap (λ (x : WrittenStep). x.tree) (sym same ∙ r.2.is)
-                ∙ filled_tree (take k.0 numbers) r.2.more r.2.source (formula w.bound g k.0) g r.2.judgement in
+        ap (λ (x : WrittenStep). x.tree) (sym same ∙ r.2.is)
+        ∙ filled_tree (take k.0 numbers) r.2.more r.2.source (formula w.bound g k.0) g r.2.judgement in
         let b = S.bound_steps k.0 r.2.source r.2.source_at in
         let own = tree_at db options w numbers ds S k.0 b.0 b.1 in
         let whole : d.tree ≡ formula_value g k.0 b.0.tree = tree ∙ ap (formula_value g k.0) own in

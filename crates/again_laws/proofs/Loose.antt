@@ -112,8 +112,8 @@ module _ (i : ℕ) (v : TypedVariable) (t : Tree) (g : Valuation) where
     changed_solves y closed none h = record {
       conclusion =
           changed-instance y.step y.assertion.tree closed.0
-              (λ w o. none w (Contains-append_left (typed_leaves y.assertion.tree) (shown_leaves y.places y.assertion.hyps) w o))
-              ∙ h.conclusion ∙ sym (changed-formula y.step);
+          (λ w o. none w (Contains-append_left (typed_leaves y.assertion.tree) (shown_leaves y.places y.assertion.hyps) w o))
+          ∙ h.conclusion ∙ sym (changed-formula y.step);
       places = places_fit y.step y.places y.assertion.hyps closed.1 (λ w o. none w (Contains-append_right (typed_leaves y.assertion.tree) (shown_leaves y.places y.assertion.hyps) w o)) h.places;
     }
 

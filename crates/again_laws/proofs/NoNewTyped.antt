@@ -145,7 +145,7 @@ module _ (db : Database) (bound : Bound) (accepted : List Asked) (g : Valuation)
     where
       by : (j : ℕ) → Contains (tree_leaves (slice_index_or (b ∷ steps_) j no_step).tree) q
           → ((n : ℕ) → Contains (tree_leaves (slice_index_or steps_ n no_step).tree) q
-              → Contains (flat_map (λ (x : BoundStep). tree_leaves x.tree) steps_) q)
+          → Contains (flat_map (λ (x : BoundStep). tree_leaves x.tree) steps_) q)
           → Contains (flat_map (λ (x : BoundStep). tree_leaves x.tree) (b ∷ steps_)) q
       by zero n rest = Contains-append_left (tree_leaves b.tree) (flat_map (λ (x : BoundStep). tree_leaves x.tree) steps_) q n
       by (suc j) n rest = Contains-append_right (tree_leaves b.tree) (flat_map (λ (x : BoundStep). tree_leaves x.tree) steps_) q (rest j n)

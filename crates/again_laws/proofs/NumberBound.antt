@@ -188,8 +188,8 @@ taken_leaf : (db : Database) (bound : Bound) (ts : List Tree) (j : ℕ) (c : Typ
     → is_in (take j (new_works db bound ts)) (work_variable c n) ≡ true → Contains (flat_map open_leaves ts) (work c n)
 taken_leaf db bound ts j c n h =
     let m =
-        not_seen_in (read_works db bound) (flat_map (works_in db) ts) (work_variable c n)
-            (taken_in j (new_works db bound ts) (work_variable c n) (in_contains (take j (new_works db bound ts)) (work_variable c n) h)) in
+    not_seen_in (read_works db bound) (flat_map (works_in db) ts) (work_variable c n)
+    (taken_in j (new_works db bound ts) (work_variable c n) (in_contains (take j (new_works db bound ts)) (work_variable c n) h)) in
     let r = from_flat_map (works_in db) ts (work_variable c n) m in
     into_flat_map open_leaves ts r.0 (work c n) r.1 (work_in_tree db r.0 c n r.2)
 

@@ -130,7 +130,7 @@ ordered_parts P v w pv pw = by (nat_lt v.0 w.0)
   where
     by : (t : Bool)
         → P (cond t (let p : Pair = record { a = v; b = w } in p) (let p : Pair = record { a = w; b = v } in p)).a
-            × P (cond t (let p : Pair = record { a = v; b = w } in p) (let p : Pair = record { a = w; b = v } in p)).b
+        × P (cond t (let p : Pair = record { a = v; b = w } in p) (let p : Pair = record { a = w; b = v } in p)).b
     by true = (pv, pw)
     by false = (pw, pv)
 
@@ -166,27 +166,27 @@ module _ (v : Sym) where
 find_zip : (vars : List TypedVariable) (values : List Tree) (s : Sym)
     → (option_map_or (λ (p : TypedVariable × Tree). p.1) (find (λ (p : TypedVariable × Tree). p.0.sym.0 == s.0) (zip vars values)) no_tree ≡ no_tree)
     ⊎ ((j : ℕ) × (x : TypedVariable) × (t : Tree) × (slice_get vars j ≡ Some x) × (slice_get values j ≡ Some t)
-        × (option_map_or (λ (p : TypedVariable × Tree). p.1) (find (λ (p : TypedVariable × Tree). p.0.sym.0 == s.0) (zip vars values)) no_tree ≡ t))
+    × (option_map_or (λ (p : TypedVariable × Tree). p.1) (find (λ (p : TypedVariable × Tree). p.0.sym.0 == s.0) (zip vars values)) no_tree ≡ t))
 find_zip [] values s = inl refl
 find_zip (x ∷ vars) [] s = inl refl
 find_zip (x ∷ vars) (t ∷ values) s = by (x.sym.0 == s.0) refl (find_zip vars values s)
   where
     by : (b : Bool) → (x.sym.0 == s.0) ≡ b → ((option_map_or (λ (p : TypedVariable × Tree). p.1) (find (λ (p : TypedVariable × Tree). p.0.sym.0 == s.0) (zip vars values)) no_tree ≡ no_tree)
         ⊎ ((j : ℕ) × (y : TypedVariable) × (u : Tree) × (slice_get vars j ≡ Some y) × (slice_get values j ≡ Some u)
-            × (option_map_or (λ (p : TypedVariable × Tree). p.1) (find (λ (p : TypedVariable × Tree). p.0.sym.0 == s.0) (zip vars values)) no_tree
-                ≡ u)))
+        × (option_map_or (λ (p : TypedVariable × Tree). p.1) (find (λ (p : TypedVariable × Tree). p.0.sym.0 == s.0) (zip vars values)) no_tree
+        ≡ u)))
         → (option_map_or (λ (p : TypedVariable × Tree). p.1) (find (λ (p : TypedVariable × Tree). p.0.sym.0 == s.0) (zip (x ∷ vars) (t ∷ values))) no_tree ≡ no_tree)
         ⊎ ((j : ℕ) × (y : TypedVariable) × (u : Tree) × (slice_get (x ∷ vars) j ≡ Some y) × (slice_get (t ∷ values) j ≡ Some u)
-            × (option_map_or (λ (p : TypedVariable × Tree). p.1)
-                (find (λ (p : TypedVariable × Tree). p.0.sym.0 == s.0) (zip (x ∷ vars) (t ∷ values))) no_tree
-                ≡ u))
+        × (option_map_or (λ (p : TypedVariable × Tree). p.1)
+        (find (λ (p : TypedVariable × Tree). p.0.sym.0 == s.0) (zip (x ∷ vars) (t ∷ values))) no_tree
+        ≡ u))
     by true e rest = inr (0, x, t, refl, refl, rw e refl)
     by false e (inl h) = inl (rw e h)
     by false e (inr h) = inr (suc h.0, h.1, h.2, h.3, h.4, rw e h.5)
 
 module _ (db : Database) (options : Options) (w : Writing) (numbers : List ℕ) (ds : List WrittenStep) (S : Setting db options w numbers ds) (rd : Binds db w.read w.bound)
     (back : (i : ℕ) (t : Tree) → slice_get (trees (written_steps db options w numbers ds S)) i ≡ Some t → (x : Leaf) → Contains (text db.rows t) x
-        → leaf_of db w.bound.place (leaf_name db x) ≡ Some x) where
+    → leaf_of db w.bound.place (leaf_name db x) ≡ Some x) where
   abbrev es : List WrittenStep
   es = written_steps db options w numbers ds S
 
@@ -217,9 +217,9 @@ module _ (db : Database) (options : Options) (w : Writing) (numbers : List ℕ) 
       let one = all_passes (is_variable_at db (place_of db w.read)) p.names token.0 all token.1 in
       let told = symbol_told db token.0 v token.2 in
       let tested : list_any (λ (x : Sym). x.0 == v.0) (db.active_at (place_of db w.read)).variables ≡ true =
-          ap (λ o. option_map_or (λ (z : Sym). list_any (λ (x : Sym). x.0 == z.0) (db.active_at (place_of db w.read)).variables) o false)
-              (sym token.2)
-              ∙ one in
+      ap (λ o. option_map_or (λ (z : Sym). list_any (λ (x : Sym). x.0 == z.0) (db.active_at (place_of db w.read)).variables) o false)
+      (sym token.2)
+      ∙ one in
       record {
         found = symbol_found db S.facts v told.within;
         active = subst (λ n. list_any (λ (x : Sym). x.0 == v.0) (db.active_at n).variables ≡ true) (sym rd.place) tested;
@@ -333,14 +333,14 @@ module _ (db : Database) (options : Options) (w : Writing) (numbers : List ℕ) 
   all_good dv.Given p m = given_good p m
   all_good dv.Add p m =
       elim
-          (Contains-append_cases w.bound.pairs (flat_map (λ (e : WrittenStep). needed_by e.by) es) p
-              ((holds_same (w.bound.pairs ++ flat_map (λ (e : WrittenStep). needed_by e.by) es) p).0 m)) [
-    | inl h ↦ given_good p h
-    | inr h ↦
-        let e = from_flat_map (λ (x : WrittenStep). needed_by x.by) es p h in
-        let k = contains_get es e.0 e.1 in
-        by_good k.0 e.0 k.1 e.0.by refl p e.2
-  ]
+      (Contains-append_cases w.bound.pairs (flat_map (λ (e : WrittenStep). needed_by e.by) es) p
+      ((holds_same (w.bound.pairs ++ flat_map (λ (e : WrittenStep). needed_by e.by) es) p).0 m)) [
+        | inl h ↦ given_good p h
+        | inr h ↦
+            let e = from_flat_map (λ (x : WrittenStep). needed_by x.by) es p h in
+            let k = contains_get es e.0 e.1 in
+            by_good k.0 e.0 k.1 e.0.by refl p e.2
+      ]
 
   in_order : (mode : DvMode) → AreInOrder (pairs_of mode w.bound.pairs es)
   in_order dv.Given = subst AreInOrder (sym rd.pairs) (is_in_order (flat_map (λ (x : PairLine). two_of (filter_map (symbol_of db) x.names)) w.read.pairs))

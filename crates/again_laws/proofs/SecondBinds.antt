@@ -30,10 +30,10 @@ use Rattle.again_laws.proofs.Woven.{Woven}
 
 module _ (db : Database) (options : Options) (w : Writing) (numbers : List ℕ) (ds : List WrittenStep) (S : Setting db options w numbers ds)
     (woven : Woven (λ k s e. slice_get (steps w.read) k ≡ Some s → IsWrittenOf db options w numbers ds S k s e) (IsNewOf db options w numbers ds S) 0
-        (steps w.read) (written_steps db options w numbers ds S))
+    (steps w.read) (written_steps db options w numbers ds S))
     (rd : Binds db w.read w.bound) (inked : (k : ℕ) (s : SheetStep) → slice_get (steps w.read) k ≡ Some s → list_all is_token s.formula ≡ true)
     (back : (i : ℕ) (t : Tree) → slice_get (trees (written_steps db options w numbers ds S)) i ≡ Some t → (x : Leaf) → Contains (text db.rows t) x
-        → leaf_of db w.bound.place (leaf_name db x) ≡ Some x)
+    → leaf_of db w.bound.place (leaf_name db x) ≡ Some x)
     (qed_at : ℕ) (qed : SheetStep) (qed_there : slice_get (steps w.read) qed_at ≡ Some qed) (qed_is : is_qed qed ≡ true) (late : HasNoLateFault db options w) where
   abbrev es : List WrittenStep
   es = written_steps db options w numbers ds S

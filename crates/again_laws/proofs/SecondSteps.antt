@@ -192,7 +192,7 @@ module _ (db : Database) (options : Options) (w : Writing) (numbers : List ℕ) 
           tree = same_written n e seen ∙ ap (name_tree w.names) (ap (λ (x : WrittenStep). x.tree) own.is ∙ filled_tree own.front own.more s (formula w.bound g k) g own.judgement);
           reference =
               λ h. ap (λ (x : WrittenStep). x.reference) (same_all n e seen (hyp_d ∙ h)) ∙ ap (λ (x : WrittenStep). x.reference) own.is
-                  ∙ filled_reference own.front own.more s (formula w.bound g k) g own.judgement;
+              ∙ filled_reference own.front own.more s (formula w.bound g k) g own.judgement;
           places = λ h.
               ap (λ (x : WrittenStep). length x.places) (same_all n e seen (hyp_d ∙ h)) ∙ ap (λ (x : WrittenStep). length x.places) own.is
               ∙ filled_count k s at h own.front own.more (formula w.bound g k) own.judgement own.judgement_at;
@@ -242,8 +242,8 @@ module _ (db : Database) (options : Options) (w : Writing) (numbers : List ℕ) 
         let r = S.filling.own k.0 i k.1 in
         let same : r.0 ≡ d = some_same r.0 d (sym r.1 ∙ e) in
         let tree : d.tree ≡ formula w.bound g k.0 =
-            ap (λ (x : WrittenStep). x.tree) (sym same ∙ r.2.is)
-                ∙ filled_tree (take k.0 numbers) r.2.more r.2.source (formula w.bound g k.0) g r.2.judgement in
+        ap (λ (x : WrittenStep). x.tree) (sym same ∙ r.2.is)
+        ∙ filled_tree (take k.0 numbers) r.2.more r.2.source (formula w.bound g k.0) g r.2.judgement in
         let b = S.bound_steps k.0 r.2.source r.2.source_at in
         ap code_of (tree ∙ ap (formula_value g k.0) (tree_at db options w numbers ds S k.0 b.0 b.1)) ∙ formula_code_by k.0 b.0 b.1 r.2.source.formula b.0.tree refl b.2.tree
     | inr m ↦ wanted_code m.by m.judgement m.judgement_at d.tree m.wanted

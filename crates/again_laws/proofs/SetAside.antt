@@ -167,7 +167,7 @@ module _ (db : Database) (options : Options) (w : Writing) (numbers : List ℕ) 
     lifted-value j b at None is = refl
     lifted-value j b at (Some t) is =
         replace-agree (λ s c. Var s c) (λ s c. refine r (Var s c)) (open_value lifted) (λ x. refine r (open_value g x))
-            (λ s c. sym (replace-Var _ r s c)) t (λ x o. lifted_open x t (no_fresh_read j b t at is) o)
+        (λ s c. sym (replace-Var _ r s c)) t (λ x o. lifted_open x t (no_fresh_read j b t at is) o)
         ∙ sym (replace-replace (λ s c. Var s c) (λ s c. Var s c) r (open_value g) t)
 
     lifted-formula : (j : ℕ) (b : BoundStep) → slice_get bound.steps j ≡ Some b → formula bound lifted j ≡ refine r (formula bound g j)
@@ -270,9 +270,9 @@ module _ (db : Database) (options : Options) (w : Writing) (numbers : List ℕ) 
     lifted_typed : (z : Unknown) → OnRead z → IsTypedAs db.rows place (unknown_code db z) (refine r (g z))
     lifted_typed z on =
         let t =
-            replaced_on db.rows place (λ s c. Var s c) r (g z)
-                (λ q o. record { code = code-Var q.sym q.code; typed = typed-Var db.rows place q.sym q.code }) (leaf_typed z on)
-                (S.the.most_general.is_valuation.typed z on) in
+        replaced_on db.rows place (λ s c. Var s c) r (g z)
+        (λ q o. record { code = code-Var q.sym q.code; typed = typed-Var db.rows place q.sym q.code }) (leaf_typed z on)
+        (S.the.most_general.is_valuation.typed z on) in
         record { code = t.code ∙ S.the.most_general.is_valuation.code z on; typed = t.typed }
 
     -- ---- those accepted before, and the step

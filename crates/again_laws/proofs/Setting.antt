@@ -125,9 +125,9 @@ module _ (db : Database) (options : Options) (w : Writing) where
       let rest = steps_searched items others h.1 in
       let f = h.0 in
       subst
-          (λ (x : WrittenItem). AllZip (IsSearched db w.bound.place options.dv w.bound.pairs (steps_in (after_naming db options w)))
-              (e ∷ steps_in items) (steps_in (x ∷ others)))
-          (sym f.1) (f.2, rest)
+      (λ (x : WrittenItem). AllZip (IsSearched db w.bound.place options.dv w.bound.pairs (steps_in (after_naming db options w)))
+      (e ∷ steps_in items) (steps_in (x ∷ others)))
+      (sym f.1) (f.2, rest)
 
 abbrev HasTreeAt : Database → ℕ → List Name → BoundStep → Type 0
 HasTreeAt db p f b = HasTree db p f b.tree

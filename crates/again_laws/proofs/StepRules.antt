@@ -77,7 +77,7 @@ bound_rule db s sound k code rule e i t at = elim (cases_Bool (rule i t)) [
 
 module _ (db : Database) (options : Options) (w : Writing) (numbers : List ℕ) (ds : List WrittenStep) (S : Setting db options w numbers ds)
     (woven : Woven (λ k s e. slice_get (steps w.read) k ≡ Some s → IsWrittenOf db options w numbers ds S k s e) (IsNewOf db options w numbers ds S) 0
-        (steps w.read) (written_steps db options w numbers ds S))
+    (steps w.read) (written_steps db options w numbers ds S))
     (rd : Binds db w.read w.bound) (inked : (k : ℕ) (s : SheetStep) → slice_get (steps w.read) k ≡ Some s → list_all is_token s.formula ≡ true) where
   abbrev es : List WrittenStep
   es = written_steps db options w numbers ds S
@@ -107,7 +107,7 @@ module _ (db : Database) (options : Options) (w : Writing) (numbers : List ℕ) 
     pub before : hyps_before ws i ≡ hyps_before w.read number
     pub labels : (l : Name)
         → list_any (λ (u : SheetStep). u.hyp && has_label u.reference l) (take i (steps ws))
-            ≡ list_any (λ (u : SheetStep). u.hyp && has_label u.reference l) (take number (steps w.read))
+        ≡ list_any (λ (u : SheetStep). u.hyp && has_label u.reference l) (take number (steps w.read))
 
   -- a part of the steps, each with what it was
   abbrev Held : ℕ → SheetStep → WrittenStep → Type 0
@@ -151,8 +151,8 @@ module _ (db : Database) (options : Options) (w : Writing) (numbers : List ℕ) 
         before =
             ap (λ xs. length (filter (λ (x : SheetStep). x.hyp) xs)) taken
             ∙ ap (λ (xs : List SheetStep). length xs)
-                (filter-map_ (written_step db) (λ (x : WrittenStep). x.hyp) (λ (x : SheetStep). x.hyp) (λ x. refl) (take i es))
-                ∙ length-map_ (written_step db) (filter (λ (x : WrittenStep). x.hyp) (take i es))
+            (filter-map_ (written_step db) (λ (x : WrittenStep). x.hyp) (λ (x : SheetStep). x.hyp) (λ x. refl) (take i es))
+            ∙ length-map_ (written_step db) (filter (λ (x : WrittenStep). x.hyp) (take i es))
             ∙ woven_count Held New (λ (s : SheetStep). s.hyp) (λ (x : WrittenStep). x.hyp) hyp_same (λ x n. n.hyp) 0 (take r.0 (steps w.read)) (take i es) r.4;
         labels = λ l.
             ap (list_any (λ (u : SheetStep). u.hyp && has_label u.reference l)) taken
@@ -230,7 +230,7 @@ module _ (db : Database) (options : Options) (w : Writing) (numbers : List ℕ) 
           let both = and_parts (has_label f.source.reference hyp.name) (same_tokens f.source.formula (names_of db hyp.formula)) (from_not (is_hyp db hyp f.source) q) in
           let label : has_label e.reference hyp.name ≡ true = ap (λ r. has_label r hyp.name) (f.own.reference is) ∙ both.0 in
           let tokens : same_tokens (formula_tokens db e.tree) (names_of db hyp.formula) ≡ true =
-              ap (λ ts. same_tokens ts (names_of db hyp.formula)) (stays i e f asked_of hyp.formula both.1) ∙ both.1 in
+          ap (λ ts. same_tokens ts (names_of db hyp.formula)) (stays i e f asked_of hyp.formula both.1) ∙ both.1 in
           rw (label, tokens) refl
 
   qed_part : (i : ℕ) (e : WrittenStep) (f : IsFrom i e) (n : ℕ) (b : Bool) → is_qed f.source ≡ b
@@ -273,31 +273,31 @@ module _ (db : Database) (options : Options) (w : Writing) (numbers : List ℕ) 
   taken_own i e f =
       let rule = read_rule 1 63 _ refl f.number f.source f.at in
       ap (λ b. is_new db w.read && b && nat_le (length (given_hyps db w.read)) (hyps_before ws i)
-          && option_map_or (λ l. is_some (label_of db l) || bytes_eq l w.read.theorem) e.reference false) f.own.hyp
+      && option_map_or (λ l. is_some (label_of db l) || bytes_eq l w.read.theorem) e.reference false) f.own.hyp
       ∙ ap (λ n. is_new db w.read && f.source.hyp && nat_le (length (given_hyps db w.read)) n && option_map_or (λ l. is_some (label_of db l) || bytes_eq l w.read.theorem) e.reference false) f.before
       ∙ by f.source.hyp refl rule
     where
       by : (b : Bool) → f.source.hyp ≡ b
           → (is_new db w.read && b && nat_le (length (given_hyps db w.read)) (hyps_before w.read f.number)
-              && option_map_or (λ l. is_some (label_of db l) || bytes_eq l w.read.theorem) f.source.reference false)
-              ≡ false
+          && option_map_or (λ l. is_some (label_of db l) || bytes_eq l w.read.theorem) f.source.reference false)
+          ≡ false
           → (is_new db w.read && b && nat_le (length (given_hyps db w.read)) (hyps_before w.read f.number)
-              && option_map_or (λ l. is_some (label_of db l) || bytes_eq l w.read.theorem) e.reference false)
-              ≡ false
+          && option_map_or (λ l. is_some (label_of db l) || bytes_eq l w.read.theorem) e.reference false)
+          ≡ false
       by true is q =
           ap (λ r. is_new db w.read && true && nat_le (length (given_hyps db w.read)) (hyps_before w.read f.number)
-              && option_map_or (λ l. is_some (label_of db l) || bytes_eq l w.read.theorem) r false) (f.own.reference is) ∙ q
+          && option_map_or (λ l. is_some (label_of db l) || bytes_eq l w.read.theorem) r false) (f.own.reference is) ∙ q
       by false is q =
           ap (λ b. b && nat_le (length (given_hyps db w.read)) (hyps_before w.read f.number)
-              && option_map_or (λ l. is_some (label_of db l) || bytes_eq l w.read.theorem) e.reference false) (and_false (is_new db w.read))
+          && option_map_or (λ l. is_some (label_of db l) || bytes_eq l w.read.theorem) e.reference false) (and_false (is_new db w.read))
 
   taken_new : (i : ℕ) (e : WrittenStep) → New e → hyp_label_taken db ws i (written_step db e) ≡ false
   taken_new i e n =
       ap (λ b. is_new db w.read && b && nat_le (length (given_hyps db w.read)) (hyps_before ws i) && option_map_or (λ l. is_some (label_of db l) || bytes_eq l w.read.theorem) e.reference false) n.hyp
       ∙ ap
-          (λ b. b && nat_le (length (given_hyps db w.read)) (hyps_before ws i)
-              && option_map_or (λ l. is_some (label_of db l) || bytes_eq l w.read.theorem) e.reference false)
-          (and_false (is_new db w.read))
+      (λ b. b && nat_le (length (given_hyps db w.read)) (hyps_before ws i)
+      && option_map_or (λ l. is_some (label_of db l) || bytes_eq l w.read.theorem) e.reference false)
+      (and_false (is_new db w.read))
 
   -- ---- 64 and 72
 
@@ -311,12 +311,12 @@ module _ (db : Database) (options : Options) (w : Writing) (numbers : List ℕ) 
   twice_own : (i : ℕ) (e : WrittenStep) → IsFrom i e → hyp_label_twice ws i (written_step db e) ≡ false
   twice_own i e f =
       ap (λ b. b
-          && option_map_or (λ l. list_any (λ (u : SheetStep). u.hyp && has_label u.reference l) (take i (steps ws))) e.reference false) f.own.hyp
-          ∙ by f.source.hyp refl (read_rule 7 72 _ refl f.number f.source f.at)
+      && option_map_or (λ l. list_any (λ (u : SheetStep). u.hyp && has_label u.reference l) (take i (steps ws))) e.reference false) f.own.hyp
+      ∙ by f.source.hyp refl (read_rule 7 72 _ refl f.number f.source f.at)
     where
       same : (o : Option Name)
           → option_map_or (λ l. list_any (λ (u : SheetStep). u.hyp && has_label u.reference l) (take i (steps ws))) o false
-              ≡ option_map_or (λ l. list_any (λ (u : SheetStep). u.hyp && has_label u.reference l) (take f.number (steps w.read))) o false
+          ≡ option_map_or (λ l. list_any (λ (u : SheetStep). u.hyp && has_label u.reference l) (take f.number (steps w.read))) o false
       same None = refl
       same (Some l) = f.labels l
 
@@ -330,7 +330,7 @@ module _ (db : Database) (options : Options) (w : Writing) (numbers : List ℕ) 
 
   module _ (provable_known : is_known db w.bound.place db.provable ≡ true)
       (back : (i : ℕ) (t : Tree) → slice_get (trees es) i ≡ Some t → (x : Leaf) → Contains (text db.rows t) x
-          → leaf_of db w.bound.place (leaf_name db x) ≡ Some x)
+      → leaf_of db w.bound.place (leaf_name db x) ≡ Some x)
       (short : (i : ℕ) (e : WrittenStep) → slice_get es i ≡ Some e → most_formula_tokens < length (formula_tokens db e.tree) → ⊥) where
     names_known : (xs : List Leaf) → ((x : Leaf) → Contains xs x → leaf_of db w.bound.place (leaf_name db x) ≡ Some x) → list_all (is_known db w.bound.place) (map (leaf_name db) xs) ≡ true
     names_known [] h = refl
@@ -391,13 +391,15 @@ module _ (db : Database) (options : Options) (w : Writing) (numbers : List ℕ) 
                 (λ i e at. wants_false e),
                 (
                   long_false,
-                  (both (hyp_label_twice ws)
-                      (λ i e n. ap
-                          (λ b. b
-                              && option_map_or
-                                  (λ l. list_any (λ (u : SheetStep). u.hyp && has_label u.reference l)
-                                      (take i (steps ws))) e.reference false) n.hyp) twice_own,
-                      tt),
+                  (
+                    both (hyp_label_twice ws)
+                        (λ i e n. ap
+                        (λ b. b
+                        && option_map_or
+                        (λ l. list_any (λ (u : SheetStep). u.hyp && has_label u.reference l)
+                        (take i (steps ws))) e.reference false) n.hyp) twice_own,
+                    tt,
+                  ),
                 ),
               ),
             ),

@@ -47,12 +47,18 @@ slot_source : (texts : List (List Leaf)) (x : Leaf) → ((s : Sym) → x ≡ lea
 slot_source texts x no_const [] m = absurd (nothing x m)
 slot_source texts x no_const (item.Const s ∷ items) m =
     elim
-        (Contains-append_cases (leaf.Const s ∷ []) (items_text texts items) x m) [ inl h ↦ absurd
-            (no_const s (sym (only x (leaf.Const s) h))) | inr h ↦ slot_source texts x no_const items h ]
+    (Contains-append_cases (leaf.Const s ∷ []) (items_text texts items) x m) [
+      | inl h ↦ absurd
+          (no_const s (sym (only x (leaf.Const s) h)))
+      | inr h ↦ slot_source texts x no_const items h
+    ]
 slot_source texts x no_const (item.Slot j ∷ items) m =
     elim
-        (Contains-append_cases (slice_index_or texts j []) (items_text texts items) x m) [ inl h ↦
-            (j, h) | inr h ↦ slot_source texts x no_const items h ]
+    (Contains-append_cases (slice_index_or texts j []) (items_text texts items) x m) [
+      | inl h ↦
+          (j, h)
+      | inr h ↦ slot_source texts x no_const items h
+    ]
 
 -- ---- leaves of a kind: a list of them for each tree, and what they are in a text
 

@@ -132,7 +132,7 @@ module _ (db : Database) (options : Options) (w : Writing) (numbers : List ℕ) 
   by_tree k b at tokens filled provable known declared (Some t) h =
       let closed : IsClosedTree t = closed_by t h.parses.typed h.parses.named h.parses.written in
       ap (λ u. formula_tokens db (name_tree w.names u)) (stays_valued w.value t closed) ∙ ap (formula_tokens db) (named_stays t closed)
-          ∙ tokens_back db place tokens t filled provable known h.parses.written
+      ∙ tokens_back db place tokens t filled provable known h.parses.written
     where
       closed_by : (u : Tree) → IsTyped db.rows place u → HasNoFresh u → text db.rows u ≡ expression_of db place tokens → IsClosedTree u
       closed_by u typed_ named_ e (work c n) o = no_work tokens declared u e c n (work_shown db.rows place S.facts.grammar.rows_hold c n u typed_ o)

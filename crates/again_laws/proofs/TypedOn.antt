@@ -34,11 +34,11 @@ module _ (rows : List Production) (before : ℕ) (at_var : Sym → Typecode → 
   children_kept [] h a b p = (tt, refl)
   children_kept (t ∷ ts) h a b p =
       let first =
-          h.0 (λ v o. a v (Contains-append_left (typed_leaves t) (flatten (map typed_leaves ts)) v o))
-              (λ x o. b x (Contains-append_left (open_leaves t) (flatten (map open_leaves ts)) x o)) p.0 in
+      h.0 (λ v o. a v (Contains-append_left (typed_leaves t) (flatten (map typed_leaves ts)) v o))
+      (λ x o. b x (Contains-append_left (open_leaves t) (flatten (map open_leaves ts)) x o)) p.0 in
       let rest =
-          children_kept ts h.1 (λ v o. a v (Contains-append_right (typed_leaves t) (flatten (map typed_leaves ts)) v o))
-              (λ x o. b x (Contains-append_right (open_leaves t) (flatten (map open_leaves ts)) x o)) p.1 in
+      children_kept ts h.1 (λ v o. a v (Contains-append_right (typed_leaves t) (flatten (map typed_leaves ts)) v o))
+      (λ x o. b x (Contains-append_right (open_leaves t) (flatten (map open_leaves ts)) x o)) p.1 in
       let code = first.code in
       let codes = rest.1 in
       ((first.typed, rest.0), cc)

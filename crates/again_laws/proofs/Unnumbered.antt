@@ -76,7 +76,7 @@ find-map_ f p q h (x ∷ xs) = by (p x) refl (find-map_ f p q h xs)
     by : (t : Bool) → p x ≡ t
         → ((find q (map f xs) ≡ None) × (find p xs ≡ None) ⊎ ((y : _) × (find p xs ≡ Some y) × (find q (map f xs) ≡ Some (f y))))
         → (find q (map f (x ∷ xs)) ≡ None) × (find p (x ∷ xs) ≡ None)
-            ⊎ ((y : _) × (find p (x ∷ xs) ≡ Some y) × (find q (map f (x ∷ xs)) ≡ Some (f y)))
+        ⊎ ((y : _) × (find p (x ∷ xs) ≡ Some y) × (find q (map f (x ∷ xs)) ≡ Some (f y)))
     by true e rest = let there : q (f x) ≡ true = h x ∙ e in inr (x, rw e refl, rw there refl)
     by false e rest = let there : q (f x) ≡ false = h x ∙ e in rw (e, there) rest
 
@@ -91,8 +91,8 @@ module _ (db : Database) (s : Sheet) where
   before_are i =
       ap (λ xs. length (filter (λ (x : SheetStep). x.hyp) (take i xs))) steps_are ∙ ap (λ xs. length (filter (λ (x : SheetStep). x.hyp) xs)) (take-map plain i (steps s))
       ∙ ap (λ (xs : List SheetStep). length xs)
-          (filter-map_ plain (λ (x : SheetStep). x.hyp) (λ (x : SheetStep). x.hyp) (λ x. refl) (take i (steps s)))
-          ∙ length-map_ plain (filter (λ (x : SheetStep). x.hyp) (take i (steps s)))
+      (filter-map_ plain (λ (x : SheetStep). x.hyp) (λ (x : SheetStep). x.hyp) (λ x. refl) (take i (steps s)))
+      ∙ length-map_ plain (filter (λ (x : SheetStep). x.hyp) (take i (steps s)))
 
   differ_are : (i : ℕ) (x : SheetStep) → hyps_differ db t i (plain x) ≡ hyps_differ db s i x
   differ_are i x =
@@ -108,7 +108,7 @@ module _ (db : Database) (s : Sheet) where
       one : (l : Name) → list_any (λ (u : SheetStep). u.hyp && has_label u.reference l) (take i (steps t)) ≡ list_any (λ (u : SheetStep). u.hyp && has_label u.reference l) (take i (steps s))
       one l =
           ap (λ xs. list_any (λ (u : SheetStep). u.hyp && has_label u.reference l) (take i xs)) steps_are
-              ∙ ap (list_any (λ (u : SheetStep). u.hyp && has_label u.reference l)) (take-map plain i (steps s))
+          ∙ ap (list_any (λ (u : SheetStep). u.hyp && has_label u.reference l)) (take-map plain i (steps s))
           ∙ any-map_ plain (λ (u : SheetStep). u.hyp && has_label u.reference l) (λ (u : SheetStep). u.hyp && has_label u.reference l) (λ u. refl) (take i (steps s))
 
       by : (o : Option Name) → (x.hyp && option_map_or (λ l. list_any (λ (u : SheetStep). u.hyp && has_label u.reference l) (take i (steps t))) o false)
@@ -194,7 +194,7 @@ module _ (db : Database) (s : Sheet) where
 
   pairs-same : (ps : List PairLine)
       → flat_map (λ (p : PairLine). two_of (filter_map (symbol_of db) p.names)) (map unnumbered_pairs ps)
-          ≡ flat_map (λ (p : PairLine). two_of (filter_map (symbol_of db) p.names)) ps
+      ≡ flat_map (λ (p : PairLine). two_of (filter_map (symbol_of db) p.names)) ps
   pairs-same [] = refl
   pairs-same (p ∷ ps) = ap (λ xs. two_of (filter_map (symbol_of db) p.names) ++ xs) (pairs-same ps)
 
@@ -205,7 +205,7 @@ module _ (db : Database) (s : Sheet) where
   hyps_are =
       ap (λ xs. (db.active_at (place_of db s)).hyps ++ map (new_hyp db) (drop (length (given_hyps db s)) (filter (λ (x : SheetStep). x.hyp) xs))) steps_are
       ∙ ap (λ xs. (db.active_at (place_of db s)).hyps ++ map (new_hyp db) (drop (length (given_hyps db s)) xs))
-          (filter-map_ plain (λ (x : SheetStep). x.hyp) (λ (x : SheetStep). x.hyp) (λ x. refl) (steps s))
+      (filter-map_ plain (λ (x : SheetStep). x.hyp) (λ (x : SheetStep). x.hyp) (λ x. refl) (steps s))
       ∙ ap (λ xs. (db.active_at (place_of db s)).hyps ++ map (new_hyp db) xs) (drop-map plain (length (given_hyps db s)) (filter (λ (x : SheetStep). x.hyp) (steps s)))
       ∙ ap (λ xs. (db.active_at (place_of db s)).hyps ++ xs) (map-map (new_hyp db) plain (drop (length (given_hyps db s)) (filter (λ (x : SheetStep). x.hyp) (steps s))))
 
@@ -214,7 +214,7 @@ module _ (db : Database) (s : Sheet) where
     where
       by : (find is_qed (map plain (steps s)) ≡ None) × (find is_qed (steps s) ≡ None) ⊎ ((x : SheetStep) × (find is_qed (steps s) ≡ Some x) × (find is_qed (map plain (steps s)) ≡ Some (plain x)))
           → option_map_or (λ (x : SheetStep). symbols_from db x.formula) (find is_qed (map plain (steps s))) []
-              ≡ option_map_or (λ (x : SheetStep). symbols_from db x.formula) (find is_qed (steps s)) []
+          ≡ option_map_or (λ (x : SheetStep). symbols_from db x.formula) (find is_qed (steps s)) []
       by (inl h) = let one = h.0 in let two = h.1 in rw (one, two) refl
       by (inr h) = let one = h.1 in let two = h.2 in rw (one, two) refl
 

@@ -193,7 +193,7 @@ module _ (db : Database) (options : Options) (w : Writing) (numbers : List ℕ) 
           usable = fit.is_usable;
           has_places =
               (let le : length c.places ≤ length u.assertion.hyps = omega (arith, count) in
-                  let r : nat_le (length c.places) (length u.assertion.hyps) ≡ true = grind (arith, nat_tests, le) in r);
+              let r : nat_le (length c.places) (length u.assertion.hyps) ≡ true = grind (arith, nat_tests, le) in r);
         }
 
     found_codes : (v : TypedVariable) → Contains u.assertion.vars v → code_of (value_of u v.sym) ≡ v.code
@@ -216,7 +216,7 @@ module _ (db : Database) (options : Options) (w : Writing) (numbers : List ℕ) 
     found_shown v (inl o) = Contains-append_left (typed_leaves u.assertion.tree) (shown_leaves c.places u.assertion.hyps) v o
     found_shown v (inr o) =
         Contains-append_right (typed_leaves u.assertion.tree) (shown_leaves c.places u.assertion.hyps) v
-            (given_shown named_steps u v u.assertion.hyps c.places fit.hyps o.0 o.1 o.2 o.3)
+        (given_shown named_steps u v u.assertion.hyps c.places fit.hyps o.0 o.1 o.2 o.3)
 
     pub found_use : IsUse i step_found u
     found_use = record {

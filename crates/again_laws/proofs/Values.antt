@@ -32,8 +32,8 @@ value_found (w ∷ vars) (x ∷ values) differ zero v t at is =
     rw test (some_same x t is)
 value_found (w ∷ vars) (x ∷ values) differ (suc j) v t at is =
     later_by w vars x values j v t differ at
-        (value_found vars values (λ a b p q f h s. let r : suc a ≡ suc b = differ (suc a) (suc b) p q f h s in omega (arith, r)) j v t at is)
-        (w.sym.0 == v.sym.0) refl
+    (value_found vars values (λ a b p q f h s. let r : suc a ≡ suc b = differ (suc a) (suc b) p q f h s in omega (arith, r)) j v t at is)
+    (w.sym.0 == v.sym.0) refl
 
 -- the value of the variable at a place is the tree there
 pub value_at : (u : Use) → VariablesDiffer u.assertion.vars → (j : ℕ) (v : TypedVariable) (t : Tree) → slice_get u.assertion.vars j ≡ Some v → slice_get u.values j ≡ Some t → value_of u v.sym ≡ t

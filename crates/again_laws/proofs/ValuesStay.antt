@@ -110,8 +110,8 @@ module _ (db : Database) (options : Options) (w : Writing) (numbers : List ℕ) 
   second_formula v k t at =
       let e = get_mapped (λ (x : WrittenStep). x.tree) es k t at in
       let tree : (slice_index_or second_bound.steps k no_step).tree ≡ Some t =
-          ap (λ (b : BoundStep). b.tree) (index_from_get second_bound.steps k (bound_step db options w e.0) no_step (step_again k e.0 e.1))
-              ∙ ap (λ x. Some x) e.2 in
+      ap (λ (b : BoundStep). b.tree) (index_from_get second_bound.steps k (bound_step db options w e.0) no_step (step_again k e.0 e.1))
+      ∙ ap (λ x. Some x) e.2 in
       ap (formula_value v k) tree
 
   pub copy_value : (i : ℕ) (e : WrittenStep) (u : Use) → slice_get es i ≡ Some e → e.by ≡ Some u → (s : Sym) (c : Typecode) → second_value (copy i s c) ≡ value_of u s

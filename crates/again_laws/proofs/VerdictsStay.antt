@@ -73,7 +73,7 @@ orders_written front b c a e = ap (λ t. cond t (orders (length c.places) c.plac
     by : (t : Bool) → cond t (orders (length c.places) c.places) (c.places ∷ []) ≡ map (map (written_place front)) (cond t (orders (length b.places) b.places) (b.places ∷ []))
     by true =
         ap (λ ps. orders (length ps) ps) e ∙ ap (λ n. orders n (map (written_place front) b.places)) (length-map b.places (written_place front))
-            ∙ orders-map (written_place front) (length b.places) b.places
+        ∙ orders-map (written_place front) (length b.places) b.places
     by false = ap (λ ps. ps ∷ []) e
 
 module _ (db : Database) (options : Options) (w : Writing) (numbers : List ℕ) (ds : List WrittenStep) (S : Setting db options w numbers ds) where
@@ -132,7 +132,7 @@ module _ (db : Database) (options : Options) (w : Writing) (numbers : List ℕ) 
           is_valuation = record { code = λ z on. V.code z (more_known z on); typed = λ z on. V.typed z (more_known z on) };
           solves =
               all_from (Solves wb (second_value db options w numbers ds S)) (before ++ this ∷ [])
-                  (λ y m. all_of (Solves wb (second_value db options w numbers ds S)) asks y (all_solve db options w numbers ds S) (asked_in y m));
+              (λ y m. all_of (Solves wb (second_value db options w numbers ds S)) asks y (all_solve db options w numbers ds S) (asked_in y m));
         }
 
     used_judgement : IsJudgement db wb before i (bound_step db options w e) (standing db wb.place (bound_step db options w e)) (judgement_by i e e.by)
@@ -202,9 +202,9 @@ module _ (db : Database) (options : Options) (w : Writing) (numbers : List ℕ) 
   judged_by i e at (IsWritten.standing h) = standing_judgement i e h (accepted_in (take i J))
   judged_by i e at (IsWritten.made name t is) =
       subst
-          (λ (x : WrittenStep). IsJudgement db wb (accepted_in (take i J)) i (bound_step db options w x)
-              (standing db wb.place (bound_step db options w x)) (judgement_by i x x.by))
-          (sym is) IsJudgement.other
+      (λ (x : WrittenStep). IsJudgement db wb (accepted_in (take i J)) i (bound_step db options w x)
+      (standing db wb.place (bound_step db options w x)) (judgement_by i x x.by))
+      (sym is) IsJudgement.other
 
   each : (i : ℕ) (s : BoundStep) (o : Judgement) → slice_get wb.steps i ≡ Some s → slice_get J i ≡ Some o → IsJudgement db wb (accepted_in (take i J)) i s (standing db wb.place s) o
   each i s o s_at o_at =

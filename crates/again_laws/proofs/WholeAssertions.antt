@@ -112,8 +112,8 @@ module _ (db : Database) (facts : IsDatabase db) (f : Frame) where
         let code : float_of v.sym f.hyps ≡ Some v.code = typed_found (typed_variables f.hyps) differ k v e in
         let is : own_leaf db f v.sym ≡ Some (variable_leaf v) = rw (plain, code) refl in
         variable_told db.rows v t
-            (subst (λ xs. Contains xs (variable_leaf v)) (own.expression ∙ sym read.tree.parses.written)
-                (into_filter_map (own_leaf db f) (drop 1 formula) v.sym (variable_leaf v) m is))
+        (subst (λ xs. Contains xs (variable_leaf v)) (own.expression ∙ sym read.tree.parses.written)
+        (into_filter_map (own_leaf db f) (drop 1 formula) v.sym (variable_leaf v) m is))
 
   all_closed : (hs : List Hyp) (ts : List Tree) → AllByRecursion (λ (h : Hyp). IsOwn db f h.formula) hs
       → AllZip (λ (h : Hyp) (t : Tree). IsRead db f.at h.formula t) hs ts → AllByRecursion IsClosedTree ts

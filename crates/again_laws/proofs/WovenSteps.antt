@@ -89,8 +89,8 @@ module _ (names : List Name) (bound : Bound) (g : Valuation) (judgements : List 
     steps_are : steps_in ((f.items ++ map step made) ++ step last ∷ []) ≡ es ++ (made ++ last ∷ [])
     steps_are =
         steps-append (f.items ++ map step made) (step last ∷ [])
-            ∙ ap (λ xs. xs ++ last ∷ []) (steps-append f.items (map step made) ∙ ap (λ xs. es ++ xs) (steps-steps made))
-            ∙ append_assoc es made (last ∷ [])
+        ∙ ap (λ xs. xs ++ last ∷ []) (steps-append f.items (map step made) ∙ ap (λ xs. es ++ xs) (steps-steps made))
+        ∙ append_assoc es made (last ∷ [])
 
     more_woven : Weave (front ++ s ∷ []) (steps_in ((f.items ++ map step made) ++ step last ∷ []))
     more_woven = subst (Weave (front ++ s ∷ [])) (sym steps_are) (woven-append IsOwnStep IsNewStep 0 front (s ∷ []) es (made ++ last ∷ []) h added)

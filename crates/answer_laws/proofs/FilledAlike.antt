@@ -127,8 +127,8 @@ module _ (F B : Tree → Tree) (Q : Tree → Type 0) (good_back : (t : Tree) →
         let early = good_trees Q f.items good in
         let earlier : trees (steps_in (moved f.items)) ≡ map F (trees (steps_in f.items)) = ap trees (steps-over (move_step F) f.items) ∙ trees-moved F (steps_in f.items) in
         let used_same : used (moved f.items) ≡ used f.items =
-            ap (λ es. names ++ map (λ (e : WrittenStep). e.name) es) (steps-over (move_step F) f.items)
-                ∙ ap (λ ns. names ++ ns) (names-moved F (steps_in f.items)) in
+        ap (λ es. names ++ map (λ (e : WrittenStep). e.name) es) (steps-over (move_step F) f.items)
+        ∙ ap (λ ns. names ++ ns) (names-moved F (steps_in f.items)) in
         let filled = fill (trees (steps_in f.items)) (wanted_by g o) in
         let filled_same : fill (trees (steps_in (moved f.items))) (wanted_by h o) ≡ record { made = map F filled.made; places = filled.places } =
         ap (λ es. fill es (wanted_by h o)) earlier ∙ ap (fill (map F (trees (steps_in f.items)))) (sym m.wanted)

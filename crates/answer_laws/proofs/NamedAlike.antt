@@ -135,11 +135,16 @@ module _ (db : Database) (bound : Bound) (p q : Mark → Option WorkVariable) wh
           | inl s ↦
               let c = common S h.seen v s unread_v in
               let same : v ≡ w = sharp v w (sym (at q c.0 x v (once_p c.0 x v c.1 here unread_v c.2 e) c.3) ∙ f) in
-              let seen_w : is_in S w ≡ true = subst (λ u. is_in S u ≡ true) same s in
-              (e ∙ ap Some same ∙ sym f,
-                  more S T
-                      (record { seen = h.seen; within = rest; first_way = one ∙ ap (λ ws. T ++ ws) (seen_one S v (filter_map p xs) s);
-                          second_way = two ∙ ap (λ ws. T ++ ws) (seen_one S w (filter_map q xs) seen_w) }))
+              let seen_w : is_in S w ≡ true = subst (λ u. is_in S u ≡ true) same s in (
+                e ∙ ap Some same ∙ sym f,
+                more S T
+                    (record {
+                      seen = h.seen;
+                      within = rest;
+                      first_way = one ∙ ap (λ ws. T ++ ws) (seen_one S v (filter_map p xs) s);
+                      second_way = two ∙ ap (λ ws. T ++ ws) (seen_one S w (filter_map q xs) seen_w);
+                    }),
+              )
           | inr n ↦ elim (cases_Bool (is_in S w)) [
             | inl s ↦
                 let c = common S h.seen w s unread_w in

@@ -203,7 +203,7 @@ module _ (db : Database) (options : Options) (w : Writing) where
     at_next f i e a =
         let one = length-append f.numbers (i ∷ []) in
         let two : length (steps_in (f.items ++ step (step_again e) ∷ [])) ≡ length (steps_in f.items) + 1 =
-            ap length (filter_map-append step_of f.items (step (step_again e) ∷ [])) ∙ length-append (steps_in f.items) (step_again e ∷ []) in
+        ap length (filter_map-append step_of f.items (step (step_again e) ∷ [])) ∙ length-append (steps_in f.items) (step_again e ∷ []) in
         let count = a.count in
         let written = a.written in
         record { count = omega (arith, one, count); written = omega (arith, two, written); numbers = numbers_next f.numbers i a.count a.numbers }

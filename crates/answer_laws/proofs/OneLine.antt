@@ -266,4 +266,4 @@ hyps_lines db s es e h active =
     all_by-append (λ (x : Hyp). IsLine x.name) (db.active_at (place_of db s)).hyps _ active
     (all_map (λ (x : Hyp). IsLine x.name) (new_hyp db) (drop (length (given_hyps db s)) (filter (λ (t : SheetStep). t.hyp) (steps s)))
     (all_drop (λ (t : SheetStep). IsLine (new_hyp db t).name) (length (given_hyps db s)) (filter (λ (t : SheetStep). t.hyp) (steps s))
-        (all_filter (λ (t : SheetStep). IsLine (new_hyp db t).name) (λ (t : SheetStep). t.hyp) (steps s) new)))
+    (all_filter (λ (t : SheetStep). IsLine (new_hyp db t).name) (λ (t : SheetStep). t.hyp) (steps s) new)))

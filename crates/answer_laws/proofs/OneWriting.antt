@@ -172,8 +172,8 @@ module _ (db : Database) (grammar : IsGrammar db.rows) (plain : ArePlain db) (te
       let steps_same = same_steps db options w v same_parts in
       one_bool w.finished v.finished
       (λ f. two.finished.1
-          (subst (λ ps. Finished options.dv ps (steps_in v.items)) pairs_same
-              (finished_moved options.dv w.bound.pairs (steps_in w.items) (steps_in v.items) steps_same (one.finished.0 f))))
+      (subst (λ ps. Finished options.dv ps (steps_in v.items)) pairs_same
+      (finished_moved options.dv w.bound.pairs (steps_in w.items) (steps_in v.items) steps_same (one.finished.0 f))))
       (λ f. one.finished.1
-          (subst (λ ps. Finished options.dv ps (steps_in w.items)) (sym pairs_same)
-              (finished_moved options.dv v.bound.pairs (steps_in v.items) (steps_in w.items) (sym steps_same) (two.finished.0 f))))
+      (subst (λ ps. Finished options.dv ps (steps_in w.items)) (sym pairs_same)
+      (finished_moved options.dv v.bound.pairs (steps_in v.items) (steps_in w.items) (sym steps_same) (two.finished.0 f))))

@@ -113,7 +113,7 @@ module _ (rows : List Production) (before : ℕ) (a : Sym → Typecode → Tree)
       (λ s c g k. typed_by _ c _ (a s c) (code-Var s c) (replace-Var a p s c) (g (variable s c) (rw leaves-Var (first (variable s c) (variable s c) [] refl))))
       (λ c n g k. typed_by _ c _ (p (work c n)) (code-Work c n) (replace-Work a p c n) (g (open_leaf (work c n)) (rw leaves-Work (first (open_leaf (work c n)) (open_leaf (work c n)) [] refl))))
       (λ c n g k. typed_by _ c _ (p (fresh c n)) (code-Fresh c n) (replace-Fresh a p c n)
-          (g (open_leaf (fresh c n)) (rw leaves-Fresh (first (open_leaf (fresh c n)) (open_leaf (fresh c n)) [] refl))))
+      (g (open_leaf (fresh c n)) (rw leaves-Fresh (first (open_leaf (fresh c n)) (open_leaf (fresh c n)) [] refl))))
       (λ l c ts h g k.
       let all = all_keep ts h (at_node TypedAt l c ts g) (typed_held rows before l c ts k) in
       let layer = typed_here rows before l c ts k in

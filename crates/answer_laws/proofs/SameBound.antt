@@ -102,7 +102,7 @@ work_size_same db b c h =
 
 works_unlined : (db : Database) (ss : List BoundStep)
     → flat_map (λ (s : BoundStep). option_map_or (works_in db) s.tree []) (map unlined ss)
-        ≡ flat_map (λ (s : BoundStep). option_map_or (works_in db) s.tree []) ss
+    ≡ flat_map (λ (s : BoundStep). option_map_or (works_in db) s.tree []) ss
 works_unlined db [] = refl
 works_unlined db (s ∷ ss) = ap (λ ws. option_map_or (works_in db) s.tree [] ++ ws) (works_unlined db ss)
 
@@ -214,7 +214,7 @@ module _ (db : Database) (b c : Bound) (h : SameBound b c) where
   pub naming_same : (ts : List Tree) (names : Naming) → IsNaming db b ts names → IsNaming db c ts names
   naming_same ts names k =
       let same : new_works db b (map (name_tree names) ts) ≡ new_works db c (map (name_tree names) ts) =
-          ap (λ ws. not_seen ws (flat_map (works_in db) (map (name_tree names) ts))) (read_works_same db b c h) in
+      ap (λ ws. not_seen ws (flat_map (works_in db) (map (name_tree names) ts))) (read_works_same db b c h) in
       record {
         named = λ d n w. let x = k.named d n w in (x.0, x.1, subst (λ ws. is_in ws (work_variable d x.0) ≡ false) (read_works_same db b c h) x.2);
         others = k.others;
@@ -223,6 +223,6 @@ module _ (db : Database) (b c : Bound) (h : SameBound b c) where
             let mine = k.least i w (subst (λ ws. slice_get ws i ≡ Some w) (sym same) e) in
             let moved = subst (λ ws. IsLeast (λ n. IsUnused db b (take i ws) (work_variable w.code n)) w.number) same mine in
             least_with (λ n. IsUnused db b (take i (new_works db c (map (name_tree names) ts))) (work_variable w.code n))
-                (λ n. IsUnused db c (take i (new_works db c (map (name_tree names) ts))) (work_variable w.code n))
+            (λ n. IsUnused db c (take i (new_works db c (map (name_tree names) ts))) (work_variable w.code n))
             (λ n u. unused_same db b c h _ _ u) (λ n u. unused_same db c b (turned b c h) _ _ u) w.number moved;
       }

@@ -136,7 +136,7 @@ module _ (db : Database) (options : Options) (w v : Writing) (h : SameParts w v)
   same_report : written_report db options w ≡ written_report db options v
   same_report =
       sym (bare-report options.dv w.bound.pairs (steps_in w.items)) ∙ ap (map (report_of options.dv w.bound.pairs)) (same_steps db options w v h)
-          ∙ bare-report options.dv w.bound.pairs (steps_in v.items)
+      ∙ bare-report options.dv w.bound.pairs (steps_in v.items)
       ∙ ap (λ ps. map (report_of options.dv ps) (steps_in v.items)) h.pairs
 
   pub same_writing : SameWriting db options w v
@@ -196,7 +196,7 @@ module _ (db : Database) (options : Options) (w v : Writing) (h : SameText db op
 module _ (db : Database) (options : Options) (w v : Writing) (h : SameText db options w v) where
   long_same : (x y : WrittenStep) → seen x ≡ seen y
       → formula_too_long x.name (told_number (length (formula_tokens db x.tree)))
-          ≡ formula_too_long y.name (told_number (length (formula_tokens db y.tree)))
+      ≡ formula_too_long y.name (told_number (length (formula_tokens db y.tree)))
   long_same x y e =
       ap (λ n. formula_too_long n (told_number (length (formula_tokens db x.tree)))) (seen_name x y e)
       ∙ ap (λ t. formula_too_long y.name (told_number (length (formula_tokens db t)))) (seen_tree x y e)

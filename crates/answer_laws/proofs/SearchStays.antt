@@ -77,8 +77,11 @@ set_again : (ps ns : List Pair) → pair_set (pair_set (ps ++ ns) ++ ns) ≡ pai
 set_again ps ns =
     one_order (pair_set (pair_set (ps ++ ns) ++ ns)) (pair_set (ps ++ ns)) (is_in_order (pair_set (ps ++ ns) ++ ns)) (is_in_order (ps ++ ns))
     (λ x o. elim
-        (Contains-append_cases (pair_set (ps ++ ns)) ns x ((holds_same (pair_set (ps ++ ns) ++ ns) x).0 o)) [ inl l ↦ l | inr l ↦
-            (holds_same (ps ++ ns) x).1 (Contains-append_right ps ns x l) ])
+    (Contains-append_cases (pair_set (ps ++ ns)) ns x ((holds_same (pair_set (ps ++ ns) ++ ns) x).0 o)) [
+      | inl l ↦ l
+      | inr l ↦
+          (holds_same (ps ++ ns) x).1 (Contains-append_right ps ns x l)
+    ])
     (λ x o. (holds_same (pair_set (ps ++ ns) ++ ns) x).1 (Contains-append_left (pair_set (ps ++ ns)) ns x o))
 
 -- ---- steps that are written again
@@ -147,7 +150,7 @@ module _ (db : Database) (place : ℕ) (mode : DvMode) (allowed more : List Pair
   with_reference : (e : WrittenStep) → is_none e.reference ≡ false → is_to_be_searched fs e ≡ false
   with_reference e h =
       ap (λ b. not e.hyp && b && is_ground e.tree && list_all (λ x. option_map_or is_ground (place_tree fs x) false) e.places) h
-          ∙ by_front (not e.hyp) (is_ground e.tree) (list_all (λ x. option_map_or is_ground (place_tree fs x) false) e.places)
+      ∙ by_front (not e.hyp) (is_ground e.tree) (list_all (λ x. option_map_or is_ground (place_tree fs x) false) e.places)
     where
       by_front : (a b c : Bool) → (a && false && b && c) ≡ false
       by_front true b c = refl

@@ -120,8 +120,8 @@ module _ (db : Database) (place : ℕ) (mode : DvMode) (allowed : List Pair) (pl
       values_same k m =
           let its = plain c.label a k.is_usable in
           let counted =
-              λ (xs : List Tree) (q : map code_of xs ≡ map (λ (v : TypedVariable). v.code) a.vars). sym (length-map xs code_of) ∙ ap length q
-                  ∙ length-map a.vars (λ (v : TypedVariable). v.code) in
+          λ (xs : List Tree) (q : map code_of xs ≡ map (λ (v : TypedVariable). v.code) a.vars). sym (length-map xs code_of) ∙ ap length q
+          ∙ length-map a.vars (λ (v : TypedVariable). v.code) in
           let hyps = hyps_same first_use second_use a.hyps c.places k.hyps m.hyps in
           let trees_same = λ (t : Tree) (o : IsTreeIn a t). contained_has (λ h. valued first_use h ≡ valued second_use h) (a.tree ∷ a.hyps) t (k.conclusion ∙ sym m.conclusion, hyps) o in
           let found = λ (v : TypedVariable) (o : Contains a.vars v).
@@ -241,8 +241,8 @@ module _ (db : Database) (plain : ArePlain db) (options : Options) (w v : Writin
   item_alike (step f) (step g) x y e h k =
       let alike : bare_step f ≡ bare_step g = cc in
       let one =
-          search_alike db w.bound.place options.dv w.bound.pairs plain (steps_in (after_naming db options w))
-              (steps_in (after_naming db options v)) trees_same f g alike h.0 k.0 h.2 (at_place g k.0 k.2) in
+      search_alike db w.bound.place options.dv w.bound.pairs plain (steps_in (after_naming db options w))
+      (steps_in (after_naming db options v)) trees_same f g alike h.0 k.0 h.2 (at_place g k.0 k.2) in
       ap (over_step bare_step) h.1 ∙ ap step one ∙ ap (over_step bare_step) (sym k.1)
 
   pub searched_alike : (is js xs ys : List WrittenItem) → bare_items is ≡ bare_items js → AllZip (ItemIsSearched db options w) is xs

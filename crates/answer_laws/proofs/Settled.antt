@@ -280,9 +280,9 @@ module _ (names : List Name) (bound : Bound) (g : Valuation) (judgements : List 
         → AreSettled 0 (steps_in (fold (fill_item names bound g judgements) (record { items = []; numbers = [] }) items).items)
     filled_settled items e =
         (all_inside items (record { items = []; numbers = [] })
-            (λ k s x. subst (λ ss. slice_get ss (0 + k) ≡ Some s) e
-                (subst (λ n. slice_get (filter_map step_of_item items) n ≡ Some s) (zero_plus k) x))
-            (record { settled = tt; numbers = tt })).settled
+        (λ k s x. subst (λ ss. slice_get ss (0 + k) ≡ Some s) e
+        (subst (λ n. slice_get (filter_map step_of_item items) n ≡ Some s) (zero_plus k) x))
+        (record { settled = tt; numbers = tt })).settled
       where
         zero_plus : (n : ℕ) → n ≡ 0 + n
         zero_plus n = omega arith

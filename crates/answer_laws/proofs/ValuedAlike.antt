@@ -72,11 +72,11 @@ module _ (db : Database) (bound : Bound) (grammar : IsGrammar db.rows) (read : T
   read_stands i s t c n e g o =
       let mark = of_text (open_leaf (work c n)) db.rows grammar bound.place t (read i s t e g).typed (occurs_mark t (work c n) o) in
       let works : Contains (works_in db t) (work_variable c n) =
-          subst (λ ws. Contains ws (work_variable c n)) (sym (works_are t))
-              (in_kept (by_names none) (marks db.rows t) (open_leaf (work c n)) (work_variable c n) mark refl) in
+      subst (λ ws. Contains ws (work_variable c n)) (sym (works_are t))
+      (in_kept (by_names none) (marks db.rows t) (open_leaf (work c n)) (work_variable c n) mark refl) in
       let here : Contains (option_map_or (works_in db) s.tree []) (work_variable c n) = subst (λ x. Contains (option_map_or (works_in db) x []) (work_variable c n)) (sym g) works in
       contained_is_in (read_works db bound) (work_variable c n)
-          (in_pieces (λ (b : BoundStep). option_map_or (works_in db) b.tree []) bound.steps s (work_variable c n) (stands_in bound.steps i s e) here)
+      (in_pieces (λ (b : BoundStep). option_map_or (works_in db) b.tree []) bound.steps s (work_variable c n) (stands_in bound.steps i s e) here)
 
   abbrev WasRead : Unknown → Type 0
   WasRead (named c n) = is_in (read_works db bound) (work_variable c n) ≡ true

@@ -202,9 +202,10 @@ module _ (db : Database) (grammar : IsGrammar db.rows) (plain : ArePlain db) (te
       let at = at_number w.judgements k.0 k.1 in
       let is = accepted_at db w.bound w.judgements writes.judged at.0 x (at.1 ∙ ap Some (accepted_is k.0 x k.2)) in
       let its = plain is.is_candidate.label x.assertion is.is_candidate.usable in
-      let closed = λ (t : Tree) (m : IsTreeIn x.assertion t) (y : Open) (h : Occurs y t). its.closed t y m (occurs_mark t y h) in
-      (closed x.assertion.tree (first x.assertion.tree x.assertion.tree x.assertion.hyps refl),
-          all_contained IsClosedTree x.assertion.hyps (λ t m. closed t (later t x.assertion.tree x.assertion.hyps m)))
+      let closed = λ (t : Tree) (m : IsTreeIn x.assertion t) (y : Open) (h : Occurs y t). its.closed t y m (occurs_mark t y h) in (
+        closed x.assertion.tree (first x.assertion.tree x.assertion.tree x.assertion.hyps refl),
+        all_contained IsClosedTree x.assertion.hyps (λ t m. closed t (later t x.assertion.tree x.assertion.hyps m)),
+      )
 
   formula_known : (i : ℕ) (o : Option Tree) (x : Sym) → (slice_index_or w.bound.steps i no_step).tree ≡ o → Contains (formula_variables o) x → IsKnown db x
   formula_known i None x e o = absurd (nothing x o)

@@ -115,7 +115,7 @@ module _ (db : Database) (grammar : IsGrammar db.rows) (plain : ArePlain db) (sh
         let at = its.at in
         let before = is.1.is_candidate.before in
         replaced_well db w.bound.place (λ s c. w.value (copy x.step s c)) leaf_tree t
-            (typed_later db.rows x.assertion.frame.at w.bound.place (omega (arith, at, before)) t (its.typed t o)) (instance_leaf t o)
+        (typed_later db.rows x.assertion.frame.at w.bound.place (omega (arith, at, before)) t (its.typed t o)) (instance_leaf t o)
 
     pub wanted_well : AllByRecursion Well (wanted_by w.value (accepted x))
     wanted_well =
@@ -125,7 +125,7 @@ module _ (db : Database) (grammar : IsGrammar db.rows) (plain : ArePlain db) (sh
     pub values_well : AllByRecursion Well (use_of w.value x).values
     values_well =
         all_map Well (λ (v : TypedVariable). w.value (copy x.step v.sym v.code)) x.assertion.vars
-            (all_contained _ x.assertion.vars (λ v o. (value_well (copy x.step v.sym v.code) (on_variable v o)).well))
+        (all_contained _ x.assertion.vars (λ v o. (value_well (copy x.step v.sym v.code) (on_variable v o)).well))
 
   moved_by : (i : ℕ) (o : Judgement) → i < length w.bound.steps → slice_get w.judgements i ≡ Some o → IsMoved (λ t. t) (λ t. t) Well (λ t q. refl) w.bound w.value w.value i o
   moved_by i (stands v) l e = record { formula_is = refl; formula_good = formula_well i l; wanted = refl; wanted_good = tt; use_is = tt }

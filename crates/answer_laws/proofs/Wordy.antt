@@ -194,7 +194,7 @@ module _ (bound : Bound) (g : Valuation) (judgements : List Judgement) (all : Li
         record {
           steps = subst (AllByRecursion IsWordy) (sym steps_are)
               (all_by-append IsWordy (es ++ made) (last_step ∷ []) (all_by-append IsWordy es made h.steps (new_wordy used ds ts new.are_new))
-                  (step_wordy f.numbers _ s (formula bound g i) o read, tt));
+              (step_wordy f.numbers _ s (formula bound g i) o read, tt));
           comments = all_by-append HasGoodComment (f.items ++ map step made) (step last_step ∷ []) (all_by-append HasGoodComment f.items (map step made) h.comments (comments_made made)) (tt, tt);
           differ = ap has_twice names_are ∙ whole;
           origin = λ n k. elim (contained_in (names_of es ++ ds) (s.name ∷ []) n (ap (λ ns. contains ns n) (sym names_are) ∙ k)) [

@@ -219,7 +219,7 @@ module _ (db : Database) where
   pairs_fine dv.Given allowed es h k = h
   pairs_fine dv.Add allowed es h k =
       set_fine db (allowed ++ flat_map (λ (e : WrittenStep). needed_by e.by) es)
-          (all_by-append (IsFinePair db) allowed (flat_map (λ (e : WrittenStep). needed_by e.by) es) h (all_needed es k))
+      (all_by-append (IsFinePair db) allowed (flat_map (λ (e : WrittenStep). needed_by e.by) es) h (all_needed es k))
 
 -- ---- fine pairs can be spelled
 
@@ -251,7 +251,7 @@ module _ (db : Database) (named : AllByRecursion IsSymbolName db.symbols) (facts
       let differ = names_differ p.a p.b h.first_known h.second_known h.differ in
       and_from (list_all is_token (symbol_name db p.a ∷ symbol_name db p.b ∷ [])) (not (is_bad_distinct (symbol_name db p.a ∷ symbol_name db p.b ∷ [])))
       (and_from (is_token (symbol_name db p.a)) (is_token (symbol_name db p.b) && true) (token_of p.a h.first_known)
-          (and_from (is_token (symbol_name db p.b)) true (token_of p.b h.second_known) refl))
+      (and_from (is_token (symbol_name db p.b)) true (token_of p.b h.second_known) refl))
       (rw (differ, no_end p.a h.first_known, no_end p.b h.second_known) refl)
 
   pub pairs_spelled : (ps : List Pair) → AllByRecursion (IsFinePair db) ps → list_all is_pair_spellable (map (written_pair db) ps) ≡ true

@@ -163,7 +163,7 @@ module _ (db : Database) (s : Sheet) (spellable : IsSpellable s) (sound : (line 
   at_number n [] i t h e = absurd (cc)
   at_number n (r ∷ rs) zero t h e = let same : r ≡ t = cc in
       subst (λ (x : SheetStep). list_all is_token x.formula ≡ true) same
-          (and_parts _ _ (and_parts (is_step_spellable n r) (are_steps_spellable (suc n) rs) h).0).1
+      (and_parts _ _ (and_parts (is_step_spellable n r) (are_steps_spellable (suc n) rs) h).0).1
   at_number n (r ∷ rs) (suc i) t h e = at_number (suc n) rs i t (and_parts (is_step_spellable n r) (are_steps_spellable (suc n) rs) h).1 e
 
   false_by : (b : Bool) → (b ≡ true → ⊥) → b ≡ false

@@ -10,7 +10,7 @@ use Rattle.call_answers.specs.Verified.{no_theorem, bad_code, refused, accepted,
 abbrev text : List ℕ
 text =
     codes
-        "$c ( ) -> wff |- $. $v ph ps $. wph $f wff ph $. wps $f wff ps $. ax-1 $a |- ( ph -> ( ps -> ph ) ) $. good $p |- ( ps -> ( ph -> ps ) ) $= wps wph ax-1 $. bad $p |- ( ph -> ( ps -> ph ) ) $= ( ) ZA $. wrong $p |- ( ph -> ( ph -> ph ) ) $= wph wps ax-1 $. empty $p |- ph $= $."
+    "$c ( ) -> wff |- $. $v ph ps $. wph $f wff ph $. wps $f wff ps $. ax-1 $a |- ( ph -> ( ps -> ph ) ) $. good $p |- ( ps -> ( ph -> ps ) ) $= wps wph ax-1 $. bad $p |- ( ph -> ( ps -> ph ) ) $= ( ) ZA $. wrong $p |- ( ph -> ( ph -> ph ) ) $= wph wps ax-1 $. empty $p |- ph $= $."
 
 abbrev stated : List Statement
 stated = statements text

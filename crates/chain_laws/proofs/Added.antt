@@ -69,14 +69,14 @@ module _ (rows : List Production) (before : ℕ) (base : List Term) (works : Lis
   unfolding standing_node
   found_node nodes c f o e i is g h code means =
       subst (λ (p : Option ℕ). IsMade nodes (there_or p e nodes) c f) (sym is)
-          (of_made nodes c f (standing_node rows before base nodes c f g i h code means))
+      (of_made nodes c f (standing_node rows before base nodes c f g i h code means))
 
   -- a variable of the database
   pub own_variable : (nodes : List Term) (s : Sym) (c : Typecode) → vars ≡ [] → Grows nodes → IsMade nodes (there_or (variable_at vars s c) (Var s c) nodes) c (λ us. tree.Var s c)
   unfolding new_variable
   own_variable nodes s c none g =
       subst (λ (vs : List VariableNode). IsMade nodes (there_or (variable_at vs s c) (Var s c) nodes) c (λ us. tree.Var s c)) (sym none)
-          (of_made nodes c (λ us. tree.Var s c) (new_variable rows before base nodes s c g))
+      (of_made nodes c (λ us. tree.Var s c) (new_variable rows before base nodes s c g))
 
   module _ (a : List Tree → Sym → Typecode → Tree) (p : List Tree → Open → Tree) (Ok : Tree → Type 0)
       (ok_fresh : (c : Typecode) (n : ℕ) → Ok (tree.Fresh c n) → ⊥) (ok_node : (l : Label) (c : Typecode) (ts : List Tree) → Ok (tree.Node l c ts) → Each Ok ts)
@@ -104,8 +104,8 @@ module _ (rows : List Production) (before : ℕ) (base : List Term) (works : Lis
         → AreMade one.nodes rest ts → AreMade nodes (first_then one rest) (t ∷ ts)
     one_then t ts nodes one rest m all =
         let code : term_code (term_at rest.nodes one.root) ≡ code_of t =
-            ap (λ (ns : List Term). term_code (term_at ns one.root)) all.extends ∙ ap term_code (term_front one.nodes all.more one.root m.within)
-                ∙ m.code in
+        ap (λ (ns : List Term). term_code (term_at ns one.root)) all.extends ∙ ap term_code (term_front one.nodes all.more one.root m.within)
+        ∙ m.code in
         let codes = all.codes in
         record {
           more = m.more ++ all.more;
@@ -137,8 +137,8 @@ module _ (rows : List Production) (before : ℕ) (base : List Term) (works : Lis
         let two : c ≡ d = cc in
         let three : xs ≡ ys = cc in
         subst (λ (x : Label). IsTypedTerm rows before nodes x d ys) one
-            (subst (λ (x : Typecode). IsTypedTerm rows before nodes l x ys) two
-                (subst (λ (x : List Id). IsTypedTerm rows before nodes l c x) three h))
+        (subst (λ (x : Typecode). IsTypedTerm rows before nodes l x ys) two
+        (subst (λ (x : List Id). IsTypedTerm rows before nodes l c x) three h))
 
     production_made : (l : Label) (c : Typecode) (k : ℕ) (ts : List Tree) (nodes : List Term) (r : Listed) → IsTyped rows before (tree.Node l c ts)
         → AreMade nodes r ts → IsMade nodes (with_production l c k r) c (λ us. tree.Node l c (map (value us) ts))
@@ -149,16 +149,21 @@ module _ (rows : List Production) (before : ℕ) (base : List Term) (works : Lis
         let m = new_node rows before base r.nodes (Node l c k r.roots) (λ us. tree.Node l c (map (value us) ts)) all.grown
         (record { children = all.within; not_free = λ d is. cc; typed = λ m' d j kids is. typed_term l m' c d k j r.roots kids r.nodes is typed })
         (λ us f h. h ∙ ap (λ xs. tree.Node l c xs) (all.means us f)) in
-        record { more = all.more ++ m.more;
-            extends = m.extends ∙ ap (λ (ns : List Term). ns ++ m.more) all.extends ∙ append_assoc nodes all.more m.more; grown = m.grown;
-            within = m.within; code = m.code; means = m.means }
+        record {
+          more = all.more ++ m.more;
+          extends = m.extends ∙ ap (λ (ns : List Term). ns ++ m.more) all.extends ∙ append_assoc nodes all.more m.more;
+          grown = m.grown;
+          within = m.within;
+          code = m.code;
+          means = m.means;
+        }
 
     pub added_made : (t : Tree) → Adds t
     added_made = tree_ind Adds
         (λ s c ok ty nodes g. made_is nodes _ _ c (code_of (tree.Var s c)) _ _ (sym (added-Var rows works vars s c nodes)) (sym (code-Var s c))
-            (λ us. sym (replace-Var (a us) (p us) s c)) (at_var s c ok nodes g))
+        (λ us. sym (replace-Var (a us) (p us) s c)) (at_var s c ok nodes g))
         (λ c n ok ty nodes g. made_is nodes _ _ c (code_of (tree.Work c n)) _ _ (sym (added-Work rows works vars c n nodes)) (sym (code-Work c n))
-            (λ us. sym (replace-Work (a us) (p us) c n)) (at_work c n ok nodes g))
+        (λ us. sym (replace-Work (a us) (p us) c n)) (at_work c n ok nodes g))
         (λ c n ok ty nodes g. absurd (ok_fresh c n ok))
         (λ l c ts h ok ty nodes g.
         made_is nodes _ _ c (code_of (tree.Node l c ts)) _ _ (sym (added-Node rows works vars l c ts nodes)) (sym (code-Node l c ts)) (λ us. sym (replace-Node (a us) (p us) l c ts))

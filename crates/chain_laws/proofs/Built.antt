@@ -178,9 +178,10 @@ module _ (db : Database) (bound : Bound) (asked : List Asked) (once : OnceEach (
 
   pub each_ok : (ts : List Tree) → ((x : Open) → Contains (flatten (map open_leaves ts)) x → OpenOk x) → Each FormulaOk ts
   each_ok [] h = tt
-  each_ok (t ∷ ts) h =
-      (λ x o. h x (Contains-append_left (open_leaves t) (flatten (map open_leaves ts)) x o),
-          each_ok ts (λ x o. h x (Contains-append_right (open_leaves t) (flatten (map open_leaves ts)) x o)))
+  each_ok (t ∷ ts) h = (
+    λ x o. h x (Contains-append_left (open_leaves t) (flatten (map open_leaves ts)) x o),
+    each_ok ts (λ x o. h x (Contains-append_right (open_leaves t) (flatten (map open_leaves ts)) x o)),
+  )
 
   formula_node : (t : Tree) → FormulaOk t → IsTyped db.rows bound.place t → (nodes : List Term) → Grows nodes → MadeOf nodes (code_of t) (λ us. formula_value (valuation_of lay us) 0 (Some t))
   formula_node t ok ty nodes g =
@@ -220,7 +221,7 @@ module _ (db : Database) (bound : Bound) (asked : List Asked) (once : OnceEach (
     roots : List ℕ
     each : (i : ℕ) (s : BoundStep) → slice_get ss i ≡ Some s
         → (get_or roots i 0 < length next)
-            × ((us : List Tree) → Fit next us → tree_at us (get_or roots i 0) ≡ formula_value (valuation_of lay us) (k + i) s.tree)
+        × ((us : List Tree) → Fit next us → tree_at us (get_or roots i 0) ≡ formula_value (valuation_of lay us) (k + i) s.tree)
 
   append_none : (ns : List Term) → ns ++ [] ≡ ns
   append_none [] = refl
@@ -229,16 +230,22 @@ module _ (db : Database) (bound : Bound) (asked : List Asked) (once : OnceEach (
   formulas_of : (k : ℕ) (ss : List BoundStep) → ((i : ℕ) (s : BoundStep) → slice_get ss i ≡ Some s → slice_get bound.steps (k + i) ≡ Some s)
       → AllByRecursion (λ (s : BoundStep). IsReadyFormula db bound.place s.tree) ss → (nodes : List Term) → Grows nodes → Formulas nodes k ss
   formulas_of k [] at ready nodes g =
-      record { next = nodes; more = []; extends = sym (append_none nodes); grown = g; roots = [];
-          each = λ i s e. let impossible : ◌≡◌ {A = Option BoundStep} None (Some s) = e in
-          absurd (cc) }
+      record {
+        next = nodes;
+        more = [];
+        extends = sym (append_none nodes);
+        grown = g;
+        roots = [];
+        each = λ i s e. let impossible : ◌≡◌ {A = Option BoundStep} None (Some s) = e in
+            absurd (cc);
+      }
   formulas_of k (t ∷ ss) at ready nodes g =
       let zero_is : k + 0 ≡ k = omega arith in
       let one = formula_of k t t.tree (subst (λ (j : ℕ). slice_get bound.steps j ≡ Some t) zero_is (at 0 t refl)) refl ready.0 nodes g in
       let rest =
-          formulas_of (k + 1) ss
-              (λ i s e. let next_is : k + suc i ≡ k + 1 + i = omega arith in
-                  subst (λ (j : ℕ). slice_get bound.steps j ≡ Some s) next_is (at (suc i) s e)) ready.1 one.next one.grown in
+      formulas_of (k + 1) ss
+      (λ i s e. let next_is : k + suc i ≡ k + 1 + i = omega arith in
+      subst (λ (j : ℕ). slice_get bound.steps j ≡ Some s) next_is (at (suc i) s e)) ready.1 one.next one.grown in
       record {
         next = rest.next;
         more = one.more ++ rest.more;
@@ -251,11 +258,11 @@ module _ (db : Database) (bound : Bound) (asked : List Asked) (once : OnceEach (
       both : (mid next more : List Term) (root : ℕ) (roots : List ℕ) → next ≡ mid ++ more → root < length mid
           → ((us : List Tree) → Fit mid us → tree_at us root ≡ formula_value (valuation_of lay us) k t.tree)
           → ((i : ℕ) (s : BoundStep) → slice_get ss i ≡ Some s
-              → (get_or roots i 0 < length next)
-                  × ((us : List Tree) → Fit next us → tree_at us (get_or roots i 0) ≡ formula_value (valuation_of lay us) (k + 1 + i) s.tree))
+          → (get_or roots i 0 < length next)
+          × ((us : List Tree) → Fit next us → tree_at us (get_or roots i 0) ≡ formula_value (valuation_of lay us) (k + 1 + i) s.tree))
           → (i : ℕ) (s : BoundStep) → slice_get (t ∷ ss) i ≡ Some s
-              → (get_or (root ∷ roots) i 0 < length next)
-                  × ((us : List Tree) → Fit next us → tree_at us (get_or (root ∷ roots) i 0) ≡ formula_value (valuation_of lay us) (k + i) s.tree)
+          → (get_or (root ∷ roots) i 0 < length next)
+          × ((us : List Tree) → Fit next us → tree_at us (get_or (root ∷ roots) i 0) ≡ formula_value (valuation_of lay us) (k + i) s.tree)
       both mid next more root roots e within means each zero s is =
           let same : t ≡ s = cc in
           let number : k ≡ k + 0 = omega arith in (
@@ -273,13 +280,17 @@ module _ (db : Database) (bound : Bound) (asked : List Asked) (once : OnceEach (
 
   formula_grows : (nodes more next : List Term) (i j : ℕ) → next ≡ nodes ++ more → IsFormulaNode bound nodes lay i j → IsFormulaNode bound next lay i j
   formula_grows nodes more next i j e h =
-      record { within = within_front db.rows bound.place base nodes more next j e h.within;
-          is_formula = λ us f. h.is_formula us (fit_back db.rows bound.place base nodes more next us e f) }
+      record {
+        within = within_front db.rows bound.place base nodes more next j e h.within;
+        is_formula = λ us f. h.is_formula us (fit_back db.rows bound.place base nodes more next us e f);
+      }
 
   instance_grows : (nodes more next : List Term) (i : ℕ) (t : Tree) (j : ℕ) → next ≡ nodes ++ more → IsInstanceNode nodes lay i t j → IsInstanceNode next lay i t j
   instance_grows nodes more next i t j e h =
-      record { within = within_front db.rows bound.place base nodes more next j e h.within;
-          is_instance = λ us f. h.is_instance us (fit_back db.rows bound.place base nodes more next us e f) }
+      record {
+        within = within_front db.rows bound.place base nodes more next j e h.within;
+        is_instance = λ us f. h.is_instance us (fit_back db.rows bound.place base nodes more next us e f);
+      }
 
   instance_node : (x : Asked) → Contains asked x → (t : Tree) → IsOver x.assertion.vars t → IsTyped db.rows bound.place t → (nodes : List Term)
       → Grows nodes → MadeOf nodes (code_of t) (λ us. instance (valuation_of lay us) x.step t)
@@ -338,9 +349,10 @@ module _ (db : Database) (bound : Bound) (asked : List Asked) (once : OnceEach (
 
   pairs_grow : (nodes more next : List Term) (ps : List NodePair) → next ≡ nodes ++ more → AllByRecursion (IsPairIn nodes) ps → AllByRecursion (IsPairIn next) ps
   pairs_grow nodes more next [] e h = tt
-  pairs_grow nodes more next (p ∷ ps) e h =
-      ((within_front db.rows bound.place base nodes more next p.0 e h.0.0, within_front db.rows bound.place base nodes more next p.1 e h.0.1),
-          pairs_grow nodes more next ps e h.1)
+  pairs_grow nodes more next (p ∷ ps) e h = (
+    (within_front db.rows bound.place base nodes more next p.0 e h.0.0, within_front db.rows bound.place base nodes more next p.1 e h.0.1),
+    pairs_grow nodes more next ps e h.1,
+  )
 
   places_inside : (nodes : List Term) (formulas : ℕ → ℕ) (i : ℕ) → AreFormulaNodes bound nodes lay formulas
       → (gs : List Given) (es : List Tree) (hs : List ℕ) → AllByRecursion (IsPlaceIn (length bound.steps)) gs
@@ -362,13 +374,16 @@ module _ (db : Database) (bound : Bound) (asked : List Asked) (once : OnceEach (
       let whole : hyps.next ≡ nodes ++ (root.more ++ hyps.more) = hyps.extends ∙ ap (λ (ns : List Term). ns ++ hyps.more) root.extends ∙ append_assoc nodes root.more hyps.more in
       let are' : AreFormulaNodes bound hyps.next lay formulas = λ i h. formula_grows nodes (root.more ++ hyps.more) hyps.next i (formulas i) whole (are i h) in
       let candidate : AreCandidateNodes hyps.next lay x.step x.assertion root.root hyps.roots =
-          record { conclusion = instance_grows root.next hyps.more hyps.next x.step x.assertion.tree root.root hyps.extends here;
-              hyps = hyps.each } in
+      record {
+        conclusion = instance_grows root.next hyps.more hyps.next x.step x.assertion.tree root.root hyps.extends here;
+        hyps = hyps.each;
+      } in
       let rest = paired formulas xs (λ y h. among y (later y x xs h)) ready.1 hyps.next hyps.grown are' in
       let mine = candidate_pairs formulas x.step x.places root.root hyps.roots in
-      let mine_inside : AllByRecursion (IsPairIn hyps.next) mine =
-          ((candidate.conclusion.within, (are' x.step ready.0.sound.step).within),
-              places_inside hyps.next formulas x.step are' x.places x.assertion.hyps hyps.roots ready.0.sound.places hyps.each) in
+      let mine_inside : AllByRecursion (IsPairIn hyps.next) mine = (
+        (candidate.conclusion.within, (are' x.step ready.0.sound.step).within),
+        places_inside hyps.next formulas x.step are' x.places x.assertion.hyps hyps.roots ready.0.sound.places hyps.each,
+      ) in
       record {
         next = rest.next;
         more = (root.more ++ hyps.more) ++ rest.more;
@@ -380,11 +395,12 @@ module _ (db : Database) (bound : Bound) (asked : List Asked) (once : OnceEach (
             (solves_told bound hyps.next lay formulas are' us (fit_back db.rows bound.place base hyps.next rest.more rest.next us rest.extends f) x root.root hyps.roots ready.0.sound candidate s.0)
             (rest.told us f s.1);
         solve = λ us f r j.
-            let parts = all_split (λ (p : NodePair). tree_at us p.0 ≡ tree_at us p.1) mine rest.pairs j in
-            (joined_solves bound hyps.next lay formulas are' us
-                (fit_back db.rows bound.place base hyps.next rest.more rest.next us rest.extends
-                    f) x root.root hyps.roots ready.0.sound r.0 candidate parts.0,
-                rest.solve us f r.1 parts.1);
+            let parts = all_split (λ (p : NodePair). tree_at us p.0 ≡ tree_at us p.1) mine rest.pairs j in (
+              joined_solves bound hyps.next lay formulas are' us
+                  (fit_back db.rows bound.place base hyps.next rest.more rest.next us rest.extends
+                  f) x root.root hyps.roots ready.0.sound r.0 candidate parts.0,
+              rest.solve us f r.1 parts.1,
+            );
       }
 
 -- ---- the law

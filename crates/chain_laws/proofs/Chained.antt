@@ -144,7 +144,7 @@ module _ (db : Database) (bound : Bound) (asked accepted : List Asked) (nodes : 
     code = λ u on. ap code_of (value_is u on) ∙ code_at u on;
     typed = λ u on. subst (IsTyped db.rows bound.place) (sym (value_is u on))
         (at_typed nodes links leaf at chained.store is_made codes ranks.0 ranks.1 db.rows bound.place chained.laid_out.typed
-            (λ e c. leaf_typed db.rows bound.place e c (least_at links e lay.works)) (lay.node_of u) (node u on).within);
+        (λ e c. leaf_typed db.rows bound.place e c (least_at links e lay.works)) (lay.node_of u) (node u on).within);
   }
     where
       code_at : (u : Unknown) → On u → code_of (at (lay.node_of u)) ≡ unknown_code db u
@@ -176,7 +176,7 @@ module _ (db : Database) (bound : Bound) (asked accepted : List Asked) (nodes : 
     own_code e c below is =
         let own = chained.laid_out.free e c below is in
         let free : term_at nodes e ≡ Free (unknown_code db (lay.unknown_at e)) =
-            subst (λ (k : ℕ). term_at nodes k ≡ Free (unknown_code db (lay.unknown_at e))) own.node (node (lay.unknown_at e) own.is_unknown).free in
+        subst (λ (k : ℕ). term_at nodes k ≡ Free (unknown_code db (lay.unknown_at e))) own.node (node (lay.unknown_at e) own.is_unknown).free in
         valued.code (lay.unknown_at e) own.is_unknown ∙ ap term_code (sym free ∙ is)
 
     own_codes : HasCodes nodes [] own_leaf
@@ -224,8 +224,8 @@ module _ (db : Database) (bound : Bound) (asked accepted : List Asked) (nodes : 
         by = by;
         same = λ u on. sym (own_value u on)
             ∙ sym
-                (refined nodes links leaf at chained.store is_made codes ranks.0 ranks.1 own_trees kept_solution by
-                    (λ e c below u' is. leaf_refined e c (least_at links e lay.works) (answer e)) (lay.node_of u) (node u on).within)
+            (refined nodes links leaf at chained.store is_made codes ranks.0 ranks.1 own_trees kept_solution by
+            (λ e c below u' is. leaf_refined e c (least_at links e lay.works) (answer e)) (lay.node_of u) (node u on).within)
             ∙ ap (refine by) (sym (value_is u on));
       }
 

@@ -144,7 +144,7 @@ module _ (nodes : List Term) where
 Closes : List Term → List Link → List NodePair → Type 0
 Closes nodes links pairs =
     (more : List Link) → AllEnd (links ++ more) pairs → (k : ℕ) → k < length links
-        → Agrees (links ++ more) (term_at nodes (link_at links k).from) (term_at nodes (link_at links k).to)
+    → Agrees (links ++ more) (term_at nodes (link_at links k).from) (term_at nodes (link_at links k).to)
 
 -- closed bindings behind these
 record Closed (nodes : List Term) (trees : List Tree) (links : List Link) (pairs : List NodePair) : Type 0 where
@@ -161,7 +161,7 @@ module _ (nodes : List Term) (trees : List Tree) where
   abbrev Joins : ℕ → Type 0
   Joins room =
       (links : List Link) (pairs : List NodePair) → unbound_below links (length nodes) ≤ room → IsStore nodes links → Solution nodes links trees
-          → AreJoined trees pairs → AreInside (length nodes) pairs → Closes nodes links pairs → Closed nodes trees links pairs
+      → AreJoined trees pairs → AreInside (length nodes) pairs → Closes nodes links pairs → Closed nodes trees links pairs
 
   -- one more binding, of one end to another
   module _ (links : List Link) (x y f t : ℕ) (store : IsStore nodes links) (sol : Solution nodes links trees)
@@ -188,9 +188,9 @@ module _ (nodes : List Term) (trees : List Tree) where
       in_order = in_order_push (length nodes) links link store.in_order from_free to_free from_inside to_inside apart;
       codes =
           next_codes links store.codes
-              (sym (fits_code trees (tree_at trees f) (term_at nodes f) (sol.nodes_fit f from_inside))
-                  ∙ fits_code trees (tree_at trees f) (term_at nodes t)
-                      (subst (λ (u : Tree). Fits trees u (term_at nodes t)) (sym (same_at trees sol one)) (sol.nodes_fit t to_inside)));
+          (sym (fits_code trees (tree_at trees f) (term_at nodes f) (sol.nodes_fit f from_inside))
+          ∙ fits_code trees (tree_at trees f) (term_at nodes t)
+          (subst (λ (u : Tree). Fits trees u (term_at nodes t)) (sym (same_at trees sol one)) (sol.nodes_fit t to_inside)));
     }
 
     next_solution : (us : List Tree) → Solution nodes links us → tree_at us x ≡ tree_at us y → Solution nodes next us
@@ -235,9 +235,10 @@ module _ (nodes : List Term) (trees : List Tree) where
           store = rest.store;
           solves = rest.solves;
           forced = λ us s j. rest.forced us (next_solution us s j.0) (all_joined (λ (p : NodePair). tree_at us p.0 ≡ tree_at us p.1) meet.kids pairs (kids_of us s j.0) j.1);
-          ended =
-              (subst (λ (ls : List Link). end_of ls x ≡ end_of ls y) (sym rest.extends) (ends_meet rest.more),
-                  (all_split (λ (p : NodePair). end_of rest.final p.0 ≡ end_of rest.final p.1) meet.kids pairs rest.ended).1);
+          ended = (
+            subst (λ (ls : List Link). end_of ls x ≡ end_of ls y) (sym rest.extends) (ends_meet rest.more),
+            (all_split (λ (p : NodePair). end_of rest.final p.0 ≡ end_of rest.final p.1) meet.kids pairs rest.ended).1,
+          );
           closes = rest.closes;
         }
 
@@ -296,16 +297,16 @@ module _ (nodes : List Term) (trees : List Tree) where
       elim (bindable trees (tree_at trees a) (term_at nodes a) (term_at nodes b) fits_a fits_b) [
         | straight h ↦
             bound_on nodes trees links x y a b store sol
-                (hop_at (record { from = a; to = b }) a refl ∙ sym (hop_past (record { from = a; to = b }) b back)) a_free b_free a_inside b_inside ne
-                (λ us e. e) joined.0
+            (hop_at (record { from = a; to = b }) a refl ∙ sym (hop_past (record { from = a; to = b }) b back)) a_free b_free a_inside b_inside ne
+            (λ us e. e) joined.0
             (meeting nodes (term_at nodes a) (term_at nodes b) trees (tree_at trees a) h (inside_of links a store a_inside)
-                (inside_of links b store b_inside) fits_a fits_b) room pairs join few joined.1 inside.1 closes
+            (inside_of links b store b_inside) fits_a fits_b) room pairs join few joined.1 inside.1 closes
         | turned h ↦
             bound_on nodes trees links x y b a store sol
-                (hop_past (record { from = b; to = a }) a ne ∙ sym (hop_at (record { from = b; to = a }) b refl)) b_free a_free b_inside a_inside back
-                (λ us e. sym e) joined.0
+            (hop_past (record { from = b; to = a }) a ne ∙ sym (hop_at (record { from = b; to = a }) b refl)) b_free a_free b_inside a_inside back
+            (λ us e. sym e) joined.0
             (meeting nodes (term_at nodes b) (term_at nodes a) trees (tree_at trees a) h (inside_of links b store b_inside)
-                (inside_of links a store a_inside) fits_b fits_a) room pairs join few joined.1 inside.1 closes
+            (inside_of links a store a_inside) fits_b fits_a) room pairs join few joined.1 inside.1 closes
       ]
 
   none_left : (links : List Link) (x : ℕ) → IsStore nodes links → x < length nodes → unbound_below links (length nodes) ≤ 0 → ⊥
@@ -317,13 +318,21 @@ module _ (nodes : List Term) (trees : List Tree) where
   -- by the number of nodes that are not bound, and then the pairs
   join_by : (room : ℕ)
       → ((links : List Link) (x y : ℕ) (pairs : List NodePair) → unbound_below links (length nodes) ≤ room → IsStore nodes links
-          → Solution nodes links trees → AreJoined trees ((x, y) ∷ pairs) → AreInside (length nodes) ((x, y) ∷ pairs)
-          → Closes nodes links ((x, y) ∷ pairs) → end_of links x ≢ end_of links y → Closed nodes trees links ((x, y) ∷ pairs))
+      → Solution nodes links trees → AreJoined trees ((x, y) ∷ pairs) → AreInside (length nodes) ((x, y) ∷ pairs)
+      → Closes nodes links ((x, y) ∷ pairs) → end_of links x ≢ end_of links y → Closed nodes trees links ((x, y) ∷ pairs))
       → (links : List Link) (pairs : List NodePair) → unbound_below links (length nodes) ≤ room → IsStore nodes links → Solution nodes links trees
-          → AreJoined trees pairs → AreInside (length nodes) pairs → Closes nodes links pairs → Closed nodes trees links pairs
+      → AreJoined trees pairs → AreInside (length nodes) pairs → Closes nodes links pairs → Closed nodes trees links pairs
   join_by room differ links [] few store sol joined inside closes =
-      record { final = links; more = []; extends = sym (append_none links); store = store; solves = sol; forced = λ us s j. s; ended = tt;
-          closes = closes }
+      record {
+        final = links;
+        more = [];
+        extends = sym (append_none links);
+        store = store;
+        solves = sol;
+        forced = λ us s j. s;
+        ended = tt;
+        closes = closes;
+      }
     where
       append_none : (ls : List Link) → ls ++ [] ≡ ls
       append_none [] = refl
@@ -365,9 +374,9 @@ all_are_joined nodes pairs trees store sol joined inside =
       store = done.store;
       closed =
           closed_all (length done.final) nodes done.final (omega arith)
-              (closed_links nodes done.final (length done.final) (omega arith)
-                  (λ j h. subst (λ (ls : List Link). Agrees ls (term_at nodes (link_at done.final j).from) (term_at nodes (link_at done.final j).to))
-                      (none done.final) (whole j h)));
+          (closed_links nodes done.final (length done.final) (omega arith)
+          (λ j h. subst (λ (ls : List Link). Agrees ls (term_at nodes (link_at done.final j).from) (term_at nodes (link_at done.final j).to))
+          (none done.final) (whole j h)));
       there = λ us s. told us done.final pairs s.links_fit done.ended;
       back = done.forced;
     }

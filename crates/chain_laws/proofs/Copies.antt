@@ -71,7 +71,7 @@ found_by n v vs s c true e h rest =
     (0, omega arith, λ d. same_variable s c (record { sym = v.sym; code = v.code; node = n }) e, ap (λ (k : ℕ). Some k) here)
 found_by n v vs s c false e (inl same) rest =
     let yes : is_variable s c (record { sym = v.sym; code = v.code; node = n }) ≡ true =
-        ap (λ (w : TypedVariable). is_variable s c (record { sym = w.sym; code = w.code; node = n })) same ∙ self_variable s c n in
+    ap (λ (w : TypedVariable). is_variable s c (record { sym = w.sym; code = w.code; node = n })) same ∙ self_variable s c n in
     absurd (cc)
 found_by n v vs s c false e (inr h) rest =
     let told = rest h in

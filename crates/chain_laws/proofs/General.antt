@@ -118,9 +118,9 @@ module _ (nodes : List Term) (links : List Link) (leaf : ℕ → Typecode → Tr
     asked i (Free c) h e a = at_code i h ∙ ap term_code e
     asked i (Node l c k xs) h e a =
         is.each i h
-            ∙ node_asked (end i) l c k xs (term_at nodes (end i))
-                (subst (λ (z : Term). AllByRecursion (λ (id : Id). id.0 < length nodes) (children_of z)) e (kids_inside i h))
-                (kids_inside (end i) (inside i h)) a
+        ∙ node_asked (end i) l c k xs (term_at nodes (end i))
+        (subst (λ (z : Term). AllByRecursion (λ (id : Id). id.0 < length nodes) (children_of z)) e (kids_inside i h))
+        (kids_inside (end i) (inside i h)) a
 
     unfoldable pub general_trees : List Tree
     general_trees = map at (range_with_len 0 (length nodes))
@@ -152,7 +152,7 @@ module _ (nodes : List Term) (links : List Link) (leaf : ℕ → Typecode → Tr
       count = general_length;
       nodes_fit =
           λ i h. subst (λ (t : Tree). Fits general_trees t (term_at nodes i)) (sym (tree_is i h))
-              (fits (at i) (term_at nodes i) (kids_inside i h) (asked i (term_at nodes i) h refl (closed i h)));
+          (fits (at i) (term_at nodes i) (kids_inside i h) (asked i (term_at nodes i) h refl (closed i h)));
       links_fit = respects_targets (length nodes) general_trees links store.in_order (λ i j e.
           let below = source_below (length nodes) links i j (are_below (length nodes) links store.in_order) e in
           let target = target_below (length nodes) links i j store.in_order e in
@@ -171,7 +171,7 @@ module _ (nodes : List Term) (links : List Link) (leaf : ℕ → Typecode → Tr
         (at_var : (s : Sym) (c : Typecode) → P (tree.Var s c))
         (at_leaf : (e : ℕ) (c : Typecode) → e < length nodes → target_of links e ≡ None → term_at nodes e ≡ Free c → P (leaf e c))
         (at_node : (e : ℕ) (l : Label) (c : Typecode) (k : ℕ) (kids : List Id) → e < length nodes → term_at nodes e ≡ Node l c k kids
-            → Each P (map (λ (id : Id). at id.0) kids) → P (tree.Node l c (map (λ (id : Id). at id.0) kids))) where
+        → Each P (map (λ (id : Id). at id.0) kids) → P (tree.Node l c (map (λ (id : Id). at id.0) kids))) where
       made_has : (e : ℕ) (x : Term) → e < length nodes → target_of links e ≡ None → term_at nodes e ≡ x
           → ((k : ℕ) (child : Id) → slice_get (children_of x) k ≡ Some child → P (at child.0)) → P (made leaf e at x)
       made_has e (Var s c) h u is' below = at_var s c

@@ -89,9 +89,9 @@ module _ (rows : List Production) (before : ℕ) (base : List Term) where
           let old : i < length nodes = omega (arith, h, past, length_push nodes e) in
           let same : term_at nodes i ≡ Node l c k kids = sym (term_front nodes (e ∷ []) i old) ∙ is in
           typed_front nodes (e ∷ []) l c kids
-              (wider i (length nodes) kids (omega (arith, old))
-                  (subst (λ (x : Term). AllByRecursion (λ (id : Id). id.0 < i) (children_of x)) same (g.children i old)))
-              (g.typed i l c k kids old same)
+          (wider i (length nodes) kids (omega (arith, old))
+          (subst (λ (x : Term). AllByRecursion (λ (id : Id). id.0 < i) (children_of x)) same (g.children i old)))
+          (g.typed i l c k kids old same)
     ];
   }
 
@@ -173,8 +173,8 @@ module _ (rows : List Production) (before : ℕ) (base : List Term) where
         let rest = add_all ts h.1 ok.1 ty.1 one.next one.grown in
         let id : Id = record { 0 = one.root } in
         let code : term_code (term_at rest.next one.root) ≡ code_of t =
-            ap (λ (ns : List Term). term_code (term_at ns one.root)) rest.extends ∙ ap term_code (term_front one.next rest.more one.root one.within)
-                ∙ one.code in
+        ap (λ (ns : List Term). term_code (term_at ns one.root)) rest.extends ∙ ap term_code (term_front one.next rest.more one.root one.within)
+        ∙ one.code in
         let codes = rest.codes in
         record {
           next = rest.next;
@@ -192,8 +192,16 @@ module _ (rows : List Production) (before : ℕ) (base : List Term) where
 
     made_code : (nodes : List Term) (c d : Typecode) (f g : List Tree → Tree) → c ≡ d → ((us : List Tree) → f us ≡ g us) → Made nodes c f → Made nodes d g
     made_code nodes c d f g e same m =
-        record { next = m.next; more = m.more; extends = m.extends; grown = m.grown; root = m.root; within = m.within; code = m.code ∙ e;
-            means = λ us h. m.means us h ∙ same us }
+        record {
+          next = m.next;
+          more = m.more;
+          extends = m.extends;
+          grown = m.grown;
+          root = m.root;
+          within = m.within;
+          code = m.code ∙ e;
+          means = λ us h. m.means us h ∙ same us;
+        }
 
     add_production : (l : Label) (c : Typecode) (ts : List Tree) → IsTyped rows before (tree.Node l c ts) → (nodes : List Term) → MadeAll nodes ts
         → Made nodes c (λ us. tree.Node l c (map (value us) ts))
@@ -206,18 +214,25 @@ module _ (rows : List Production) (before : ℕ) (base : List Term) where
         let same_k : all.roots ≡ kids = cc in
         moved m d kids same_l same_c same_k (record { row = here.0; is_row = here.1; before_place = here.2; gives = here.3; slots = all.codes ∙ here.4 }) in
         let m =
-            new_node all.next e (λ us. tree.Node l c (map (value us) ts)) all.grown
-                (record { children = all.within; not_free = λ d is. cc; typed = row_of' })
-                (λ us f h. h ∙ ap (λ xs. tree.Node l c xs) (all.means us f)) in
-        record { next = m.next; more = all.more ++ m.more;
-            extends = m.extends ∙ ap (λ (ns : List Term). ns ++ m.more) all.extends ∙ append_assoc nodes all.more m.more; grown = m.grown;
-            root = m.root; within = m.within; code = m.code; means = m.means }
+        new_node all.next e (λ us. tree.Node l c (map (value us) ts)) all.grown
+        (record { children = all.within; not_free = λ d is. cc; typed = row_of' })
+        (λ us f h. h ∙ ap (λ xs. tree.Node l c xs) (all.means us f)) in
+        record {
+          next = m.next;
+          more = all.more ++ m.more;
+          extends = m.extends ∙ ap (λ (ns : List Term). ns ++ m.more) all.extends ∙ append_assoc nodes all.more m.more;
+          grown = m.grown;
+          root = m.root;
+          within = m.within;
+          code = m.code;
+          means = m.means;
+        }
       where
         moved : {roots : List Id} {l : Label} {c : Typecode} {next : List Term} (m : Label) (d : Typecode) (kids : List Id) → l ≡ m → c ≡ d
             → roots ≡ kids → IsTypedTerm rows before next l c roots → IsTypedTerm rows before next m d kids
         moved {roots} {l} {c} {next} m d kids e f g h =
             subst (λ (x : Label). IsTypedTerm rows before next x d kids) e
-                (subst (λ (x : Typecode). IsTypedTerm rows before next l x kids) f (subst (λ (x : List Id). IsTypedTerm rows before next l c x) g h))
+            (subst (λ (x : Typecode). IsTypedTerm rows before next l x kids) f (subst (λ (x : List Id). IsTypedTerm rows before next l c x) g h))
 
     -- the nodes of a tree
     pub add_tree : (t : Tree) → Adds t

@@ -197,7 +197,7 @@ all_of_steps k zero (t ∷ ss) s u e h =
     let same : t ≡ s = cc in
     let number : k + 0 ≡ k = omega arith in
     Contains-append_left (of_formula k t.tree) (of_steps (k + 1) ss) u
-        (subst (λ (x : BoundStep). Contains (of_formula k x.tree) u) (sym same) (subst (λ (j : ℕ). Contains (of_formula j s.tree) u) number h))
+    (subst (λ (x : BoundStep). Contains (of_formula k x.tree) u) (sym same) (subst (λ (j : ℕ). Contains (of_formula j s.tree) u) number h))
 all_of_steps k (suc i) (t ∷ ss) s u e h =
     let number : k + suc i ≡ k + 1 + i = omega arith in
     Contains-append_right (of_formula k t.tree) (of_steps (k + 1) ss) u (all_of_steps (k + 1) i ss s u e (subst (λ (j : ℕ). Contains (of_formula j s.tree) u) number h))
@@ -293,15 +293,15 @@ module _ (bound : Bound) (asked : List Asked) where
   all_unknowns u (in_formula i s t at is o) =
       let number : i ≡ 0 + i = omega arith in
       Contains-append_left (of_steps 0 bound.steps) (of_candidates asked) u
-          (all_of_steps 0 i bound.steps s u at
-              (subst (λ (j : ℕ). Contains (of_formula j s.tree) u) number
-                  (subst (λ (o' : Option Tree). Contains (of_formula i o') u) (sym is) (all_works (open_leaves t) _ _ o))))
+      (all_of_steps 0 i bound.steps s u at
+      (subst (λ (j : ℕ). Contains (of_formula j s.tree) u) number
+      (subst (λ (o' : Option Tree). Contains (of_formula i o') u) (sym is) (all_works (open_leaves t) _ _ o))))
   all_unknowns u (is_blank s {i} at is) =
       let number : i ≡ 0 + i = omega arith in
       Contains-append_left (of_steps 0 bound.steps) (of_candidates asked) u
-          (all_of_steps 0 i bound.steps s u at
-              (subst (λ (j : ℕ). Contains (of_formula j s.tree) u) number
-                  (subst (λ (o' : Option Tree). Contains (of_formula i o') u) (sym is) (first (blank i) []))))
+      (all_of_steps 0 i bound.steps s u at
+      (subst (λ (j : ℕ). Contains (of_formula j s.tree) u) number
+      (subst (λ (o' : Option Tree). Contains (of_formula i o') u) (sym is) (first (blank i) []))))
   all_unknowns u (in_frame x v c h) = Contains-append_right (of_steps 0 bound.steps) (of_candidates asked) u (all_of_candidates asked x v c h)
 
 -- of a worksheet without candidates: those of its steps

@@ -39,7 +39,7 @@ module _ (db : Database) (bound : Bound) (before : List Asked) (i : ℕ) (a : As
     (chained : IsChained db bound before before nodes links lay) (are : AreFormulaNodes bound nodes lay formulas)
     (apart : AreApart a.vars) (fresh : (s : Sym) (c : Typecode) → IsUnknown bound before (copy i s c) → ⊥)
     (tree_over : IsOver a.vars a.tree) (hyps_over : AllByRecursion (IsOver a.vars) a.hyps) (tree_typed : IsTyped db.rows bound.place a.tree)
-        (hyps_typed : AllByRecursion (IsTyped db.rows bound.place) a.hyps) where
+    (hyps_typed : AllByRecursion (IsTyped db.rows bound.place) a.hyps) where
   abbrev n : ℕ
   n = length nodes
 
@@ -70,8 +70,13 @@ module _ (db : Database) (bound : Bound) (before : List Asked) (i : ℕ) (a : As
   module _ (copied_store : IsStore copied []) where
     grown_copies : Grown db.rows bound.place copied copied
     grown_copies =
-        record { added = []; extends = sym (append_none db.rows bound.place copied copied); children = copied_store.children;
-            not_free = λ k c from h is. omega (arith, from, h); typed = copies_laid.typed }
+        record {
+          added = [];
+          extends = sym (append_none db.rows bound.place copied copied);
+          children = copied_store.children;
+          not_free = λ k c from h is. omega (arith, from, h);
+          typed = copies_laid.typed;
+        }
 
     -- the node of a copy, in a store that has grown
     copy_node : (s : Sym) (c : Typecode) → IsOver a.vars (tree.Var s c) → (ns : List Term) → Grown db.rows bound.place copied ns
@@ -83,8 +88,8 @@ module _ (db : Database) (bound : Bound) (before : List Asked) (i : ℕ) (a : As
         let at = copied_is db bound before i a gs nodes lay chained.laid_out apart fresh s c there in
         let within : n + told.place < length copied = subst (λ (k : ℕ). k < length copied) at own.within in
         let term : term_at ns (n + told.place) ≡ Free c =
-            ap (λ (xs : List Term). term_at xs (n + told.place)) g.extends ∙ term_front copied g.added (n + told.place) within
-                ∙ ap (term_at copied) (sym at) ∙ own.free in
+        ap (λ (xs : List Term). term_at xs (n + told.place)) g.extends ∙ term_front copied g.added (n + told.place) within
+        ∙ ap (term_at copied) (sym at) ∙ own.free in
         found_node db.rows bound.place copied [] table ns c (λ us. valuation_of lay' us (copy i s c)) (variable_at table s c) (Var s c) (n + told.place) told.node g
         (within_front db.rows bound.place copied copied g.added ns (n + told.place) g.extends within) (ap term_code term) (λ us f. ap (tree_at us) (sym at))
 
@@ -127,8 +132,8 @@ module _ (db : Database) (bound : Bound) (before : List Asked) (i : ℕ) (a : As
         (laid_out_grows db bound.place New copied (root_made.more ++ roots_made.more) lay' copies_laid
         (subst (λ (ns : List Term). (k : ℕ) (c : Typecode) → length copied ≤ k → k < length ns → term_at ns k ≡ Free c → ⊥) e g.not_free)
         (subst
-            (λ (ns : List Term). (k : ℕ) (l : Label) (c : Typecode) (m : ℕ) (kids : List Id) → k < length ns → term_at ns k ≡ Node l c m kids
-                → IsTypedTerm db.rows bound.place ns l c kids) e g.typed))
+        (λ (ns : List Term). (k : ℕ) (l : Label) (c : Typecode) (m : ℕ) (kids : List Id) → k < length ns → term_at ns k ≡ Node l c m kids
+        → IsTypedTerm db.rows bound.place ns l c kids) e g.typed))
 
     prepared_formulas : AreFormulaNodes bound next lay' formulas
     prepared_formulas k h =
@@ -138,7 +143,7 @@ module _ (db : Database) (bound : Bound) (before : List Asked) (i : ℕ) (a : As
           is_formula = λ us f.
               old.is_formula us (fit_back db.rows bound.place copied nodes all_more next us next_is f)
               ∙ formula_same bound before (valuation_of lay us) (valuation_of lay' us)
-                  (λ u on. ap (tree_at us) (sym (kept_node db bound before i a gs nodes lay chained.laid_out apart fresh u on))) k h;
+              (λ u on. ap (tree_at us) (sym (kept_node db bound before i a gs nodes lay chained.laid_out apart fresh u on))) k h;
         }
 
     zip_of : (ts : List Tree) (ids : List Id) → map (λ (id : Id). term_code (term_at next id.0)) ids ≡ map code_of ts → AllByRecursion (λ (id : Id). id.0 < length next) ids
@@ -167,7 +172,7 @@ module _ (db : Database) (bound : Bound) (before : List Asked) (i : ℕ) (a : As
       laid_out = prepared_laid;
       exact = subst (λ (ns : List Term). IsExact bound ns links lay' before) (sym next_is)
           (exact_grows nodes all_more links chained.store bound before lay lay' (λ u on. (chained.laid_out.unknowns u on).within)
-              (kept_node db bound before i a gs nodes lay chained.laid_out apart fresh) chained.sound chained.exact);
+          (kept_node db bound before i a gs nodes lay chained.laid_out apart fresh) chained.sound chained.exact);
       among = λ x h. Contains-append_left before (asked i a gs ∷ []) x h;
       sound = chained.sound;
     }

@@ -210,10 +210,10 @@ module _ (db : Database) (bound : Bound) (x : Asked) (candidate : IsCandidate db
       places = candidate.places;
       tree =
           subst (λ (vs : List TypedVariable). IsOver vs x.assertion.tree) (sym usable.vars)
-              (read_over db x.assertion.frame x.assertion.frame.formula x.assertion.tree facts.grammar own.formula usable.conclusion);
+          (read_over db x.assertion.frame x.assertion.frame.formula x.assertion.tree facts.grammar own.formula usable.conclusion);
       hyps =
           subst (λ (vs : List TypedVariable). AllByRecursion (IsOver vs) x.assertion.hyps) (sym usable.vars)
-              (reads_over db x.assertion.frame (essentials x.assertion.frame.hyps) x.assertion.hyps facts.grammar own.hyps usable.hyps);
+          (reads_over db x.assertion.frame (essentials x.assertion.frame.hyps) x.assertion.hyps facts.grammar own.hyps usable.hyps);
     };
     tree = typed_wider db.rows x.assertion.frame.at bound.place before x.assertion.tree usable.conclusion.tree.parses.typed;
     hyps = reads_typed db x.assertion.frame.at bound.place before (essentials x.assertion.frame.hyps) x.assertion.hyps usable.hyps;

@@ -149,7 +149,7 @@ stops there before b bs code e = ap (λ (f : Option Fault). or_else f (letters_e
 abbrev Later : ℕ → ℕ → ℕ → List ℕ → ℕ → List ℕ → Type 0
 Later m n marks before b bs =
     (q : Prior) (k : ℕ) → IsPrior (b ∷ before) q → k ≡ marks_before (b ∷ before) → k ≤ suc marks
-        → fault_in (read_letters m n k q (suc (length before)) bs) ≡ fault_from (m + n) (b ∷ before) bs
+    → fault_in (read_letters m n k q (suc (length before)) bs) ≡ fault_from (m + n) (b ∷ before) bs
 
 at_leading : (m n marks : ℕ) (p : Prior) (before : List ℕ) (b : ℕ) (bs : List ℕ) → IsPrior before p → marks ≡ marks_before before
     → is_leading b ≡ true → Later m n marks before b bs
@@ -159,13 +159,13 @@ at_leading m n marks p before b bs h hm e later =
     let digits : with_digit p b ≡ capped (digits_before (b ∷ before)) = rw (e, value_is before p h) (digit_is (digits_before before) (b - 84)) in
     let next = later (prior.Digits (with_digit p b)) marks (e, digits) (hm ∙ sym (marks_same b before f.2)) (omega arith) in
     let none : first_code (letter_rules (m + n)) before b ≡ None =
-        no_rule (m + n) before b f.3 (and_left (is_last b) (ltb (m + n + marks_before before) (number_at before b)) f.0)
-            (and_left (eqb b 90 || eqb b 63) (just_after is_leading before) (or_from (eqb b 90) (eqb b 63) f.2 f.1))
-            (and_left (eqb b 90) (not (list_any is_step before)) f.2) (and_left (eqb b 90) (just_after (λ c. eqb c 90) before) f.2) in
+    no_rule (m + n) before b f.3 (and_left (is_last b) (ltb (m + n + marks_before before) (number_at before b)) f.0)
+    (and_left (eqb b 90 || eqb b 63) (just_after is_leading before) (or_from (eqb b 90) (eqb b 63) f.2 f.1))
+    (and_left (eqb b 90) (not (list_any is_step before)) f.2) (and_left (eqb b 90) (just_after (λ c. eqb c 90) before) f.2) in
     let read : read_letters m n marks p (length before) (b ∷ bs) ≡ with_front (pending p) (read_letters m n marks (prior.Digits (with_digit p b)) (suc (length before)) bs) = rw e refl in
     ap (λ (r : Result (List Step) CodeFault). fault_in r) read
-        ∙ fault_in-front (pending p) (read_letters m n marks (prior.Digits (with_digit p b)) (suc (length before)) bs) ∙ next
-        ∙ goes_on (m + n) before b bs none
+    ∙ fault_in-front (pending p) (read_letters m n marks (prior.Digits (with_digit p b)) (suc (length before)) bs) ∙ next
+    ∙ goes_on (m + n) before b bs none
 
 -- the rules at a letter that is no leading digit
 at_last : (m n marks : ℕ) (p : Prior) (before : List ℕ) (b : ℕ) (bs : List ℕ) → IsPrior before p → marks ≡ marks_before before
@@ -174,31 +174,34 @@ at_last : (m n marks : ℕ) (p : Prior) (before : List ℕ) (b : ℕ) (bs : List
 at_last m n marks p before b bs h hm room e later =
     let f = last_is b e in
     let large : ltb (m + n + marks) (with_last p b) ≡ ltb (m + n + marks_before before) (number_at before b) =
-        rw (value_is before p h, ← hm) (last_lt (m + n + marks) (digits_before before) (b - 64) room) in
+    rw (value_is before p h, ← hm) (last_lt (m + n + marks) (digits_before before) (b - 64) room) in
     let next_step = read_letters m n marks (prior.Step (what_of m n (with_last p b))) (suc (length before)) bs in
     elim (cases_Bool (ltb (m + n + marks) (with_last p b))) [
       | inl t ↦
           let two : first_code (letter_rules (m + n)) before b ≡ Some 2 =
-              rule_2 (m + n) before b f.3 (and_from (is_last b) (ltb (m + n + marks_before before) (number_at before b)) e (sym large ∙ t)) in
+          rule_2 (m + n) before b f.3 (and_from (is_last b) (ltb (m + n + marks_before before) (number_at before b)) e (sym large ∙ t)) in
           let read : read_letters m n marks p (length before) (b ∷ bs) ≡ Err (faults.NumberTooLarge (length before) (with_last p b)) =
-              rw (f.0, e)
-                  (cond_then (ltb (m + n + marks) (with_last p b)) (Err (faults.NumberTooLarge (length before) (with_last p b)))
-                      (with_front (pending p) next_step) t) in
+          rw (f.0, e)
+          (cond_then (ltb (m + n + marks) (with_last p b)) (Err (faults.NumberTooLarge (length before) (with_last p b)))
+          (with_front (pending p) next_step) t) in
           ap (λ (r : Result (List Step) CodeFault). fault_in r) read ∙ stops (m + n) before b bs 2 two
       | inr t ↦
           let none : first_code (letter_rules (m + n)) before b ≡ None =
-              no_rule (m + n) before b f.3 (and_right (is_last b) (ltb (m + n + marks_before before) (number_at before b)) (sym large ∙ t))
-                  (and_left (eqb b 90 || eqb b 63) (just_after is_leading before) (or_from (eqb b 90) (eqb b 63) f.2 f.1))
-                  (and_left (eqb b 90) (not (list_any is_step before)) f.2) (and_left (eqb b 90) (just_after (λ c. eqb c 90) before) f.2) in
+          no_rule (m + n) before b f.3 (and_right (is_last b) (ltb (m + n + marks_before before) (number_at before b)) (sym large ∙ t))
+          (and_left (eqb b 90 || eqb b 63) (just_after is_leading before) (or_from (eqb b 90) (eqb b 63) f.2 f.1))
+          (and_left (eqb b 90) (not (list_any is_step before)) f.2) (and_left (eqb b 90) (just_after (λ c. eqb c 90) before) f.2) in
           let read : read_letters m n marks p (length before) (b ∷ bs) ≡ with_front (pending p) next_step =
-              rw (f.0, e)
-                  (cond_else (ltb (m + n + marks) (with_last p b)) (Err (faults.NumberTooLarge (length before) (with_last p b)))
-                      (with_front (pending p) next_step) t) in
+          rw (f.0, e)
+          (cond_else (ltb (m + n + marks) (with_last p b)) (Err (faults.NumberTooLarge (length before) (with_last p b)))
+          (with_front (pending p) next_step) t) in
           let next =
-              later (prior.Step (what_of m n (with_last p b))) marks
-                  (f.0, f.2, or_left (is_step b) (list_any is_step before) (or_left (is_last b) (eqb b 63) e),
-                      cond_else (is_leading b) (5 * digits_before before + (b - 84)) 0 f.0)
-                  (hm ∙ sym (marks_same b before f.2)) (omega arith) in
+          later (prior.Step (what_of m n (with_last p b))) marks (
+            f.0,
+            f.2,
+            or_left (is_step b) (list_any is_step before) (or_left (is_last b) (eqb b 63) e),
+            cond_else (is_leading b) (5 * digits_before before + (b - 84)) 0 f.0,
+          )
+          (hm ∙ sym (marks_same b before f.2)) (omega arith) in
           ap (λ (r : Result (List Step) CodeFault). fault_in r) read ∙ fault_in-front (pending p) next_step ∙ next ∙ goes_on (m + n) before b bs none
     ]
 
@@ -236,22 +239,25 @@ at_query m n marks p before b bs h hm e later =
     elim (cases_Bool (is_digits p)) [
       | inl t ↦
           let five : first_code (letter_rules (m + n)) before b ≡ Some 5 =
-              rule_5 (m + n) before b fine small
-                  (and_from (eqb b 90 || eqb b 63) (just_after is_leading before) (or_right (eqb b 90) (eqb b 63) e) (digited before p h t)) in
+          rule_5 (m + n) before b fine small
+          (and_from (eqb b 90 || eqb b 63) (just_after is_leading before) (or_right (eqb b 90) (eqb b 63) e) (digited before p h t)) in
           let read : read_letters m n marks p (length before) (b ∷ bs) ≡ Err (faults.UnendedNumber (length before)) =
-              rw (f.0, f.1, e) (cond_then (is_digits p) (Err (faults.UnendedNumber (length before))) (with_front (pending p) next_step) t) in
+          rw (f.0, f.1, e) (cond_then (is_digits p) (Err (faults.UnendedNumber (length before))) (with_front (pending p) next_step) t) in
           ap (λ (r : Result (List Step) CodeFault). fault_in r) read ∙ stops (m + n) before b bs 5 five
       | inr t ↦
           let none : first_code (letter_rules (m + n)) before b ≡ None =
-              no_rule (m + n) before b fine small (and_right (eqb b 90 || eqb b 63) (just_after is_leading before) (undigited before p h t))
-                  (and_left (eqb b 90) (not (list_any is_step before)) f.2) (and_left (eqb b 90) (just_after (λ c. eqb c 90) before) f.2) in
+          no_rule (m + n) before b fine small (and_right (eqb b 90 || eqb b 63) (just_after is_leading before) (undigited before p h t))
+          (and_left (eqb b 90) (not (list_any is_step before)) f.2) (and_left (eqb b 90) (just_after (λ c. eqb c 90) before) f.2) in
           let read : read_letters m n marks p (length before) (b ∷ bs) ≡ with_front (pending p) next_step =
-              rw (f.0, f.1, e) (cond_else (is_digits p) (Err (faults.UnendedNumber (length before))) (with_front (pending p) next_step) t) in
+          rw (f.0, f.1, e) (cond_else (is_digits p) (Err (faults.UnendedNumber (length before))) (with_front (pending p) next_step) t) in
           let next =
-              later (prior.Step Unknown) marks
-                  (f.0, f.2, or_left (is_step b) (list_any is_step before) (or_right (is_last b) (eqb b 63) e),
-                      cond_else (is_leading b) (5 * digits_before before + (b - 84)) 0 f.0)
-                  (hm ∙ sym (marks_same b before f.2)) (omega arith) in
+          later (prior.Step Unknown) marks (
+            f.0,
+            f.2,
+            or_left (is_step b) (list_any is_step before) (or_right (is_last b) (eqb b 63) e),
+            cond_else (is_leading b) (5 * digits_before before + (b - 84)) 0 f.0,
+          )
+          (hm ∙ sym (marks_same b before f.2)) (omega arith) in
           ap (λ (r : Result (List Step) CodeFault). fault_in r) read ∙ fault_in-front (pending p) next_step ∙ next ∙ goes_on (m + n) before b bs none
     ]
 
@@ -262,9 +268,9 @@ at_mark m n marks prior.Start before b bs h hm e later =
     let is : b ≡ 90 = eqb-true b 90 e in
     let small : number_too_large (m + n) before b ≡ false = and_left (is_last b) (ltb (m + n + marks_before before) (number_at before b)) f.1 in
     let three =
-        rule_3 (m + n) before b (not_bad b (omega arith) (omega arith)) small
-            (and_right (eqb b 90 || eqb b 63) (just_after is_leading before) (rw h refl))
-            (and_from (eqb b 90) (not (list_any is_step before)) e (rw h refl)) in
+    rule_3 (m + n) before b (not_bad b (omega arith) (omega arith)) small
+    (and_right (eqb b 90 || eqb b 63) (just_after is_leading before) (rw h refl))
+    (and_from (eqb b 90) (not (list_any is_step before)) e (rw h refl)) in
     let read : read_letters m n marks prior.Start (length before) (b ∷ bs) ≡ Err (faults.MarkAtStart (length before)) = rw (f.0, f.1, f.2, e) refl in
     ap (λ (r : Result (List Step) CodeFault). fault_in r) read ∙ stops (m + n) before b bs 3 three
 at_mark m n marks (prior.Digits v) before b bs h hm e later =
@@ -279,24 +285,24 @@ at_mark m n marks (prior.Step w) before b bs h hm e later =
     let is : b ≡ 90 = eqb-true b 90 e in
     let small : number_too_large (m + n) before b ≡ false = and_left (is_last b) (ltb (m + n + marks_before before) (number_at before b)) f.1 in
     let none =
-        no_rule (m + n) before b (not_bad b (omega arith) (omega arith)) small (and_right (eqb b 90 || eqb b 63) (just_after is_leading before) h.0)
-            (and_right (eqb b 90) (not (list_any is_step before)) (ap (λ (t : Bool). not t) h.2))
-            (and_right (eqb b 90) (just_after (λ c. eqb c 90) before) h.1) in
+    no_rule (m + n) before b (not_bad b (omega arith) (omega arith)) small (and_right (eqb b 90 || eqb b 63) (just_after is_leading before) h.0)
+    (and_right (eqb b 90) (not (list_any is_step before)) (ap (λ (t : Bool). not t) h.2))
+    (and_right (eqb b 90) (just_after (λ c. eqb c 90) before) h.1) in
     let next_step = read_letters m n (suc marks) prior.Mark (suc (length before)) bs in
     let read : read_letters m n marks (prior.Step w) (length before) (b ∷ bs) ≡ with_front (marked w ∷ []) next_step = rw (f.0, f.1, f.2, e) refl in
     let next =
-        later prior.Mark (suc marks)
-            (f.0, e, or_right (is_step b) (list_any is_step before) h.2, cond_else (is_leading b) (5 * digits_before before + (b - 84)) 0 f.0)
-            (ap (λ (k : ℕ). suc k) hm ∙ sym (marks_more b before e)) (omega arith) in
+    later prior.Mark (suc marks)
+    (f.0, e, or_right (is_step b) (list_any is_step before) h.2, cond_else (is_leading b) (5 * digits_before before + (b - 84)) 0 f.0)
+    (ap (λ (k : ℕ). suc k) hm ∙ sym (marks_more b before e)) (omega arith) in
     ap (λ (r : Result (List Step) CodeFault). fault_in r) read ∙ fault_in-front (marked w ∷ []) next_step ∙ next ∙ goes_on (m + n) before b bs none
 at_mark m n marks prior.Mark before b bs h hm e later =
     let f = mark_is b e in
     let is : b ≡ 90 = eqb-true b 90 e in
     let small : number_too_large (m + n) before b ≡ false = and_left (is_last b) (ltb (m + n + marks_before before) (number_at before b)) f.1 in
     let four =
-        rule_4 (m + n) before b (not_bad b (omega arith) (omega arith)) small (and_right (eqb b 90 || eqb b 63) (just_after is_leading before) h.0)
-            (and_right (eqb b 90) (not (list_any is_step before)) (ap (λ (t : Bool). not t) h.2))
-            (and_from (eqb b 90) (just_after (λ c. eqb c 90) before) e h.1) in
+    rule_4 (m + n) before b (not_bad b (omega arith) (omega arith)) small (and_right (eqb b 90 || eqb b 63) (just_after is_leading before) h.0)
+    (and_right (eqb b 90) (not (list_any is_step before)) (ap (λ (t : Bool). not t) h.2))
+    (and_from (eqb b 90) (just_after (λ c. eqb c 90) before) e h.1) in
     let read : read_letters m n marks prior.Mark (length before) (b ∷ bs) ≡ Err (faults.MarkTwice (length before)) = rw (f.0, f.1, f.2, e) refl in
     ap (λ (r : Result (List Step) CodeFault). fault_in r) read ∙ stops (m + n) before b bs 4 four
 
@@ -324,9 +330,9 @@ fault_law m n marks p before (b ∷ bs) h hm room =
                         | inl e ↦ at_mark m n marks p before b bs h hm e later
                         | inr e4 ↦
                             let one : first_code (letter_rules (m + n)) before b ≡ Some 1 =
-                                first_code-take 1 bad_letter
-                                    ((2, number_too_large (m + n)) ∷ (5, unended_number) ∷ (3, mark_at_start) ∷ (4, mark_twice) ∷ []) before b
-                                    (other_is b e1 e2 e3 e4) in
+                            first_code-take 1 bad_letter
+                            ((2, number_too_large (m + n)) ∷ (5, unended_number) ∷ (3, mark_at_start) ∷ (4, mark_twice) ∷ []) before b
+                            (other_is b e1 e2 e3 e4) in
                             let read : read_letters m n marks p (length before) (b ∷ bs) ≡ Err (faults.BadLetter (length before)) = rw (e1, e2, e3, e4) refl in
                             ap (λ (r : Result (List Step) CodeFault). fault_in r) read ∙ stops (m + n) before b bs 1 one
                       ]

@@ -34,7 +34,7 @@ pub same_kept : (xs ys : List (List ℕ)) (name : List ℕ) → contains xs name
 same_kept xs ys name there h = record {
   same = λ other.
       let is_there : bytes_eq other name ≡ true → contains xs other ≡ true =
-          λ (e : bytes_eq other name ≡ true). subst (λ (n : List ℕ). contains xs n ≡ true) (sym ((bytes_eq-Decides other name).0 e)) there in
+      λ (e : bytes_eq other name ≡ true). subst (λ (n : List ℕ). contains xs n ≡ true) (sym ((bytes_eq-Decides other name).0 e)) there in
       or_same (contains xs other) (bytes_eq other name) is_there ∙ ap (λ (t : Bool). t || (bytes_eq other name || false)) (h.same other) ∙ sym (list_any-append (bytes_eq other) ys (name ∷ []));
 }
 
@@ -87,11 +87,11 @@ more_fine mandatory labels i inside h k fine_so_far =
     let one : i + 1 ≡ suc i = omega arith in
     let k' : contains (reverse (take i labels)) label ≡ false = any_reversed (bytes_eq label) (take i labels) ∙ k in
     let on : first_fault index (label_rules mandatory) (reverse (take i labels)) (label ∷ drop (suc i) labels)
-        ≡ first_fault index (label_rules mandatory) (label ∷ reverse (take i labels)) (drop (suc i) labels) =
+    ≡ first_fault index (label_rules mandatory) (label ∷ reverse (take i labels)) (drop (suc i) labels) =
     first_fault-later index (label_rules mandatory) (reverse (take i labels)) label (drop (suc i) labels) (fine mandatory (reverse (take i labels)) label h k') in
     let next : left mandatory labels (suc i) ≡ label_fault mandatory labels =
     ap (λ (b : List (List ℕ)). first_fault index (label_rules mandatory) b (drop (suc i) labels)) (reverse_more labels i [] inside) ∙ sym on
-        ∙ sym (here mandatory labels i inside) ∙ fine_so_far.rest in
+    ∙ sym (here mandatory labels i inside) ∙ fine_so_far.rest in
     record { rest = subst (λ (n : ℕ). left mandatory labels n ≡ label_fault mandatory labels) (sym one) next }
 
 pub all_fine : (mandatory labels : List (List ℕ)) → AreFine mandatory labels (length labels) → label_fault mandatory labels ≡ None
@@ -118,17 +118,17 @@ fault_there mandatory names labels before i label faults.Memory inside n b l h f
 fault_there mandatory names labels before i label (faults.MandatoryListed j m) inside n b l h f =
     let there : contains mandatory (get_or labels i []) ≡ true = sym (n.same (get_or labels i [])) ∙ ap (contains names) (sym l) ∙ f.2 in
     let at : label_fault mandatory labels ≡ Some (fault j 7) =
-        stops mandatory labels i 7 inside h (listed mandatory (reverse (take i labels)) (get_or labels i []) there)
-            ∙ ap (λ (k : ℕ). Some (fault k 7)) (sym f.0) in
+    stops mandatory labels i 7 inside h (listed mandatory (reverse (take i labels)) (get_or labels i []) there)
+    ∙ ap (λ (k : ℕ). Some (fault k 7)) (sym f.0) in
     (at, f.1 ∙ l ∙ ap (λ (k : ℕ). get_or labels k []) (sym f.0))
 fault_there mandatory names labels before i label (faults.LabelTwice j m) inside n b l h f =
     let this = get_or labels i [] in
     let free : contains mandatory this ≡ false = sym (n.same this) ∙ ap (contains names) (sym l) ∙ f.2 in
     let there : contains (reverse (take i labels)) this ≡ true =
-        any_reversed (bytes_eq this) (take i labels) ∙ ap (λ (ls : List (List ℕ)). contains ls this) (sym b) ∙ ap (contains before) (sym l) ∙ f.3 in
+    any_reversed (bytes_eq this) (take i labels) ∙ ap (λ (ls : List (List ℕ)). contains ls this) (sym b) ∙ ap (contains before) (sym l) ∙ f.3 in
     let at : label_fault mandatory labels ≡ Some (fault j 8) =
-        stops mandatory labels i 8 inside h (twice mandatory (reverse (take i labels)) this free there)
-            ∙ ap (λ (k : ℕ). Some (fault k 8)) (sym f.0) in
+    stops mandatory labels i 8 inside h (twice mandatory (reverse (take i labels)) this free there)
+    ∙ ap (λ (k : ℕ). Some (fault k 8)) (sym f.0) in
     (at, f.1 ∙ l ∙ ap (λ (k : ℕ). get_or labels k []) (sym f.0))
 fault_there mandatory names labels before i label (faults.BadLetter j) inside n b l h f = f
 fault_there mandatory names labels before i label (faults.NumberTooLarge j k) inside n b l h f = f
@@ -146,20 +146,20 @@ pub same_put : (names new list : List (List ℕ)) (i : ℕ) (item name : List �
     → item ≡ get_or list i item → SameNames names (take i list) → SameNames new (take (i + 1) list)
 same_put names new list i item name inside n e m h =
     same_more names list new i name inside (the_item list i item name inside e m)
-        (subst (λ (l : List (List ℕ)). SameNames l (take i list ++ name ∷ [])) (sym n) (same_added names (take i list) name h))
+    (subst (λ (l : List (List ℕ)). SameNames l (take i list ++ name ∷ [])) (sym n) (same_added names (take i list) name h))
 
 pub same_there : (names new list : List (List ℕ)) (i : ℕ) (item name : List ℕ) → i < length list → new ≡ names → name ≡ item
     → item ≡ get_or list i item → contains names name ≡ true → SameNames names (take i list) → SameNames new (take (i + 1) list)
 same_there names new list i item name inside n e m there h =
     same_more names list new i name inside (the_item list i item name inside e m)
-        (subst (λ (l : List (List ℕ)). SameNames l (take i list ++ name ∷ [])) (sym n) (same_kept names (take i list) name there h))
+    (subst (λ (l : List (List ℕ)). SameNames l (take i list ++ name ∷ [])) (sym n) (same_kept names (take i list) name there h))
 
 pub before_put : (before new labels : List (List ℕ)) (i : ℕ) (item label : List ℕ) → i < length labels → new ≡ before ++ label ∷ []
     → before ≡ take i labels → label ≡ item → item ≡ get_or labels i item → new ≡ take (i + 1) labels
 before_put before new labels i item label inside n b e m =
     let one : suc i ≡ i + 1 = omega arith in
     n ∙ ap (λ (l : List (List ℕ)). l ++ label ∷ []) b ∙ ap (λ (l : List ℕ). take i labels ++ l ∷ []) (the_item labels i item label inside e m)
-        ∙ sym (take-suc labels i [] inside) ∙ ap (λ (k : ℕ). take k labels) one
+    ∙ sym (take-suc labels i [] inside) ∙ ap (λ (k : ℕ). take k labels) one
 
 pub fine_put : (mandatory names labels before : List (List ℕ)) (i : ℕ) (item label : List ℕ) → i < length labels → SameNames names mandatory
     → before ≡ take i labels → label ≡ item → item ≡ get_or labels i item

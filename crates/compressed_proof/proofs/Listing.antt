@@ -53,7 +53,7 @@ lists_more front w ws rest all r e h = record {
   closed = h.closed ∙ ap (list_any closes) r ∙ ap (λ (t : Bool). t || list_any closes ws) e;
   before =
       h.before ∙ ap (λ (l : List Word). front ++ texts (before_first closes l)) r ∙ ap (λ (l : List Word). front ++ texts l) (before_on w ws e)
-          ∙ sym (append_assoc front (w.bytes ∷ []) (texts (before_first closes ws)));
+      ∙ sym (append_assoc front (w.bytes ∷ []) (texts (before_first closes ws)));
   after = h.after ∙ ap (after_first closes) r ∙ after_on w ws e;
 }
 

@@ -18,7 +18,7 @@ twice (x ∷ xs) acc = twice xs (x ∷ acc)
 pub item_there : (before : List ℕ) (b : ℕ) (bs : List ℕ) → get_or (reverse_aux before (b ∷ bs)) (length before) 0 ≡ b
 item_there before b bs =
     ap (λ (l : List ℕ). get_or l (length before) 0) (onto before (b ∷ bs))
-        ∙ ap (λ (n : ℕ). get_or (reverse before ++ b ∷ bs) n 0) (sym (length-reverse before)) ∙ get_or-append_seam (reverse before) b bs 0
+    ∙ ap (λ (n : ℕ). get_or (reverse before ++ b ∷ bs) n 0) (sym (length-reverse before)) ∙ get_or-append_seam (reverse before) b bs 0
 
 pub items_before : (before rest : List ℕ) → reverse (take (length before) (reverse_aux before rest)) ≡ before
 items_before before rest =

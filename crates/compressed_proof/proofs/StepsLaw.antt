@@ -146,19 +146,19 @@ spelled_law m n marks i p front (b ∷ bs) steps h room e =
                 elim (cases_Bool (ltb (m + n + marks) (with_last p b))) [
                   | inl t ↦ absurd
                       (no_fault (faults.NumberTooLarge i (with_last p b)) steps
-                          (sym (cond_then (ltb (m + n + marks) (with_last p b)) (Err (faults.NumberTooLarge i (with_last p b))) next t)
-                              ∙ rw (e1, e2) at e))
+                      (sym (cond_then (ltb (m + n + marks) (with_last p b)) (Err (faults.NumberTooLarge i (with_last p b))) next t)
+                      ∙ rw (e1, e2) at e))
                   | inr t ↦
                       let small : with_last p b ≤ m + n + marks = ltb-false (m + n + marks) (with_last p b) t in
                       let value : with_last p b ≡ capped (capped (20 * capped d.0) + (b - 64)) = rw d.2 refl in
                       let last = bounds 65 84 b e2 in
                       let exact : 20 * d.0 + (b - 64) ≡ with_last p b = omega arith in
                       let named : SpellsWhat m n (digits_in p front ++ b ∷ []) (what_of m n (with_last p b)) =
-                          SpellsWhat-what_of m n (20 * d.0 + (b - 64)) (with_last p b) (digits_in p front ++ b ∷ []) exact (omega arith)
-                              (EndsNumber-Leads 0 (digits_in p front) d.0 b d.1 e2) in
+                      SpellsWhat-what_of m n (20 * d.0 + (b - 64)) (with_last p b) (digits_in p front ++ b ∷ []) exact (omega arith)
+                      (EndsNumber-Leads 0 (digits_in p front) d.0 b d.1 e2) in
                       pass m n marks (suc i) p (prior.Step (what_of m n (with_last p b))) front b bs steps h named later
-                          (sym (cond_else (ltb (m + n + marks) (with_last p b)) (Err (faults.NumberTooLarge i (with_last p b))) next t)
-                              ∙ rw (e1, e2) at e)
+                      (sym (cond_else (ltb (m + n + marks) (with_last p b)) (Err (faults.NumberTooLarge i (with_last p b))) next t)
+                      ∙ rw (e1, e2) at e)
                 ]
             | inr e2 ↦
                 elim (cases_Bool (eqb b 63)) [
@@ -244,15 +244,15 @@ there_law m n marks i p (b ∷ bs) steps h e =
                 elim (cases_Bool (ltb (m + n + marks) (with_last p b))) [
                   | inl t ↦ absurd
                       (no_fault (faults.NumberTooLarge i (with_last p b)) steps
-                          (sym (cond_then (ltb (m + n + marks) (with_last p b)) (Err (faults.NumberTooLarge i (with_last p b))) next t)
-                              ∙ rw (e1, e2) at e))
+                      (sym (cond_then (ltb (m + n + marks) (with_last p b)) (Err (faults.NumberTooLarge i (with_last p b))) next t)
+                      ∙ rw (e1, e2) at e))
                   | inr t ↦
                       let small : with_last p b ≤ m + n + marks = ltb-false (m + n + marks) (with_last p b) t in
                       let last = bounds 65 84 b e2 in
                       pass_there m n marks (suc i) p (prior.Step (what_of m n (with_last p b))) bs steps h
-                          (IsInRange-what_of m n marks (with_last p b) (omega arith) small) later
-                          (sym (cond_else (ltb (m + n + marks) (with_last p b)) (Err (faults.NumberTooLarge i (with_last p b))) next t)
-                              ∙ rw (e1, e2) at e)
+                      (IsInRange-what_of m n marks (with_last p b) (omega arith) small) later
+                      (sym (cond_else (ltb (m + n + marks) (with_last p b)) (Err (faults.NumberTooLarge i (with_last p b))) next t)
+                      ∙ rw (e1, e2) at e)
                 ]
             | inr e2 ↦
                 elim (cases_Bool (eqb b 63)) [
@@ -280,6 +280,8 @@ ok_none (Err f) x e = absurd cc
 pub letters_read : (m n : ℕ) (letters : List ℕ) (steps : List Step) → m + n + length letters < 2 ^ 64 - 1
     → read_letters m n 0 prior.Start 0 letters ≡ Ok steps
     → (letter_fault (m + n) letters ≡ None) × SpellsSteps m n letters steps × AreInRange m n 0 steps
-letters_read m n letters steps room e =
-    (sym (fault_law m n 0 prior.Start [] letters refl refl (omega arith)) ∙ ok_none (read_letters m n 0 prior.Start 0 letters) steps e,
-        spelled_law m n 0 0 prior.Start [] letters steps refl (omega arith) e, there_law m n 0 0 prior.Start letters steps tt e)
+letters_read m n letters steps room e = (
+  sym (fault_law m n 0 prior.Start [] letters refl refl (omega arith)) ∙ ok_none (read_letters m n 0 prior.Start 0 letters) steps e,
+  spelled_law m n 0 0 prior.Start [] letters steps refl (omega arith) e,
+  there_law m n 0 0 prior.Start letters steps tt e,
+)

@@ -69,16 +69,19 @@ told_law m n marks p before (b ∷ bs) h =
             | inl e ↦
                 let f = last_is b e in
                 let next = read_letters m n marks (prior.Step (what_of m n (with_last p b))) (suc (length before)) bs in
-                let there : IsPrior (b ∷ before) (prior.Step (what_of m n (with_last p b))) =
-                    (f.0, f.2, or_left (is_step b) (list_any is_step before) (or_left (is_last b) (eqb b 63) e),
-                        cond_else (is_leading b) (5 * digits_before before + (b - 84)) 0 f.0) in
+                let there : IsPrior (b ∷ before) (prior.Step (what_of m n (with_last p b))) = (
+                  f.0,
+                  f.2,
+                  or_left (is_step b) (list_any is_step before) (or_left (is_last b) (eqb b 63) e),
+                  cond_else (is_leading b) (5 * digits_before before + (b - 84)) 0 f.0,
+                ) in
                 let read : read_letters m n marks p (length before) (b ∷ bs)
-                    ≡ cond (ltb (m + n + marks) (with_last p b)) (Err (faults.NumberTooLarge (length before) (with_last p b)))
-                        (with_front (pending p) next) =
-                    rw (e1, e) refl in
+                ≡ cond (ltb (m + n + marks) (with_last p b)) (Err (faults.NumberTooLarge (length before) (with_last p b)))
+                (with_front (pending p) next) =
+                rw (e1, e) refl in
                 subst (IsTold whole) (sym read)
-                    (elim (ltb (m + n + marks) (with_last p b)) as
-                        (λ t. IsTold whole (cond t (Err (faults.NumberTooLarge (length before) (with_last p b))) (with_front (pending p) next))) [
+                (elim (ltb (m + n + marks) (with_last p b)) as
+                (λ t. IsTold whole (cond t (Err (faults.NumberTooLarge (length before) (with_last p b))) (with_front (pending p) next))) [
                   | true ↦ number_is p before b bs h
                   | false ↦ told_front whole (pending p) next (later (prior.Step (what_of m n (with_last p b))) marks there)
                 ])
@@ -87,12 +90,15 @@ told_law m n marks p before (b ∷ bs) h =
                   | inl e ↦
                       let f = query_is b e in
                       let next = read_letters m n marks (prior.Step Unknown) (suc (length before)) bs in
-                      let there : IsPrior (b ∷ before) (prior.Step Unknown) =
-                          (f.0, f.2, or_left (is_step b) (list_any is_step before) (or_right (is_last b) (eqb b 63) e),
-                              cond_else (is_leading b) (5 * digits_before before + (b - 84)) 0 f.0) in
+                      let there : IsPrior (b ∷ before) (prior.Step Unknown) = (
+                        f.0,
+                        f.2,
+                        or_left (is_step b) (list_any is_step before) (or_right (is_last b) (eqb b 63) e),
+                        cond_else (is_leading b) (5 * digits_before before + (b - 84)) 0 f.0,
+                      ) in
                       let read : read_letters m n marks p (length before) (b ∷ bs)
-                          ≡ cond (is_digits p) (Err (faults.UnendedNumber (length before))) (with_front (pending p) next) =
-                          rw (e1, e2, e) refl in
+                      ≡ cond (is_digits p) (Err (faults.UnendedNumber (length before))) (with_front (pending p) next) =
+                      rw (e1, e2, e) refl in
                       subst (IsTold whole) (sym read) (elim (is_digits p) as (λ t. IsTold whole (cond t (Err (faults.UnendedNumber (length before))) (with_front (pending p) next))) [
                         | true ↦ tt
                         | false ↦ told_front whole (pending p) next (later (prior.Step Unknown) marks there)

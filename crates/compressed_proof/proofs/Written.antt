@@ -25,8 +25,8 @@ pub whole_written : (m : ℕ) (labels ls : List (List ℕ)) (steps ss : List Ste
     → c ≡ b ++ 32 ∷ 41 ∷ 32 ∷ [] → d ≡ c ++ steps_letters m (length ls) ss → r ≡ d → r ≡ join_with_byte 32 ((40 ∷ []) ∷ (labels ++ (41 ∷ []) ∷ steps_letters m (length labels) steps ∷ []))
 whole_written m labels ls steps ss o a b c d r el es eo ea eb ec ed er =
     er ∙ ed
-        ∙ ap (λ (x : List ℕ). x ++ steps_letters m (length ls) ss)
-            (ec ∙ ap (λ (x : List ℕ). x ++ 32 ∷ 41 ∷ 32 ∷ []) (eb ∙ ap (λ (x : List ℕ). x ++ spaced ls) (ea ∙ ap (λ (x : List ℕ). x ++ 40 ∷ []) eo)))
+    ∙ ap (λ (x : List ℕ). x ++ steps_letters m (length ls) ss)
+    (ec ∙ ap (λ (x : List ℕ). x ++ 32 ∷ 41 ∷ 32 ∷ []) (eb ∙ ap (λ (x : List ℕ). x ++ spaced ls) (ea ∙ ap (λ (x : List ℕ). x ++ 40 ∷ []) eo)))
     ∙ ap (λ (x : List (List ℕ)). ((40 ∷ spaced x) ++ 32 ∷ 41 ∷ 32 ∷ []) ++ steps_letters m (length x) ss) el
     ∙ ap (λ (x : List Step). ((40 ∷ spaced labels) ++ 32 ∷ 41 ∷ 32 ∷ []) ++ steps_letters m (length labels) x) es
     ∙ whole labels (steps_letters m (length labels) steps)

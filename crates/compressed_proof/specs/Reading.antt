@@ -54,9 +54,9 @@ read_letters m n marks p i [] = if is_digits p then Err (faults.UnendedNumber i)
 read_letters m n marks p i (b ∷ bs) =
     if is_leading b then with_front (pending p) (read_letters m n marks (prior.Digits (with_digit p b)) (suc i) bs)
     else
-        (if is_last b then
-            (if nat_lt (m + n + marks) (with_last p b) then Err (faults.NumberTooLarge i (with_last p b)) else with_front (pending p)
-                (read_letters m n marks (prior.Step (what_of m n (with_last p b))) (suc i) bs))
+    (if is_last b then
+    (if nat_lt (m + n + marks) (with_last p b) then Err (faults.NumberTooLarge i (with_last p b)) else with_front (pending p)
+    (read_letters m n marks (prior.Step (what_of m n (with_last p b))) (suc i) bs))
     else (if b == 63 then (if is_digits p then Err (faults.UnendedNumber i) else with_front (pending p) (read_letters m n marks (prior.Step Unknown) (suc i) bs))
     else (if b == 90 then (elim p [
       | prior.Start ↦ Err (faults.MarkAtStart i)

@@ -141,8 +141,8 @@ row_has x (y ∷ ys) n =
     elim (cases_Bool (x.0 == y.0)) [
       | inl e ↦ let same : (x.0 == n) ≡ ((x.0 == n) && (y.0 == n)) = grind (arith, nat_tests, e) in
           rw e
-              (ap (λ b. (x.0 == n) || b) rest ∙ ap (λ b. b || ((x.0 == n) && has_number ys n)) same
-                  ∙ sym (and_or (x.0 == n) (y.0 == n) (has_number ys n)))
+          (ap (λ b. (x.0 == n) || b) rest ∙ ap (λ b. b || ((x.0 == n) && has_number ys n)) same
+          ∙ sym (and_or (x.0 == n) (y.0 == n) (has_number ys n)))
       | inr e ↦ rw e (rest ∙ ap (λ b. b || ((x.0 == n) && has_number ys n)) (sym (number_cases x.0 y.0 n e)) ∙ sym (and_or (x.0 == n) (y.0 == n) (has_number ys n)))
     ]
 

@@ -92,8 +92,8 @@ unfolding shared_of
 shared_none vars trees p e =
     let none : variables_at vars trees p.b ≡ [] = ap (λ o. option_map_or variables o []) (sym e) in
     sym (ap (λ ys. shared_of (variables_at vars trees p.a) ys) none
-        ∙ ap (λ (qs : List (Sym × Sym)). fold lesser None (map (λ (q : Sym × Sym). q.0) (filter is_shared qs)))
-            (crossed_none (variables_at vars trees p.a)))
+    ∙ ap (λ (qs : List (Sym × Sym)). fold lesser None (map (λ (q : Sym × Sym). q.0) (filter is_shared qs)))
+    (crossed_none (variables_at vars trees p.a)))
 
 pub shared_told : (vars : List Sym) (trees : List Tree) (p : Pair) (one other : Tree) (o : Option ℕ) → Some one ≡ value_at vars trees p.a → Some other ≡ value_at vars trees p.b
     → IsLeastShared (variables one) (variables other) o → option_map (λ n. symbol n) o ≡ shared_at vars trees p
@@ -122,7 +122,7 @@ module _ (u : Use) (pairs : List Pair) (vars : List Sym) (trees : List Tree) (is
 
   variable_of : (ps : List Pair)
       → option_map (λ (c : Sym × Sym × Sym). c.2) (slice_get (filter_map (λ p. option_map (λ v. told p v) (shared_variable u p)) ps) 0)
-          ≡ slice_get (filter_map (shared_variable u) ps) 0
+      ≡ slice_get (filter_map (shared_variable u) ps) 0
   variable_of [] = refl
   variable_of (p ∷ ps) = variable_by p (filter_map (λ p. option_map (λ v. told p v) (shared_variable u p)) ps) (filter_map (shared_variable u) ps) (shared_variable u p) (variable_of ps)
 

@@ -53,8 +53,8 @@ module _ (Q : Tree → Type 0) where
         let new = map step (map made_step (zip (derived_names (length filled.made) used) filled.made)) in
         let last = step (filled_step f.numbers filled.places s t g o) in
         all_join OfItem (f.items ++ new) (last ∷ [])
-            (all_join OfItem f.items new before (of_made (derived_names (length filled.made) used) filled.made made))
-            (of_step f.numbers filled.places s t o own, tt)
+        (all_join OfItem f.items new before (of_made (derived_names (length filled.made) used) filled.made made))
+        (of_step f.numbers filled.places s t o own, tt)
 
     module _ (names : List Name) (bound : Bound) (judgements : List Judgement)
         (own : (i : ℕ) → Q (formula bound g i))

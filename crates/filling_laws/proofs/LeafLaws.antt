@@ -129,8 +129,8 @@ module _ (h : Held) (held : IsHeld h) (few : length h.nodes ≤ 2 ^ 24) where
           let within = slice_get_within y.assertion.hyps k e at in
           let below : k < length x.hyps = omega (arith, within, count) in
           let inside : id.0 < length h.nodes =
-              hyp_inside h h refl (record { nodes = h.nodes; links = h.links; works = h.works })
-                  (record { held = held; trees = refl }) i x kept.1 x.hyps k no_id refl below in
+          hyp_inside h h refl (record { nodes = h.nodes; links = h.links; works = h.works })
+          (record { held = held; trees = refl }) i x kept.1 x.hyps k no_id refl below in
           subst IsSmall (hyp_value h db level i y is x kept.1 k e id at (slice_get-get_or x.hyps k no_id below)) (small_node id.0 inside)
 
       small_asked : AllByRecursion IsSmall (wanted_by (value_of h) (accepted y))

@@ -52,7 +52,7 @@ module _ (names : List Name) (bound : Bound) (g : Valuation) (judgements : List 
   has_each [] f h = h
   has_each (item.Comment lines ∷ is) f h =
       has_each is (record { items = f.items ++ comment lines ∷ []; numbers = f.numbers })
-          (λ k less. still f.items (comment lines ∷ []) (formula bound g k) (h k less))
+      (λ k less. still f.items (comment lines ∷ []) (formula bound g k) (h k less))
   has_each (item.Step s ∷ is) f h = has_each is (fill_item names bound g judgements f (item.Step s)) (with_next _ s _ f _ h)
 
   pub formulas_stand : (front : List SheetItem) → HasFormulas (fold (fill_item names bound g judgements) (record { items = []; numbers = [] }) front)

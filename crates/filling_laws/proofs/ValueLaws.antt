@@ -49,8 +49,8 @@ values_are_short whole candidates h s kinds text sheet opened binds logic judged
     let y = value.long.0 in
     let are = candidates h kinds text sheet opened binds logic judged in
     let closed =
-        all_closed kinds _ whole (record { text = text; sound = opened.no_fault; is_database = opened.database }) (accepted_in judgements)
-            (λ x m. (all_of _ (accepted_in judgements) x are m).usable) in
+    all_closed kinds _ whole (record { text = text; sound = opened.no_fault; is_database = opened.database }) (accepted_in judgements)
+    (λ x m. (all_of _ (accepted_in judgements) x are m).usable) in
     let stand = formulas_stand (step_names s) h.bound g judgements front in
     value.long.2 (all_mapped (IsShort c) _ y.assertion.vars (λ v m. short_of c _
     (value_few c 4095 (omega arith) _ h.bound judgements g judged.judged judged.most_general closed earlier _ y value.long.1 (few_of c _ value.own)

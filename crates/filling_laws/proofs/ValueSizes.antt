@@ -26,7 +26,7 @@ use Rattle.filling_laws.proofs.ValuePlaces.{IsAcceptedStep, accepted_step, once,
 
 module _ (constants : Label → ℕ) (most : ℕ) (some : 1 ≤ most) (db : Database) (bound : Bound) (judgements : List Judgement) (g : Valuation)
     (judged : AreJudged db bound judgements) (the : IsTheValuation db bound (accepted_in judgements) g)
-        (closed : AllByRecursion IsClosed (accepted_in judgements)) (earlier : PlacesComeBefore bound) where
+    (closed : AllByRecursion IsClosed (accepted_in judgements)) (earlier : PlacesComeBefore bound) where
   abbrev Few : Tree → Type 0
   Few t = tokens constants t ≤ most
 
@@ -65,4 +65,4 @@ module _ (constants : Label → ℕ) (most : ℕ) (some : 1 ≤ most) (db : Data
     pub value_few : (v : TypedVariable) → Contains x.assertion.vars v → Few (g (copy k v.sym v.code))
     value_few v m =
         subst (λ (i : ℕ). Few (g (copy i v.sym v.code))) is.step_is
-            (elim (contains_or_not (shown_by x.assertion x.places) v) [ inl shown ↦ shown_few v shown | inr hidden ↦ hidden_few v m hidden ])
+        (elim (contains_or_not (shown_by x.assertion x.places) v) [ inl shown ↦ shown_few v shown | inr hidden ↦ hidden_few v m hidden ])

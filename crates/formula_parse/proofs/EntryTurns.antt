@@ -70,17 +70,35 @@ module _ (rows : List Production) (before : ℕ) (ok : AreRows rows) (leaves : L
     longer : (n : ℕ) (t : Tree) → SoFar n t → SoFar (n + 1) t
     longer n t h = ⊎_elim (λ (x : IsLeaf (span leaves b e) want t). inl x)
         (λ (x : Entered n t). inr
-            (record { place = x.place; within = omega (arith, x.within); entry = x.entry; stands = x.stands; ends = x.ends; has_code = x.has_code;
-                row = x.row; row_stands = x.row_stands; is_of = x.is_of })) h
+        (record {
+          place = x.place;
+          within = omega (arith, x.within);
+          entry = x.entry;
+          stands = x.stands;
+          ends = x.ends;
+          has_code = x.has_code;
+          row = x.row;
+          row_stands = x.row_stands;
+          is_of = x.is_of;
+        })) h
 
     -- a tree of the next entry's row, if it is not of one before
     last_case : (n : ℕ) (x : Entry) → slice_get entries n ≡ Some x → (t : Tree) → Entered (n + 1) t
         → SoFar n t ⊎ ((x.end ≡ e) × (x.code ≡ want) × ((r : Production) × (slice_get rows x.row ≡ Some r) × Row r t))
     last_case n x at t h = ⊎_elim
         (λ (i : h.place < n). inl
-            (inr
-                (record { place = h.place; within = i; entry = h.entry; stands = h.stands; ends = h.ends; has_code = h.has_code; row = h.row;
-                    row_stands = h.row_stands; is_of = h.is_of })))
+        (inr
+        (record {
+          place = h.place;
+          within = i;
+          entry = h.entry;
+          stands = h.stands;
+          ends = h.ends;
+          has_code = h.has_code;
+          row = h.row;
+          row_stands = h.row_stands;
+          is_of = h.is_of;
+        })))
         (λ (i : n ≤ h.place).
         let is : h.place ≡ n = omega (arith, h.within) in
         let found : slice_get entries n ≡ Some h.entry = subst (λ k. slice_get entries k ≡ Some h.entry) is h.stands in
@@ -133,7 +151,15 @@ module _ (rows : List Production) (before : ℕ) (ok : AreRows rows) (leaves : L
         (λ t y. ⊎_elim (λ (z : IsLeaf (span leaves b e) want t). inl z)
         (λ (z : IsOfRow rows before (length rows) (span leaves b e) want t).
         let x = full.rows_in e want z.place z.row t l m z.stands z.is_of in
-        inr (record { place = x.0; within = omega (arith, slice_get_within entries x.0 (entry_of e z.row.gives z.place) x.1);
-            entry = entry_of e z.row.gives z.place; stands = x.1; ends = refl; has_code = z.is_of.gives; row = z.row; row_stands = z.stands;
-            is_of = z.is_of }))
+        inr (record {
+          place = x.0;
+          within = omega (arith, slice_get_within entries x.0 (entry_of e z.row.gives z.place) x.1);
+          entry = entry_of e z.row.gives z.place;
+          stands = x.1;
+          ends = refl;
+          has_code = z.is_of.gives;
+          row = z.row;
+          row_stands = z.stands;
+          is_of = z.is_of;
+        }))
         (parses_cases rows before ok t (span leaves b e) want y)) a h

@@ -83,7 +83,7 @@ module _ (rows : List Production) (before : ℕ) (ok : AreRows rows) (leaves : L
       let first = each s.first s.more s.us_is (b + n) s.want (omega arith) (omega arith) front in
       let x = first.entry in
       filled.by_slot first.is_in.0 x first.is_in.1 i r k items at below is (slot_code r.slots k s.want first.entry.code s.code_is first.has_code) r
-          (Slot k) items e at is (reaches_at leaves chart r.slots items first.entry.end (b + n) e first.ends
+      (Slot k) items e at is (reaches_at leaves chart r.slots items first.entry.end (b + n) e first.ends
       (fits_reaches rows before ok leaves chart (b + 1) full r.slots items (b + n) e s.more next within m rest))
 
   row_entry : (e : ℕ) (want : Typecode) (i : ℕ) (r : Production) (t : Tree) → b ≤ e → e ≤ length leaves → slice_get rows i ≡ Some r
@@ -110,11 +110,11 @@ module _ (rows : List Production) (before : ℕ) (ok : AreRows rows) (leaves : L
   pub has_tree : (t : Tree) → HasTree t
   has_tree = tree_ind HasTree
       (λ v c e code l m h. ⊎_elim (λ x. leaf_entry e code (Var v c) l m x)
-          (λ x. absurd (var_is_no_node v c x.row.label x.row.gives x.is_of.children x.is_of.tree_is))
-          (parses_cases rows before ok (Var v c) (span leaves b e) code h))
+      (λ x. absurd (var_is_no_node v c x.row.label x.row.gives x.is_of.children x.is_of.tree_is))
+      (parses_cases rows before ok (Var v c) (span leaves b e) code h))
       (λ c n e code l m h. ⊎_elim (λ x. leaf_entry e code (Work c n) l m x)
-          (λ x. absurd (work_is_no_node c n x.row.label x.row.gives x.is_of.children x.is_of.tree_is))
-          (parses_cases rows before ok (Work c n) (span leaves b e) code h))
+      (λ x. absurd (work_is_no_node c n x.row.label x.row.gives x.is_of.children x.is_of.tree_is))
+      (parses_cases rows before ok (Work c n) (span leaves b e) code h))
       (λ c n e code l m h. absurd (fresh_is_not_named c n h.named))
       (λ l c ts each e code o m h. ⊎_elim (λ x. leaf_entry e code (Node l c ts) o m x) (λ x. of_entry e code l c ts each o m x) (parses_cases rows before ok (Node l c ts) (span leaves b e) code h))
 

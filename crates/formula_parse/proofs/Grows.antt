@@ -16,7 +16,7 @@ Grown {S} starts Q E old n ys = Stays old ys × (IsOnce old → IsOnce ys) × ((
 
 pub grown_turn : {S : Type 0} (starts : List S) (Q : S → Type 0) (E : S → List Entry → Type 0) → ((s : S) (xs ys : List Entry) → Stays xs ys → E s xs → E s ys)
     → (old mid new : List Entry) (n : ℕ) (x : S) → slice_get starts n ≡ Some x → Stays mid new → (IsOnce mid → IsOnce new) → (Q x → E x new)
-        → Grown starts Q E old n mid → Grown starts Q E old (n + 1) new
+    → Grown starts Q E old n mid → Grown starts Q E old (n + 1) new
 grown_turn starts Q E mono old mid new n x at stays once here h = (
   stays_then old mid new h.0 stays,
   (λ o. once (h.1 o)),

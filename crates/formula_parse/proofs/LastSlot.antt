@@ -44,9 +44,13 @@ module _ (rows : List Production) (before : ℕ) (slots : List Typecode) (k : �
   to_lone us (n, h) =
       let same : h.want ≡ code = (let a = h.code_is in let b = slot in cc) in
       let whole = take_all n e (drop_past n e h.after.0) in
-      record { first = h.first; more = h.more; us_is = h.us_is;
-          head = subst (λ xs. Parses rows before xs code h.first) whole (subst (λ c. Parses rows before (take n e) c h.first) same h.front);
-          tail = h.after.1 }
+      record {
+        first = h.first;
+        more = h.more;
+        us_is = h.us_is;
+        head = subst (λ xs. Parses rows before xs code h.first) whole (subst (λ c. Parses rows before (take n e) c h.first) same h.front);
+        tail = h.after.1;
+      }
 
   pub last_slot : (f : Found Tree) → Finds (Parses rows before e code) f → Finds (Fits rows before slots (Slot k ∷ []) e) (paired f (One []))
   last_slot f h = finds_same Lone (Fits rows before slots (Slot k ∷ []) e) from_lone to_lone (paired f (One []))

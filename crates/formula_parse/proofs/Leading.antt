@@ -62,7 +62,7 @@ module _ (leaves : List Leaf) (chart : List (List Entry)) (rows : List Productio
 
   module _ (entries : List Entry) (lone : (j i : ℕ) → slice_get (numbers (is_lone first.0) 0 rows) j ≡ Some i → IsStart rows before first i → Enters leaves chart rows i place entries)
       (here : EntersNext leaves chart rows before first place place entries)
-          (behind : (m : ℕ) (code : Typecode) → IsEntry chart place m code → EntersNext leaves chart rows before first place m entries)
+      (behind : (m : ℕ) (code : Typecode) → IsEntry chart place m code → EntersNext leaves chart rows before first place m entries)
       (i : ℕ) (r : Production) (stands : slice_get rows i ≡ Some r) (below : r.at < before) (is : first_sym r.slots r.items ≡ Some first) where
     no_next : next_const r.items ≡ None → Enters leaves chart rows i place entries
     no_next none =
@@ -83,4 +83,4 @@ module _ (leaves : List Leaf) (chart : List (List Entry)) (rows : List Productio
   first_entered entries lone here behind i start r f rest e stands split h =
       let one : start.0 ≡ r = (let a = start.1 in let b = stands in cc) in
       by_rest entries lone here behind i r stands (subst (λ (p : Production). p.at < before) one start.2)
-          (subst (λ (p : Production). first_sym p.slots p.items ≡ Some first) one start.3) f rest e split h
+      (subst (λ (p : Production). first_sym p.slots p.items ≡ Some first) one start.3) f rest e split h

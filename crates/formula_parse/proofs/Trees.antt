@@ -70,9 +70,9 @@ module _ (rows : List Production) (before : ℕ) where
         let all = children_from_fits rows before r.slots ts r.items within e h.fits in
         let child = λ (i : ℕ) (l : i < length ts). child_at r.slots ts order all i (row.each_once.found i (omega (arith, h.count))) in
         let typed =
-            each_from (IsTyped rows before) ts
-                (λ i u is. let c = child i (slice_get_within ts i u is) in let same : c.child ≡ u = (let a = c.child_is in cc) in
-                    subst (IsTyped rows before) same c.typed) in
+        each_from (IsTyped rows before) ts
+        (λ i u is. let c = child i (slice_get_within ts i u is) in let same : c.child ≡ u = (let a = c.child_is in cc) in
+        subst (IsTyped rows before) same c.typed) in
         let named = each_from HasNoFresh ts (λ i u is. let c = child i (slice_get_within ts i u is) in let same : c.child ≡ u = (let a = c.child_is in cc) in subst HasNoFresh same c.named) in
         let codes : map code_of ts ≡ r.slots = same_by_get (map code_of ts) r.slots (length-map ts code_of ∙ h.count) (λ i x is.
         let l : i < length ts = omega (arith, slice_get_within (map code_of ts) i x is, length-map ts code_of) in

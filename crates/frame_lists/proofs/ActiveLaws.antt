@@ -76,7 +76,7 @@ module _ (ss : List Statement) (l : Listed) (of : AreOf l ss) (sound : AreSound 
 
   hyps-by : (xs : List Numbered) → ((i : Numbered) → In i xs → In i ns)
       → map (hypothesis_at l) (map (λ (i : Numbered). i.label) (filter is_hyp xs))
-          ≡ map (hypothesis_of names) (statements_of (filter (λ (i : Numbered). model.is_hypothesis i.statement) xs))
+      ≡ map (hypothesis_of names) (statements_of (filter (λ (i : Numbered). model.is_hypothesis i.statement) xs))
   hyps-by [] f = refl
   hyps-by (x ∷ xs) f =
       let later = hyps-by xs (λ i m. f i (inr m)) in
@@ -95,8 +95,8 @@ module _ (ss : List Statement) (l : Listed) (of : AreOf l ss) (sound : AreSound 
       let statement : Numbered → Statement = λ i. i.statement in
       ap (λ xs. map (hypothesis_at l) xs) (sh.hyps_are ∙ hyps-are ss ns) ∙ hyps-by (reverse ns) (λ i m. in_reverse i ns m)
       ∙ ap (λ xs. map (hypothesis_of names) xs)
-          (sym (filter-map statement model.is_hypothesis (reverse ns)) ∙ ap (λ xs. filter model.is_hypothesis xs) (map-reverse statement ns)
-              ∙ ap (λ xs. filter model.is_hypothesis (reverse xs)) (on-is (path e) e))
+      (sym (filter-map statement model.is_hypothesis (reverse ns)) ∙ ap (λ xs. filter model.is_hypothesis xs) (map-reverse statement ns)
+      ∙ ap (λ xs. filter model.is_hypothesis (reverse xs)) (on-is (path e) e))
 
   abbrev pub made : List Sym → List Hyp → List Pair → Active
   made vs hs ps = record { variables = vs; hyps = hs; pairs = ps }
@@ -108,6 +108,6 @@ module _ (ss : List Statement) (l : Listed) (of : AreOf l ss) (sound : AreSound 
       ap (λ x. make x hs ps) (variables-are vs a)
       ∙ ap (λ y. make (map (symbol_in names) (active_variables names e)) y ps) (b ∙ hyps-law)
       ∙ ap
-          (λ z. make (map (symbol_in names) (active_variables names e))
-              (map (hypothesis_of names) (filter model.is_hypothesis (reverse (active e)))) z)
-          (pairs-law ss l of e good s sh.distinct_are q s.variables within law ps c)
+      (λ z. make (map (symbol_in names) (active_variables names e))
+      (map (hypothesis_of names) (filter model.is_hypothesis (reverse (active e)))) z)
+      (pairs-law ss l of e good s sh.distinct_are q s.variables within law ps c)

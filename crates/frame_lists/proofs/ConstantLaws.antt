@@ -34,21 +34,21 @@ codes-from names cs [] = sym (append-nil cs)
 codes-from names cs (s ∷ ss) = elim (cases_Bool (has_keyword (codes "$f") s)) [
   | inl k ↦ first (sym (kind-is_floating s) ∙ k)
       ∙ sym
-          (ap (λ b. cs
-              ++ map (code names)
-                  (flat_map (λ x. take 1 (symbols_in x)) (cond b (s ∷ with_keyword (codes "$f") ss) (with_keyword (codes "$f") ss)))) k
-              ∙ sym (a_float (symbols_in s) (λ ds. codes-from names ds ss)))
+      (ap (λ b. cs
+      ++ map (code names)
+      (flat_map (λ x. take 1 (symbols_in x)) (cond b (s ∷ with_keyword (codes "$f") ss) (with_keyword (codes "$f") ss)))) k
+      ∙ sym (a_float (symbols_in s) (λ ds. codes-from names ds ss)))
   | inr k ↦ first (sym (kind-is_floating s) ∙ k)
       ∙ sym
-          (ap (λ b. cs
-              ++ map (code names)
-                  (flat_map (λ x. take 1 (symbols_in x)) (cond b (s ∷ with_keyword (codes "$f") ss) (with_keyword (codes "$f") ss)))) k
-              ∙ sym (codes-from names cs ss))
+      (ap (λ b. cs
+      ++ map (code names)
+      (flat_map (λ x. take 1 (symbols_in x)) (cond b (s ∷ with_keyword (codes "$f") ss) (with_keyword (codes "$f") ss)))) k
+      ∙ sym (codes-from names cs ss))
 ]
   where
     first : {b : Bool} → is_floating (kind_in s) ≡ b
         → fold codes_more cs (map (entry_in names) (s ∷ ss))
-            ≡ fold codes_more (cond b (with_first cs (map (symbol_in names) (symbols_in s))) cs) (map (entry_in names) ss)
+        ≡ fold codes_more (cond b (with_first cs (map (symbol_in names) (symbols_in s))) cs) (map (entry_in names) ss)
     first e = ap (λ b. fold codes_more (cond b (with_first cs (map (symbol_in names) (symbols_in s))) cs) (map (entry_in names) ss)) e
 
     a_float : (us : List Name) → ((ds : List Typecode) → fold codes_more ds (map (entry_in names) ss) ≡ ds ++ map (code names) (firsts_of ss))
@@ -240,7 +240,7 @@ module _ (ss : List Statement) (sound : AreSound (reverse ss)) (few : length ss 
   pub places-are : places_upto (length names) entries (length entries) ≡ constant_places ss
   places-are =
       ap (λ (k : ℕ). places_upto (length names) entries k) (mapped-length (entry_in names) ss) ∙ places-law (length ss) (omega arith)
-          ∙ ap (λ b. map (declared_by b) names) (ap (λ l. reverse l) (take-all ss))
+      ∙ ap (λ b. map (declared_by b) names) (ap (λ l. reverse l) (take-all ss))
     where
       take-all : (xs : List Statement) → take (length xs) xs ≡ xs
       take-all [] = refl

@@ -127,8 +127,10 @@ module _ (ss : List Statement) where
             (elim (cases_Bool (q (item s e))) as (λ w. RiseBelow (count e + length (labels_in s)) (plus (q (item s e)) js (count e))) [
               | inl h ↦ let here' = one (item s e) a.0 h in
                   rw h
-                      (record { rises = sorted_push nat_cmp js (count e) later.rises (below-less (count e) js later.below);
-                          below = push-below (count e) (count e + length (labels_in s)) js (omega (arith, here')) later.below })
+                  (record {
+                    rises = sorted_push nat_cmp js (count e) later.rises (below-less (count e) js later.below);
+                    below = push-below (count e) (count e + length (labels_in s)) js (omega (arith, here')) later.below;
+                  })
               | inr h ↦ rw h (record { rises = later.rises; below = weaker (count e) (count e + length (labels_in s)) js (omega arith) later.below })
             ])
 
@@ -147,8 +149,15 @@ module _ (ss : List Statement) where
   pair-at v x [] i = absurd i
   pair-at v x (n ∷ ns) i = elim (in_append (v, x) (float_pairs names ns) (float_pair names n) i) [
     | inl k ↦ let r = pair-at v x ns k in
-        record { i = r.i; there = inr r.there; floating = r.floating; variable = r.variable; second_is = r.second_is; number_is = r.number_is;
-            label_is = r.label_is }
+        record {
+          i = r.i;
+          there = inr r.there;
+          floating = r.floating;
+          variable = r.variable;
+          second_is = r.second_is;
+          number_is = r.number_is;
+          label_is = r.label_is;
+        }
     | inr k ↦ last (is_floating (kind_in n.statement)) refl k
   ]
     where
@@ -175,7 +184,7 @@ module _ (ss : List Statement) where
 
   module _ (l : Listed) (of : AreOf l ss) (e : List Statement) (good : AllByRecursion (IsGood ss) (here e)) (fs : FloatsAre ss (here e))
       (s : Scope) (is_v : s.variables ≡ (state names (here e)).variables) (is_t : s.typed ≡ (state names (here e)).typed)
-          (is_f : s.floats ≡ (state names (here e)).floats) (is_e : s.essentials ≡ (state names (here e)).essentials) where
+      (is_f : s.floats ≡ (state names (here e)).floats) (is_e : s.essentials ≡ (state names (here e)).essentials) where
     abbrev ns : List Numbered
     ns = here e
 
@@ -226,9 +235,9 @@ module _ (ss : List Statement) where
             let r = in_map (λ (j : Numbered). j.label) x (filter (λ (j : Numbered). is_essential (kind_in j.statement)) (reverse ns)) listed in
             let f = in_filter (λ (j : Numbered). is_essential (kind_in j.statement)) r.0 (reverse ns) r.1 in
             let pass =
-                or_left (has_keyword (codes "$e") r.0.statement)
-                    (has_keyword (codes "$f") r.0.statement && list_any (contains mand) (second (symbols_in r.0.statement)))
-                    (kind-is_essential r.0.statement ∙ f.1) in
+            or_left (has_keyword (codes "$e") r.0.statement)
+            (has_keyword (codes "$f") r.0.statement && list_any (contains mand) (second (symbols_in r.0.statement)))
+            (kind-is_essential r.0.statement ∙ f.1) in
             subst (λ (y : ℕ). In y labels) r.2 (map_in (λ (j : Numbered). j.label) r.0 chosen (filter_in (λ (j : Numbered). test j.statement) r.0 (reverse ns) f.0 pass))
         | inr r ↦
             let a = pair-at r.0 x ns (look-in r.0 x (float_pairs names ns) (sym (float-is ss ns s r.0 fs is_t is_f) ∙ r.2)) in
@@ -237,12 +246,12 @@ module _ (ss : List Statement) where
             let known = g.float_known a.variable f (in-name a.variable (second (symbols_in a.i.statement)) a.second_is) in
             let is_m : contains mand a.variable ≡ true = mandatory-is a.variable known ∙ ap (has set) a.number_is ∙ in_has r.0 set r.1 in
             let pass =
-                or_right (has_keyword (codes "$e") a.i.statement) _
-                    (and_from (has_keyword (codes "$f") a.i.statement) (list_any (contains mand) (second (symbols_in a.i.statement))) f
-                        (any_there (contains mand) a.variable (second (symbols_in a.i.statement)) a.second_is is_m)) in
+            or_right (has_keyword (codes "$e") a.i.statement) _
+            (and_from (has_keyword (codes "$f") a.i.statement) (list_any (contains mand) (second (symbols_in a.i.statement))) f
+            (any_there (contains mand) a.variable (second (symbols_in a.i.statement)) a.second_is is_m)) in
             subst (λ (y : ℕ). In y labels) a.label_is
-                (map_in (λ (j : Numbered). j.label) a.i chosen
-                    (filter_in (λ (j : Numbered). test j.statement) a.i (reverse ns) (reverse_in a.i ns a.there) pass))
+            (map_in (λ (j : Numbered). j.label) a.i chosen
+            (filter_in (λ (j : Numbered). test j.statement) a.i (reverse ns) (reverse_in a.i ns a.there) pass))
       ]
 
       from-labels : (x : ℕ) → In x labels → In x (labels_of s set)
@@ -254,10 +263,10 @@ module _ (ss : List Statement) where
           elim (or_cases (has_keyword (codes "$e") st') (has_keyword (codes "$f") st' && list_any (contains mand) (second (symbols_in st'))) f.1) [
             | inl k ↦
                 let listed : In x (labels_by ss is_essential ns) =
-                    subst (λ (y : ℕ). In y (labels_by ss is_essential ns)) r.2
-                        (map_in (λ (j : Numbered). j.label) r.0 (filter (λ (j : Numbered). is_essential (kind_in j.statement)) (reverse ns))
-                            (filter_in (λ (j : Numbered). is_essential (kind_in j.statement)) r.0 (reverse ns) f.0
-                                (sym (kind-is_essential st') ∙ k))) in
+                subst (λ (y : ℕ). In y (labels_by ss is_essential ns)) r.2
+                (map_in (λ (j : Numbered). j.label) r.0 (filter (λ (j : Numbered). is_essential (kind_in j.statement)) (reverse ns))
+                (filter_in (λ (j : Numbered). is_essential (kind_in j.statement)) r.0 (reverse ns) f.0
+                (sym (kind-is_essential st') ∙ k))) in
                 base_in s x s.essentials set (subst (λ (es : List ℕ). In x es) (sym (is_e ∙ essentials-are ss ns)) listed)
             | inr k ↦
                 let both = and_parts (has_keyword (codes "$f") st') (list_any (contains mand) (second (symbols_in st'))) k in
@@ -266,8 +275,8 @@ module _ (ss : List Statement) where
                 let known = g.float_known w.0 both.0 (in-name w.0 (second (symbols_in st')) w.1) in
                 let in_set : In (number names w.0) set = has_in (number names w.0) set (sym (mandatory-is w.0 known) ∙ w.2) in
                 let found : float_of s (number names w.0) ≡ Some r.0.label =
-                    float-is ss ns s (number names w.0) fs is_t is_f
-                        ∙ fs.unique (number names w.0) r.0.label (pair-in r.0 w.0 ns there (sym (kind-is_floating st') ∙ both.0) w.1) in
+                float-is ss ns s (number names w.0) fs is_t is_f
+                ∙ fs.unique (number names w.0) r.0.label (pair-in r.0 w.0 ns there (sym (kind-is_floating st') ∙ both.0) w.1) in
                 subst (λ (y : ℕ). In y (labels_of s set)) r.2 (float_in s r.0.label (number names w.0) s.essentials set in_set found)
           ]
 
@@ -276,7 +285,7 @@ module _ (ss : List Statement) where
         where
           each : (xs : List Numbered) → ((i : Numbered) → In i xs → In i ns)
               → AllByRecursion (λ (i : Numbered). hypothesis_at l i.label ≡ hypothesis_of names i.statement)
-                  (filter (λ (i : Numbered). test i.statement) xs)
+              (filter (λ (i : Numbered). test i.statement) xs)
           each [] f = tt
           each (x ∷ xs) f =
               let later = each xs (λ i k. f i (inr k)) in
@@ -297,6 +306,6 @@ module _ (ss : List Statement) where
           (λ x i. to-labels x (contains_in x (labels_of s set) (o.adds_none x (in_contains x a.0 i))))
           (λ x i. contains_in x a.0 (o.keeps x (in_contains x (labels_of s set) (from-labels x i)))) in
           let model : mandatory_hypotheses mand e ≡ statements_of chosen =
-              ap (λ xs. filter test (reverse xs)) active-is ∙ ap (λ xs. filter test xs) (sym (map-reverse (λ (i : Numbered). i.statement) ns))
-                  ∙ filter-map (λ (i : Numbered). i.statement) test (reverse ns) in
+          ap (λ xs. filter test (reverse xs)) active-is ∙ ap (λ xs. filter test xs) (sym (map-reverse (λ (i : Numbered). i.statement) ns))
+          ∙ filter-map (λ (i : Numbered). i.statement) test (reverse ns) in
           a.2 ∙ ap (λ xs. map (hypothesis_at l) xs) same ∙ same-hypotheses chosen good-chosen ∙ ap (λ xs. map (hypothesis_of names) xs) (sym model)

@@ -95,115 +95,141 @@ kind-is_variables s = elim (cases_Bool (has_keyword (codes "$v") s)) [
   | inl h ↦ rw (one_keyword s (codes "$v") (codes "${") h refl, one_keyword s (codes "$v") (codes "$}") h refl, one_keyword s (codes "$v") (codes "$c") h refl, h) refl
   | inr h ↦ h
       ∙ sym
-          (pick is_variables (has_keyword (codes "${") s) (entry.OpenBlock) (from1 s) refl
-              (pick is_variables (has_keyword (codes "$}") s) (entry.CloseBlock) (entry.Statement (from2 s)) refl
-                  (pick (λ k. is_variables (entry.Statement k)) (has_keyword (codes "$c") s) (kind.Constants) (from3 s) refl
-                      (past (λ k. is_variables (entry.Statement k)) (has_keyword (codes "$v") s) (kind.Variables) (from4 s) h
-                          (pick (λ k. is_variables (entry.Statement k)) (has_keyword (codes "$d") s) (kind.Distinct) (from5 s) refl
-                              (pick (λ k. is_variables (entry.Statement k)) (has_keyword (codes "$f") s) (kind.Floating) (from6 s) refl
-                                  (pick (λ k. is_variables (entry.Statement k)) (has_keyword (codes "$e") s) (kind.Essential) (from7 s) refl
-                                      (pick (λ k. is_variables (entry.Statement k)) (has_keyword (codes "$a") s) (kind.Axiom) (from8 s) refl
-                                          (pick (λ k. is_variables (entry.Statement k)) (has_keyword (codes "$p") s) (kind.Provable)
-                                              (from9 s) refl refl)))))))))
+      (pick is_variables (has_keyword (codes "${") s) (entry.OpenBlock) (from1 s) refl
+      (pick is_variables (has_keyword (codes "$}") s) (entry.CloseBlock) (entry.Statement (from2 s)) refl
+      (pick (λ k. is_variables (entry.Statement k)) (has_keyword (codes "$c") s) (kind.Constants) (from3 s) refl
+      (past (λ k. is_variables (entry.Statement k)) (has_keyword (codes "$v") s) (kind.Variables) (from4 s) h
+      (pick (λ k. is_variables (entry.Statement k)) (has_keyword (codes "$d") s) (kind.Distinct) (from5 s) refl
+      (pick (λ k. is_variables (entry.Statement k)) (has_keyword (codes "$f") s) (kind.Floating) (from6 s) refl
+      (pick (λ k. is_variables (entry.Statement k)) (has_keyword (codes "$e") s) (kind.Essential) (from7 s) refl
+      (pick (λ k. is_variables (entry.Statement k)) (has_keyword (codes "$a") s) (kind.Axiom) (from8 s) refl
+      (pick (λ k. is_variables (entry.Statement k)) (has_keyword (codes "$p") s) (kind.Provable)
+      (from9 s) refl refl)))))))))
 ]
 
 pub kind-is_distinct : (s : Statement) → has_keyword (codes "$d") s ≡ is_distinct (kind_in s)
 kind-is_distinct s = elim (cases_Bool (has_keyword (codes "$d") s)) [
-  | inl h ↦ rw
-      (one_keyword s (codes "$d") (codes "${") h refl, one_keyword s (codes "$d") (codes "$}") h refl, one_keyword s (codes "$d") (codes "$c") h refl,
-          one_keyword s (codes "$d") (codes "$v") h refl, h) refl
+  | inl h ↦ rw (
+    one_keyword s (codes "$d") (codes "${") h refl,
+    one_keyword s (codes "$d") (codes "$}") h refl,
+    one_keyword s (codes "$d") (codes "$c") h refl,
+    one_keyword s (codes "$d") (codes "$v") h refl,
+    h,
+  ) refl
   | inr h ↦ h
       ∙ sym
-          (pick is_distinct (has_keyword (codes "${") s) (entry.OpenBlock) (from1 s) refl
-              (pick is_distinct (has_keyword (codes "$}") s) (entry.CloseBlock) (entry.Statement (from2 s)) refl
-                  (pick (λ k. is_distinct (entry.Statement k)) (has_keyword (codes "$c") s) (kind.Constants) (from3 s) refl
-                      (pick (λ k. is_distinct (entry.Statement k)) (has_keyword (codes "$v") s) (kind.Variables) (from4 s) refl
-                          (past (λ k. is_distinct (entry.Statement k)) (has_keyword (codes "$d") s) (kind.Distinct) (from5 s) h
-                              (pick (λ k. is_distinct (entry.Statement k)) (has_keyword (codes "$f") s) (kind.Floating) (from6 s) refl
-                                  (pick (λ k. is_distinct (entry.Statement k)) (has_keyword (codes "$e") s) (kind.Essential) (from7 s) refl
-                                      (pick (λ k. is_distinct (entry.Statement k)) (has_keyword (codes "$a") s) (kind.Axiom) (from8 s) refl
-                                          (pick (λ k. is_distinct (entry.Statement k)) (has_keyword (codes "$p") s) (kind.Provable)
-                                              (from9 s) refl refl)))))))))
+      (pick is_distinct (has_keyword (codes "${") s) (entry.OpenBlock) (from1 s) refl
+      (pick is_distinct (has_keyword (codes "$}") s) (entry.CloseBlock) (entry.Statement (from2 s)) refl
+      (pick (λ k. is_distinct (entry.Statement k)) (has_keyword (codes "$c") s) (kind.Constants) (from3 s) refl
+      (pick (λ k. is_distinct (entry.Statement k)) (has_keyword (codes "$v") s) (kind.Variables) (from4 s) refl
+      (past (λ k. is_distinct (entry.Statement k)) (has_keyword (codes "$d") s) (kind.Distinct) (from5 s) h
+      (pick (λ k. is_distinct (entry.Statement k)) (has_keyword (codes "$f") s) (kind.Floating) (from6 s) refl
+      (pick (λ k. is_distinct (entry.Statement k)) (has_keyword (codes "$e") s) (kind.Essential) (from7 s) refl
+      (pick (λ k. is_distinct (entry.Statement k)) (has_keyword (codes "$a") s) (kind.Axiom) (from8 s) refl
+      (pick (λ k. is_distinct (entry.Statement k)) (has_keyword (codes "$p") s) (kind.Provable)
+      (from9 s) refl refl)))))))))
 ]
 
 pub kind-is_floating : (s : Statement) → has_keyword (codes "$f") s ≡ is_floating (kind_in s)
 kind-is_floating s = elim (cases_Bool (has_keyword (codes "$f") s)) [
-  | inl h ↦ rw
-      (one_keyword s (codes "$f") (codes "${") h refl, one_keyword s (codes "$f") (codes "$}") h refl, one_keyword s (codes "$f") (codes "$c") h refl,
-          one_keyword s (codes "$f") (codes "$v") h refl, one_keyword s (codes "$f") (codes "$d") h refl, h) refl
+  | inl h ↦ rw (
+    one_keyword s (codes "$f") (codes "${") h refl,
+    one_keyword s (codes "$f") (codes "$}") h refl,
+    one_keyword s (codes "$f") (codes "$c") h refl,
+    one_keyword s (codes "$f") (codes "$v") h refl,
+    one_keyword s (codes "$f") (codes "$d") h refl,
+    h,
+  ) refl
   | inr h ↦ h
       ∙ sym
-          (pick is_floating (has_keyword (codes "${") s) (entry.OpenBlock) (from1 s) refl
-              (pick is_floating (has_keyword (codes "$}") s) (entry.CloseBlock) (entry.Statement (from2 s)) refl
-                  (pick (λ k. is_floating (entry.Statement k)) (has_keyword (codes "$c") s) (kind.Constants) (from3 s) refl
-                      (pick (λ k. is_floating (entry.Statement k)) (has_keyword (codes "$v") s) (kind.Variables) (from4 s) refl
-                          (pick (λ k. is_floating (entry.Statement k)) (has_keyword (codes "$d") s) (kind.Distinct) (from5 s) refl
-                              (past (λ k. is_floating (entry.Statement k)) (has_keyword (codes "$f") s) (kind.Floating) (from6 s) h
-                                  (pick (λ k. is_floating (entry.Statement k)) (has_keyword (codes "$e") s) (kind.Essential) (from7 s) refl
-                                      (pick (λ k. is_floating (entry.Statement k)) (has_keyword (codes "$a") s) (kind.Axiom) (from8 s) refl
-                                          (pick (λ k. is_floating (entry.Statement k)) (has_keyword (codes "$p") s) (kind.Provable)
-                                              (from9 s) refl refl)))))))))
+      (pick is_floating (has_keyword (codes "${") s) (entry.OpenBlock) (from1 s) refl
+      (pick is_floating (has_keyword (codes "$}") s) (entry.CloseBlock) (entry.Statement (from2 s)) refl
+      (pick (λ k. is_floating (entry.Statement k)) (has_keyword (codes "$c") s) (kind.Constants) (from3 s) refl
+      (pick (λ k. is_floating (entry.Statement k)) (has_keyword (codes "$v") s) (kind.Variables) (from4 s) refl
+      (pick (λ k. is_floating (entry.Statement k)) (has_keyword (codes "$d") s) (kind.Distinct) (from5 s) refl
+      (past (λ k. is_floating (entry.Statement k)) (has_keyword (codes "$f") s) (kind.Floating) (from6 s) h
+      (pick (λ k. is_floating (entry.Statement k)) (has_keyword (codes "$e") s) (kind.Essential) (from7 s) refl
+      (pick (λ k. is_floating (entry.Statement k)) (has_keyword (codes "$a") s) (kind.Axiom) (from8 s) refl
+      (pick (λ k. is_floating (entry.Statement k)) (has_keyword (codes "$p") s) (kind.Provable)
+      (from9 s) refl refl)))))))))
 ]
 
 pub kind-is_essential : (s : Statement) → has_keyword (codes "$e") s ≡ is_essential (kind_in s)
 kind-is_essential s = elim (cases_Bool (has_keyword (codes "$e") s)) [
-  | inl h ↦ rw
-      (one_keyword s (codes "$e") (codes "${") h refl, one_keyword s (codes "$e") (codes "$}") h refl, one_keyword s (codes "$e") (codes "$c") h refl,
-          one_keyword s (codes "$e") (codes "$v") h refl, one_keyword s (codes "$e") (codes "$d") h refl,
-          one_keyword s (codes "$e") (codes "$f") h refl, h) refl
+  | inl h ↦ rw (
+    one_keyword s (codes "$e") (codes "${") h refl,
+    one_keyword s (codes "$e") (codes "$}") h refl,
+    one_keyword s (codes "$e") (codes "$c") h refl,
+    one_keyword s (codes "$e") (codes "$v") h refl,
+    one_keyword s (codes "$e") (codes "$d") h refl,
+    one_keyword s (codes "$e") (codes "$f") h refl,
+    h,
+  ) refl
   | inr h ↦ h
       ∙ sym
-          (pick is_essential (has_keyword (codes "${") s) (entry.OpenBlock) (from1 s) refl
-              (pick is_essential (has_keyword (codes "$}") s) (entry.CloseBlock) (entry.Statement (from2 s)) refl
-                  (pick (λ k. is_essential (entry.Statement k)) (has_keyword (codes "$c") s) (kind.Constants) (from3 s) refl
-                      (pick (λ k. is_essential (entry.Statement k)) (has_keyword (codes "$v") s) (kind.Variables) (from4 s) refl
-                          (pick (λ k. is_essential (entry.Statement k)) (has_keyword (codes "$d") s) (kind.Distinct) (from5 s) refl
-                              (pick (λ k. is_essential (entry.Statement k)) (has_keyword (codes "$f") s) (kind.Floating) (from6 s) refl
-                                  (past (λ k. is_essential (entry.Statement k)) (has_keyword (codes "$e") s) (kind.Essential) (from7 s) h
-                                      (pick (λ k. is_essential (entry.Statement k)) (has_keyword (codes "$a") s) (kind.Axiom) (from8 s) refl
-                                          (pick (λ k. is_essential (entry.Statement k)) (has_keyword (codes "$p") s) (kind.Provable)
-                                              (from9 s) refl refl)))))))))
+      (pick is_essential (has_keyword (codes "${") s) (entry.OpenBlock) (from1 s) refl
+      (pick is_essential (has_keyword (codes "$}") s) (entry.CloseBlock) (entry.Statement (from2 s)) refl
+      (pick (λ k. is_essential (entry.Statement k)) (has_keyword (codes "$c") s) (kind.Constants) (from3 s) refl
+      (pick (λ k. is_essential (entry.Statement k)) (has_keyword (codes "$v") s) (kind.Variables) (from4 s) refl
+      (pick (λ k. is_essential (entry.Statement k)) (has_keyword (codes "$d") s) (kind.Distinct) (from5 s) refl
+      (pick (λ k. is_essential (entry.Statement k)) (has_keyword (codes "$f") s) (kind.Floating) (from6 s) refl
+      (past (λ k. is_essential (entry.Statement k)) (has_keyword (codes "$e") s) (kind.Essential) (from7 s) h
+      (pick (λ k. is_essential (entry.Statement k)) (has_keyword (codes "$a") s) (kind.Axiom) (from8 s) refl
+      (pick (λ k. is_essential (entry.Statement k)) (has_keyword (codes "$p") s) (kind.Provable)
+      (from9 s) refl refl)))))))))
 ]
 
 pub kind-is_axiom : (s : Statement) → has_keyword (codes "$a") s ≡ is_axiom (kind_in s)
 kind-is_axiom s = elim (cases_Bool (has_keyword (codes "$a") s)) [
-  | inl h ↦ rw
-      (one_keyword s (codes "$a") (codes "${") h refl, one_keyword s (codes "$a") (codes "$}") h refl, one_keyword s (codes "$a") (codes "$c") h refl,
-          one_keyword s (codes "$a") (codes "$v") h refl, one_keyword s (codes "$a") (codes "$d") h refl,
-          one_keyword s (codes "$a") (codes "$f") h refl, one_keyword s (codes "$a") (codes "$e") h refl, h) refl
+  | inl h ↦ rw (
+    one_keyword s (codes "$a") (codes "${") h refl,
+    one_keyword s (codes "$a") (codes "$}") h refl,
+    one_keyword s (codes "$a") (codes "$c") h refl,
+    one_keyword s (codes "$a") (codes "$v") h refl,
+    one_keyword s (codes "$a") (codes "$d") h refl,
+    one_keyword s (codes "$a") (codes "$f") h refl,
+    one_keyword s (codes "$a") (codes "$e") h refl,
+    h,
+  ) refl
   | inr h ↦ h
       ∙ sym
-          (pick is_axiom (has_keyword (codes "${") s) (entry.OpenBlock) (from1 s) refl
-              (pick is_axiom (has_keyword (codes "$}") s) (entry.CloseBlock) (entry.Statement (from2 s)) refl
-                  (pick (λ k. is_axiom (entry.Statement k)) (has_keyword (codes "$c") s) (kind.Constants) (from3 s) refl
-                      (pick (λ k. is_axiom (entry.Statement k)) (has_keyword (codes "$v") s) (kind.Variables) (from4 s) refl
-                          (pick (λ k. is_axiom (entry.Statement k)) (has_keyword (codes "$d") s) (kind.Distinct) (from5 s) refl
-                              (pick (λ k. is_axiom (entry.Statement k)) (has_keyword (codes "$f") s) (kind.Floating) (from6 s) refl
-                                  (pick (λ k. is_axiom (entry.Statement k)) (has_keyword (codes "$e") s) (kind.Essential) (from7 s) refl
-                                      (past (λ k. is_axiom (entry.Statement k)) (has_keyword (codes "$a") s) (kind.Axiom) (from8 s) h
-                                          (pick (λ k. is_axiom (entry.Statement k)) (has_keyword (codes "$p") s) (kind.Provable)
-                                              (from9 s) refl refl)))))))))
+      (pick is_axiom (has_keyword (codes "${") s) (entry.OpenBlock) (from1 s) refl
+      (pick is_axiom (has_keyword (codes "$}") s) (entry.CloseBlock) (entry.Statement (from2 s)) refl
+      (pick (λ k. is_axiom (entry.Statement k)) (has_keyword (codes "$c") s) (kind.Constants) (from3 s) refl
+      (pick (λ k. is_axiom (entry.Statement k)) (has_keyword (codes "$v") s) (kind.Variables) (from4 s) refl
+      (pick (λ k. is_axiom (entry.Statement k)) (has_keyword (codes "$d") s) (kind.Distinct) (from5 s) refl
+      (pick (λ k. is_axiom (entry.Statement k)) (has_keyword (codes "$f") s) (kind.Floating) (from6 s) refl
+      (pick (λ k. is_axiom (entry.Statement k)) (has_keyword (codes "$e") s) (kind.Essential) (from7 s) refl
+      (past (λ k. is_axiom (entry.Statement k)) (has_keyword (codes "$a") s) (kind.Axiom) (from8 s) h
+      (pick (λ k. is_axiom (entry.Statement k)) (has_keyword (codes "$p") s) (kind.Provable)
+      (from9 s) refl refl)))))))))
 ]
 
 pub kind-is_provable : (s : Statement) → has_keyword (codes "$p") s ≡ is_provable (kind_in s)
 kind-is_provable s = elim (cases_Bool (has_keyword (codes "$p") s)) [
-  | inl h ↦ rw
-      (one_keyword s (codes "$p") (codes "${") h refl, one_keyword s (codes "$p") (codes "$}") h refl, one_keyword s (codes "$p") (codes "$c") h refl,
-          one_keyword s (codes "$p") (codes "$v") h refl, one_keyword s (codes "$p") (codes "$d") h refl,
-          one_keyword s (codes "$p") (codes "$f") h refl, one_keyword s (codes "$p") (codes "$e") h refl,
-          one_keyword s (codes "$p") (codes "$a") h refl, h) refl
+  | inl h ↦ rw (
+    one_keyword s (codes "$p") (codes "${") h refl,
+    one_keyword s (codes "$p") (codes "$}") h refl,
+    one_keyword s (codes "$p") (codes "$c") h refl,
+    one_keyword s (codes "$p") (codes "$v") h refl,
+    one_keyword s (codes "$p") (codes "$d") h refl,
+    one_keyword s (codes "$p") (codes "$f") h refl,
+    one_keyword s (codes "$p") (codes "$e") h refl,
+    one_keyword s (codes "$p") (codes "$a") h refl,
+    h,
+  ) refl
   | inr h ↦ h
       ∙ sym
-          (pick is_provable (has_keyword (codes "${") s) (entry.OpenBlock) (from1 s) refl
-              (pick is_provable (has_keyword (codes "$}") s) (entry.CloseBlock) (entry.Statement (from2 s)) refl
-                  (pick (λ k. is_provable (entry.Statement k)) (has_keyword (codes "$c") s) (kind.Constants) (from3 s) refl
-                      (pick (λ k. is_provable (entry.Statement k)) (has_keyword (codes "$v") s) (kind.Variables) (from4 s) refl
-                          (pick (λ k. is_provable (entry.Statement k)) (has_keyword (codes "$d") s) (kind.Distinct) (from5 s) refl
-                              (pick (λ k. is_provable (entry.Statement k)) (has_keyword (codes "$f") s) (kind.Floating) (from6 s) refl
-                                  (pick (λ k. is_provable (entry.Statement k)) (has_keyword (codes "$e") s) (kind.Essential) (from7 s) refl
-                                      (pick (λ k. is_provable (entry.Statement k)) (has_keyword (codes "$a") s) (kind.Axiom) (from8 s) refl
-                                          (past (λ k. is_provable (entry.Statement k)) (has_keyword (codes "$p") s) (kind.Provable)
-                                              (from9 s) h refl)))))))))
+      (pick is_provable (has_keyword (codes "${") s) (entry.OpenBlock) (from1 s) refl
+      (pick is_provable (has_keyword (codes "$}") s) (entry.CloseBlock) (entry.Statement (from2 s)) refl
+      (pick (λ k. is_provable (entry.Statement k)) (has_keyword (codes "$c") s) (kind.Constants) (from3 s) refl
+      (pick (λ k. is_provable (entry.Statement k)) (has_keyword (codes "$v") s) (kind.Variables) (from4 s) refl
+      (pick (λ k. is_provable (entry.Statement k)) (has_keyword (codes "$d") s) (kind.Distinct) (from5 s) refl
+      (pick (λ k. is_provable (entry.Statement k)) (has_keyword (codes "$f") s) (kind.Floating) (from6 s) refl
+      (pick (λ k. is_provable (entry.Statement k)) (has_keyword (codes "$e") s) (kind.Essential) (from7 s) refl
+      (pick (λ k. is_provable (entry.Statement k)) (has_keyword (codes "$a") s) (kind.Axiom) (from8 s) refl
+      (past (λ k. is_provable (entry.Statement k)) (has_keyword (codes "$p") s) (kind.Provable)
+      (from9 s) h refl)))))))))
 ]
 
 pub kind-is_open : (s : Statement) → has_keyword (codes "${") s ≡ is_open (kind_in s)
@@ -211,16 +237,16 @@ kind-is_open s = elim (cases_Bool (has_keyword (codes "${") s)) [
   | inl h ↦ rw (h) refl
   | inr h ↦ h
       ∙ sym
-          (past is_open (has_keyword (codes "${") s) (entry.OpenBlock) (from1 s) h
-              (pick is_open (has_keyword (codes "$}") s) (entry.CloseBlock) (entry.Statement (from2 s)) refl
-                  (pick (λ k. is_open (entry.Statement k)) (has_keyword (codes "$c") s) (kind.Constants) (from3 s) refl
-                      (pick (λ k. is_open (entry.Statement k)) (has_keyword (codes "$v") s) (kind.Variables) (from4 s) refl
-                          (pick (λ k. is_open (entry.Statement k)) (has_keyword (codes "$d") s) (kind.Distinct) (from5 s) refl
-                              (pick (λ k. is_open (entry.Statement k)) (has_keyword (codes "$f") s) (kind.Floating) (from6 s) refl
-                                  (pick (λ k. is_open (entry.Statement k)) (has_keyword (codes "$e") s) (kind.Essential) (from7 s) refl
-                                      (pick (λ k. is_open (entry.Statement k)) (has_keyword (codes "$a") s) (kind.Axiom) (from8 s) refl
-                                          (pick (λ k. is_open (entry.Statement k)) (has_keyword (codes "$p") s) (kind.Provable)
-                                              (from9 s) refl refl)))))))))
+      (past is_open (has_keyword (codes "${") s) (entry.OpenBlock) (from1 s) h
+      (pick is_open (has_keyword (codes "$}") s) (entry.CloseBlock) (entry.Statement (from2 s)) refl
+      (pick (λ k. is_open (entry.Statement k)) (has_keyword (codes "$c") s) (kind.Constants) (from3 s) refl
+      (pick (λ k. is_open (entry.Statement k)) (has_keyword (codes "$v") s) (kind.Variables) (from4 s) refl
+      (pick (λ k. is_open (entry.Statement k)) (has_keyword (codes "$d") s) (kind.Distinct) (from5 s) refl
+      (pick (λ k. is_open (entry.Statement k)) (has_keyword (codes "$f") s) (kind.Floating) (from6 s) refl
+      (pick (λ k. is_open (entry.Statement k)) (has_keyword (codes "$e") s) (kind.Essential) (from7 s) refl
+      (pick (λ k. is_open (entry.Statement k)) (has_keyword (codes "$a") s) (kind.Axiom) (from8 s) refl
+      (pick (λ k. is_open (entry.Statement k)) (has_keyword (codes "$p") s) (kind.Provable)
+      (from9 s) refl refl)))))))))
 ]
 
 pub kind-is_close : (s : Statement) → has_keyword (codes "$}") s ≡ is_close (kind_in s)
@@ -228,16 +254,16 @@ kind-is_close s = elim (cases_Bool (has_keyword (codes "$}") s)) [
   | inl h ↦ rw (one_keyword s (codes "$}") (codes "${") h refl, h) refl
   | inr h ↦ h
       ∙ sym
-          (pick is_close (has_keyword (codes "${") s) (entry.OpenBlock) (from1 s) refl
-              (past is_close (has_keyword (codes "$}") s) (entry.CloseBlock) (entry.Statement (from2 s)) h
-                  (pick (λ k. is_close (entry.Statement k)) (has_keyword (codes "$c") s) (kind.Constants) (from3 s) refl
-                      (pick (λ k. is_close (entry.Statement k)) (has_keyword (codes "$v") s) (kind.Variables) (from4 s) refl
-                          (pick (λ k. is_close (entry.Statement k)) (has_keyword (codes "$d") s) (kind.Distinct) (from5 s) refl
-                              (pick (λ k. is_close (entry.Statement k)) (has_keyword (codes "$f") s) (kind.Floating) (from6 s) refl
-                                  (pick (λ k. is_close (entry.Statement k)) (has_keyword (codes "$e") s) (kind.Essential) (from7 s) refl
-                                      (pick (λ k. is_close (entry.Statement k)) (has_keyword (codes "$a") s) (kind.Axiom) (from8 s) refl
-                                          (pick (λ k. is_close (entry.Statement k)) (has_keyword (codes "$p") s) (kind.Provable)
-                                              (from9 s) refl refl)))))))))
+      (pick is_close (has_keyword (codes "${") s) (entry.OpenBlock) (from1 s) refl
+      (past is_close (has_keyword (codes "$}") s) (entry.CloseBlock) (entry.Statement (from2 s)) h
+      (pick (λ k. is_close (entry.Statement k)) (has_keyword (codes "$c") s) (kind.Constants) (from3 s) refl
+      (pick (λ k. is_close (entry.Statement k)) (has_keyword (codes "$v") s) (kind.Variables) (from4 s) refl
+      (pick (λ k. is_close (entry.Statement k)) (has_keyword (codes "$d") s) (kind.Distinct) (from5 s) refl
+      (pick (λ k. is_close (entry.Statement k)) (has_keyword (codes "$f") s) (kind.Floating) (from6 s) refl
+      (pick (λ k. is_close (entry.Statement k)) (has_keyword (codes "$e") s) (kind.Essential) (from7 s) refl
+      (pick (λ k. is_close (entry.Statement k)) (has_keyword (codes "$a") s) (kind.Axiom) (from8 s) refl
+      (pick (λ k. is_close (entry.Statement k)) (has_keyword (codes "$p") s) (kind.Provable)
+      (from9 s) refl refl)))))))))
 ]
 
 pub opens : (s : Statement) → kind_in s ≡ entry.OpenBlock → has_keyword (codes "${") s ≡ true
@@ -256,8 +282,8 @@ constants-kind s h = rw (one_keyword s (codes "$c") (codes "${") h refl, one_key
 pub no-keyword : (s : Statement) → has_keyword (codes "$c") s ≡ false → is_constants (kind_in s) ≡ true → has_one_of statement_keywords s ≡ false
 no-keyword s c k =
     go (body s) c (kind-is_variables s ∙ other is_variables refl) (kind-is_distinct s ∙ other is_distinct refl) (kind-is_open s ∙ other is_open refl)
-        (kind-is_close s ∙ other is_close refl) (kind-is_floating s ∙ other is_floating refl) (kind-is_essential s ∙ other is_essential refl)
-        (kind-is_axiom s ∙ other is_axiom refl) (kind-is_provable s ∙ other is_provable refl)
+    (kind-is_close s ∙ other is_close refl) (kind-is_floating s ∙ other is_floating refl) (kind-is_essential s ∙ other is_essential refl)
+    (kind-is_axiom s ∙ other is_axiom refl) (kind-is_provable s ∙ other is_provable refl)
   where
     is_c : (j : EntryKind) → is_constants j ≡ true → entry.Statement kind.Constants ≡ j
     is_c entry.OpenBlock h = absurd cc
@@ -284,9 +310,17 @@ no-keyword s c k =
         → list_any (is (codes "$p")) (take 1 ws) ≡ false → list_any (is_one_of statement_keywords) (take 1 ws) ≡ false
     go [] c v d o p f e a q = refl
     go (w ∷ ws) c v d o p f e a q =
-        rw (none (is (codes "$c") w) c, none (is (codes "$v") w) v, none (is (codes "$d") w) d, none (is (codes "${") w) o,
-            none (is (codes "$}") w) p, none (is (codes "$f") w) f, none (is (codes "$e") w) e, none (is (codes "$a") w) a,
-            none (is (codes "$p") w) q) refl
+        rw (
+          none (is (codes "$c") w) c,
+          none (is (codes "$v") w) v,
+          none (is (codes "$d") w) d,
+          none (is (codes "${") w) o,
+          none (is (codes "$}") w) p,
+          none (is (codes "$f") w) f,
+          none (is (codes "$e") w) e,
+          none (is (codes "$a") w) a,
+          none (is (codes "$p") w) q,
+        ) refl
 
 -- one of two keywords
 either : (j k : List ℕ) (s : Statement) → has_one_of (j ∷ k ∷ []) s ≡ (has_keyword j s || has_keyword k s)

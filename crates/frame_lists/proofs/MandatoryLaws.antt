@@ -154,26 +154,26 @@ module _ (ss : List Statement) (l : Listed) (of : AreOf l ss) where
 
   essential-symbols : (vars : List ℕ) (ns : List Numbered) (v : Name) → contains names v ≡ true → AllByRecursion (IsGood ss) ns
       → list_any (λ n. has_symbol (symbols_at l (position_at l n)) (number names v))
-          (map (λ (i : Numbered). i.label) (filter (λ i. is_essential (kind_in i.statement)) ns))
-          ≡ list_any (λ f. contains (symbols_in f) v) (with_keyword (codes "$e") (statements_of ns))
+      (map (λ (i : Numbered). i.label) (filter (λ i. is_essential (kind_in i.statement)) ns))
+      ≡ list_any (λ f. contains (symbols_in f) v) (with_keyword (codes "$e") (statements_of ns))
   essential-symbols vars [] v known a = refl
   essential-symbols vars (i ∷ ns) v known a =
       let later = essential-symbols vars ns v known a.1 in
       let rest = list_any (λ f. contains (symbols_in f) v) (with_keyword (codes "$e") (statements_of ns)) in
       elim (cases_Bool (has_keyword (codes "$e") i.statement)) as
-          (λ w. list_any (λ n. has_symbol (symbols_at l (position_at l n)) (number names v))
-              (map (λ (j : Numbered). j.label) (filter (λ j. is_essential (kind_in j.statement)) (i ∷ ns)))
-              ≡ list_any (λ f. contains (symbols_in f) v) (with_keyword (codes "$e") (i.statement ∷ statements_of ns))) [
+      (λ w. list_any (λ n. has_symbol (symbols_at l (position_at l n)) (number names v))
+      (map (λ (j : Numbered). j.label) (filter (λ j. is_essential (kind_in j.statement)) (i ∷ ns)))
+      ≡ list_any (λ f. contains (symbols_in f) v) (with_keyword (codes "$e") (i.statement ∷ statements_of ns))) [
         | inl k ↦
             let one = a.0.has_label (codes "$e") refl k in
             let same : symbols_at l (position_at l i.label) ≡ formula_of names i.statement = ap (λ n. symbols_at l n) (position-is i a.0.placed one) ∙ symbols-is i.at i.statement a.0.placed.there in
             let here' : has_symbol (symbols_at l (position_at l i.label)) (number names v) ≡ contains (symbols_in i.statement) v =
-                ap (λ s. has_symbol s (number names v)) same ∙ sym (contains-symbols names v (symbols_in i.statement) known) in
+            ap (λ s. has_symbol s (number names v)) same ∙ sym (contains-symbols names v (symbols_in i.statement) known) in
             rw (sym (kind-is_essential i.statement) ∙ k, k)
-                (ap (λ b. b
-                    || list_any (λ n. has_symbol (symbols_at l (position_at l n)) (number names v))
-                        (map (λ (j : Numbered). j.label) (filter (λ j. is_essential (kind_in j.statement)) ns))) here'
-                    ∙ ap (λ b. contains (symbols_in i.statement) v || b) later)
+            (ap (λ b. b
+            || list_any (λ n. has_symbol (symbols_at l (position_at l n)) (number names v))
+            (map (λ (j : Numbered). j.label) (filter (λ j. is_essential (kind_in j.statement)) ns))) here'
+            ∙ ap (λ b. contains (symbols_in i.statement) v || b) later)
         | inr k ↦ rw (sym (kind-is_essential i.statement) ∙ k, k) later
       ]
 
@@ -191,8 +191,8 @@ module _ (ss : List Statement) (l : Listed) (of : AreOf l ss) where
   pub mandatory-law : (ns : List Numbered) (s : Scope) (st : Statement) (v : Name) → contains names v ≡ true → AllByRecursion (IsGood ss) ns
       → s.variables ≡ (state names ns).variables → s.essentials ≡ (state names ns).essentials
       → has (mandatory l s (formula_of names st)) (number names v)
-          ≡ (contains (listed_by symbols_in (codes "$v") (statements_of ns)) v
-              && list_any (λ f. contains (symbols_in f) v) (st ∷ with_keyword (codes "$e") (statements_of ns)))
+      ≡ (contains (listed_by symbols_in (codes "$v") (statements_of ns)) v
+      && list_any (λ f. contains (symbols_in f) v) (st ∷ with_keyword (codes "$e") (statements_of ns)))
   mandatory-law ns s st v known a is_v is_e =
       let f = formula_of names st in
       let j = number names v in
@@ -200,4 +200,4 @@ module _ (ss : List Statement) (l : Listed) (of : AreOf l ss) where
       ∙ ap (λ b. b && (has_symbol f j || any_symbol s.variables l s.essentials j)) (ap (λ x. has x j) is_v ∙ variables-law ss ns v known)
       ∙ ap (λ b. contains (listed_by symbols_in (codes "$v") (statements_of ns)) v && (b || any_symbol s.variables l s.essentials j)) (sym (contains-symbols names v (symbols_in st) known))
       ∙ ap (λ b. contains (listed_by symbols_in (codes "$v") (statements_of ns)) v && (contains (symbols_in st) v || b))
-          (ap (λ x. any_symbol s.variables l x j) is_e ∙ essential-law s.variables ns v known a)
+      (ap (λ x. any_symbol s.variables l x j) is_e ∙ essential-law s.variables ns v known a)

@@ -100,17 +100,21 @@ Nested e p = (k : ℕ) → k < length p → EndsIn (on (drop k p) e) (on (drop (
 nested-plain : (s : Statement) (e : List Statement) → Nested e (path e) → Nested (s ∷ e) (path e)
 nested-plain s e nest zero h =
     let i = nest zero h in
-    record { front = item s e ∷ i.front;
-        eq =
-            on-keep s e ∙ ap (λ (l : List Numbered). item s e ∷ l) i.eq
-                ∙ ap (λ (l : List Numbered). item s e ∷ i.front ++ l) (sym (on-skip (drop 1 (path e)) s e (length-drop-lt 0 (path e) h))) }
+    record {
+      front = item s e ∷ i.front;
+      eq =
+          on-keep s e ∙ ap (λ (l : List Numbered). item s e ∷ l) i.eq
+          ∙ ap (λ (l : List Numbered). item s e ∷ i.front ++ l) (sym (on-skip (drop 1 (path e)) s e (length-drop-lt 0 (path e) h)));
+    }
 nested-plain s e nest (suc k) h =
     let i = nest (suc k) h in
     let there : 0 < length (path e) = omega arith in
-    record { front = i.front;
-        eq =
-            on-skip (drop (suc k) (path e)) s e (length-drop-lt k (path e) there) ∙ i.eq
-                ∙ ap (λ (l : List Numbered). i.front ++ l) (sym (on-skip (drop (suc (suc k)) (path e)) s e (length-drop-lt (suc k) (path e) there))) }
+    record {
+      front = i.front;
+      eq =
+          on-skip (drop (suc k) (path e)) s e (length-drop-lt k (path e) there) ∙ i.eq
+          ∙ ap (λ (l : List Numbered). i.front ++ l) (sym (on-skip (drop (suc (suc k)) (path e)) s e (length-drop-lt (suc k) (path e) there)));
+    }
 
 nested-open : (s : Statement) (e : List Statement) → Nested e (path e) → Nested (s ∷ e) (length e ∷ path e)
 nested-open s e nest zero h = record { front = []; eq = on-fresh s e ∙ sym (on-keep s e) }

@@ -100,8 +100,8 @@ with_in one base [] b i h = absurd i
 with_in one base (o ∷ others) b i h = elim i [
   | inl e ↦ let yes : nat_lt one o ≡ true = ap (nat_lt one) (sym e) ∙ h in
       rw yes
-          (with_base one (base ++ joined one o ∷ []) others (joined one b)
-              (in_right (joined one b) base (joined one o ∷ []) (inl (ap (joined one) e))))
+      (with_base one (base ++ joined one o ∷ []) others (joined one b)
+      (in_right (joined one b) base (joined one o ∷ []) (inl (ap (joined one) e))))
   | inr k ↦ elim (cases_Bool (nat_lt one o)) [ inl g ↦ rw g (with_in one (base ++ joined one o ∷ []) others b k h) | inr g ↦ rw g (with_in one base others b k h) ]
 ]
 
@@ -156,10 +156,14 @@ module _ (l : Listed) (set : List ℕ) where
         | inr x ↦ elim (in_chosen set [] (symbols_at l d) p.1 b.other) [
           | inl none ↦ absurd none
           | inr y ↦ inr
-              (record { one = x.0; other = y.0; less = b.less;
-                  stand =
-                      or_left (together p.0 p.1 d) (list_any (together p.0 p.1) distinct)
-                          (and_from (has_symbol (symbols_at l d) p.0) (has_symbol (symbols_at l d) p.1) x.1 y.1) })
+              (record {
+                one = x.0;
+                other = y.0;
+                less = b.less;
+                stand =
+                    or_left (together p.0 p.1 d) (list_any (together p.0 p.1) distinct)
+                    (and_from (has_symbol (symbols_at l d) p.0) (has_symbol (symbols_at l d) p.1) x.1 y.1);
+              })
         ]
       ]
     ]
@@ -268,10 +272,10 @@ module _ (ss : List Statement) where
   -- by name and by number
   module _ (ds : List Statement) (g : ℕ → ℕ → Bool)
       (law : (x y : Name) → Known x → Known y
-          → list_any (λ d. contains (symbols_in d) x && contains (symbols_in d) y) ds ≡ g (number names x) (number names y)) where
+      → list_any (λ d. contains (symbols_in d) x && contains (symbols_in d) y) ds ≡ g (number names x) (number names y)) where
     row-is : (x : Name) (ys : List Name) → Known x → AllByRecursion Known ys
         → map numbers (map (λ y. (x, y)) (filter (λ y. list_any (λ d. contains (symbols_in d) x && contains (symbols_in d) y) ds) ys))
-            ≡ map (joined (number names x)) (filter (g (number names x)) (map (number names) ys))
+        ≡ map (joined (number names x)) (filter (g (number names x)) (map (number names) ys))
     row-is x [] kx k = refl
     row-is x (y ∷ ys) kx k =
         let later = row-is x ys kx k.1 in
@@ -291,8 +295,8 @@ module _ (ss : List Statement) where
   module _ (l : Listed) (of : AreOf l ss) where
     together-by : (x y : Name) → Known x → Known y → (ns : List Numbered) → AllByRecursion (IsGood ss) ns
         → list_any (λ d. contains (symbols_in d) x && contains (symbols_in d) y) (with_keyword (codes "$d") (statements_of ns))
-            ≡ list_any (together l [] (number names x) (number names y))
-                (map (λ (i : Numbered). i.at) (filter (λ (i : Numbered). is_distinct (kind_in i.statement)) ns))
+        ≡ list_any (together l [] (number names x) (number names y))
+        (map (λ (i : Numbered). i.at) (filter (λ (i : Numbered). is_distinct (kind_in i.statement)) ns))
     together-by x y kx ky [] a = refl
     together-by x y kx ky (i ∷ ns) a =
         let later = together-by x y kx ky ns a.1 in
@@ -301,15 +305,15 @@ module _ (ss : List Statement) where
         let old = list_any (together l [] (number names x) (number names y)) (map (λ (j : Numbered). j.at) (filter (λ (j : Numbered). is_distinct (kind_in j.statement)) ns)) in
         let same : test st ≡ together l [] (number names x) (number names y) i.at =
         ap (λ b. b && contains (symbols_in st) y) (contains-symbols names x (symbols_in st) kx)
-            ∙ ap (λ b. has_symbol (model.formula_of names st) (number names x) && b) (contains-symbols names y (symbols_in st) ky)
+        ∙ ap (λ b. has_symbol (model.formula_of names st) (number names x) && b) (contains-symbols names y (symbols_in st) ky)
         ∙ ap (λ (f : List Sym). has_symbol f (number names x) && has_symbol f (number names y)) (sym (symbols-is ss l of i.at st a.0.placed.there)) in
         elim (cases_Bool (has_keyword (codes "$d") st)) as
-            (λ w. list_any test (with_keyword (codes "$d") (st ∷ statements_of ns))
-                ≡ list_any (together l [] (number names x) (number names y))
-                    (map (λ (j : Numbered). j.at) (filter (λ (j : Numbered). is_distinct (kind_in j.statement)) (i ∷ ns)))) [
+        (λ w. list_any test (with_keyword (codes "$d") (st ∷ statements_of ns))
+        ≡ list_any (together l [] (number names x) (number names y))
+        (map (λ (j : Numbered). j.at) (filter (λ (j : Numbered). is_distinct (kind_in j.statement)) (i ∷ ns)))) [
           | inl k ↦ rw (sym (kind-is_distinct st) ∙ k, k)
               (ap (λ b. b || list_any test (with_keyword (codes "$d") (statements_of ns))) same
-                  ∙ ap (λ b. together l [] (number names x) (number names y) i.at || b) later)
+              ∙ ap (λ b. together l [] (number names x) (number names y) i.at || b) later)
           | inr k ↦ rw (sym (kind-is_distinct st) ∙ k, k) later
         ]
 
@@ -319,7 +323,7 @@ module _ (ss : List Statement) where
 
       together-law : (x y : Name) → Known x → Known y
           → list_any (λ d. contains (symbols_in d) x && contains (symbols_in d) y) (with_keyword (codes "$d") (active e))
-              ≡ list_any (together l [] (number names x) (number names y)) s.distinct
+          ≡ list_any (together l [] (number names x) (number names y)) s.distinct
       together-law x y kx ky =
           let at : Numbered → ℕ = λ i. i.at in
           let q : Numbered → Bool = λ i. is_distinct (kind_in i.statement) in
@@ -327,8 +331,8 @@ module _ (ss : List Statement) where
           ap (λ a. list_any (λ d. contains (symbols_in d) x && contains (symbols_in d) y) (with_keyword (codes "$d") a)) (sym (on-is (path e) e))
           ∙ together-by x y kx ky ns good
           ∙ sym
-              (ap (λ ds. list_any p ds) (is_d ∙ distinct-are ss ns) ∙ ap (λ xs. list_any p (map at xs)) (filter-reverse q ns)
-                  ∙ ap (λ xs. list_any p xs) (map-reverse at (filter q ns)) ∙ any-turned p (map at (filter q ns)))
+          (ap (λ ds. list_any p ds) (is_d ∙ distinct-are ss ns) ∙ ap (λ xs. list_any p (map at xs)) (filter-reverse q ns)
+          ∙ ap (λ xs. list_any p xs) (map-reverse at (filter q ns)) ∙ any-turned p (map at (filter q ns)))
 
       -- the pairs of the variables that pass a test, which are those of the set
       pub pairs-law : (q : Name → Bool) (set : List ℕ) → ((j : ℕ) → has set j ≡ true → j < length names) → ((n : Name) → Known n → q n ≡ has set (number names n))
@@ -350,7 +354,7 @@ module _ (ss : List Statement) where
           contains_in p a.0 (o.keeps p (in_contains p found (found_in l set [] s.distinct p.0 p.1 (from-passing names q set law p.0 r.0.0) (from-passing names q set law p.1 r.0.1) r.0.2 r.1)))) in
           let known : AllByRecursion Known (filter q names) = all_of_in Known (filter q names) (λ n i. any_there (bytes_eq n) n names (in_filter q n names i).0 (name-self n)) in
           let by_name : map numbers (model.pairs_with (with_keyword (codes "$d") (active e)) (filter q names)) ≡ pairs_of g v =
-              pairs-are (with_keyword (codes "$d") (active e)) g together-law (filter q names) known in
+          pairs-are (with_keyword (codes "$d") (active e)) g together-law (filter q names) known in
           a.2 ∙ ap (λ ps. map pair_of ps) (same ∙ sym by_name) ∙ twice (model.pairs_with (with_keyword (codes "$d") (active e)) (filter q names))
         where
           twice : (ps : List (Name × Name)) → map pair_of (map numbers ps) ≡ map (model.pair_of names) ps

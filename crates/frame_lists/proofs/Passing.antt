@@ -74,8 +74,15 @@ float-grown s t n (a ∷ []) g = g
 float-grown s t n (a ∷ v ∷ ss) g = elim (cases_Bool (has t.typed v.0)) [
   | inl h ↦ rw h g
   | inr h ↦ rw h
-      (record { variables = g.variables; typed = more s.typed t.typed v.0 g.typed; floats = more s.floats t.floats n g.floats;
-          essentials = g.essentials; hyps = g.hyps; distinct = g.distinct; parallel = g.parallel })
+      (record {
+        variables = g.variables;
+        typed = more s.typed t.typed v.0 g.typed;
+        floats = more s.floats t.floats n g.floats;
+        essentials = g.essentials;
+        hyps = g.hyps;
+        distinct = g.distinct;
+        parallel = g.parallel;
+      })
 ]
 
 grows : (s t : Scope) (k : EntryKind) (ss : List Sym) (at n : ℕ) → Grown s t → Grown s (added k ss at n t)
@@ -83,18 +90,46 @@ grows s t entry.OpenBlock ss at n g = g
 grows s t entry.CloseBlock ss at n g = g
 grows s t (entry.Statement kind.Constants) ss at n g = g
 grows s t (entry.Statement kind.Variables) ss at n g =
-    record { variables = declared-begins s.variables t.variables ss g.variables; typed = g.typed; floats = g.floats; essentials = g.essentials;
-        hyps = g.hyps; distinct = g.distinct; parallel = g.parallel }
+    record {
+      variables = declared-begins s.variables t.variables ss g.variables;
+      typed = g.typed;
+      floats = g.floats;
+      essentials = g.essentials;
+      hyps = g.hyps;
+      distinct = g.distinct;
+      parallel = g.parallel;
+    }
 grows s t (entry.Statement kind.Distinct) ss at n g =
-    record { variables = g.variables; typed = g.typed; floats = g.floats; essentials = g.essentials; hyps = g.hyps;
-        distinct = more s.distinct t.distinct at g.distinct; parallel = g.parallel }
+    record {
+      variables = g.variables;
+      typed = g.typed;
+      floats = g.floats;
+      essentials = g.essentials;
+      hyps = g.hyps;
+      distinct = more s.distinct t.distinct at g.distinct;
+      parallel = g.parallel;
+    }
 grows s t (entry.Statement kind.Floating) ss at n g =
     float-grown s (record t { hyps = t.hyps ++ n ∷ [] }) n ss
-        (record { variables = g.variables; typed = g.typed; floats = g.floats; essentials = g.essentials; hyps = more s.hyps t.hyps n g.hyps;
-            distinct = g.distinct; parallel = g.parallel })
+    (record {
+      variables = g.variables;
+      typed = g.typed;
+      floats = g.floats;
+      essentials = g.essentials;
+      hyps = more s.hyps t.hyps n g.hyps;
+      distinct = g.distinct;
+      parallel = g.parallel;
+    })
 grows s t (entry.Statement kind.Essential) ss at n g =
-    record { variables = g.variables; typed = g.typed; floats = g.floats; essentials = more s.essentials t.essentials n g.essentials;
-        hyps = more s.hyps t.hyps n g.hyps; distinct = g.distinct; parallel = g.parallel }
+    record {
+      variables = g.variables;
+      typed = g.typed;
+      floats = g.floats;
+      essentials = more s.essentials t.essentials n g.essentials;
+      hyps = more s.hyps t.hyps n g.hyps;
+      distinct = g.distinct;
+      parallel = g.parallel;
+    }
 grows s t (entry.Statement kind.Axiom) ss at n g = g
 grows s t (entry.Statement kind.Provable) ss at n g = g
 
@@ -213,7 +248,7 @@ module _ (names : List Name) where
   blocks-plain s e k (b ∷ bs) p h =
       let there : 0 < length (path e) = omega (arith, h.0) in
       let same' : on (drop (suc k) (path (s ∷ e))) (s ∷ e) ≡ on (drop (suc k) (path e)) e =
-          ap (λ (q : List ℕ). on (drop (suc k) q) (s ∷ e)) p ∙ on-skip (drop (suc k) (path e)) s e (length-drop-lt k (path e) there) in
+      ap (λ (q : List ℕ). on (drop (suc k) q) (s ∷ e)) p ∙ on-skip (drop (suc k) (path e)) s e (length-drop-lt k (path e) there) in
       (subst (λ (q : List ℕ). k < length q) (sym p) h.0, h.1 ∙ ap (λ l. block_of (state names l)) (sym same'), blocks-plain s e (suc k) bs p h.2)
 
   blocks-under : (s : Statement) (e : List Statement) (k : ℕ) (bs : List Block) → path (s ∷ e) ≡ length e ∷ path e → BlocksAre e k bs → BlocksAre (s ∷ e) (suc k) bs
@@ -222,7 +257,7 @@ module _ (names : List Name) where
       let there : 0 < length (path e) = omega (arith, h.0) in
       let deep : suc k < length (length e ∷ path e) = omega (arith, h.0) in
       let same' : on (drop (suc (suc k)) (path (s ∷ e))) (s ∷ e) ≡ on (drop (suc k) (path e)) e =
-          ap (λ (q : List ℕ). on (drop (suc (suc k)) q) (s ∷ e)) p ∙ on-skip (drop (suc k) (path e)) s e (length-drop-lt k (path e) there) in
+      ap (λ (q : List ℕ). on (drop (suc (suc k)) q) (s ∷ e)) p ∙ on-skip (drop (suc k) (path e)) s e (length-drop-lt k (path e) there) in
       (subst (λ (q : List ℕ). suc k < length q) (sym p) deep, h.1 ∙ ap (λ l. block_of (state names l)) (sym same'), blocks-under s e (suc k) bs p h.2)
 
   blocks-over : (s : Statement) (e : List Statement) (k : ℕ) (bs : List Block) → path (s ∷ e) ≡ drop 1 (path e) → 0 < length (path e) → BlocksAre e (suc k) bs → BlocksAre (s ∷ e) k bs
@@ -234,7 +269,7 @@ module _ (names : List Name) where
   blocks-over s e k (b ∷ bs) p there h =
       let same' : on (drop (suc k) (path (s ∷ e))) (s ∷ e) ≡ on (drop (suc (suc k)) (path e)) e =
       ap (λ (q : List ℕ). on (drop (suc k) q) (s ∷ e)) p ∙ ap (λ (q : List ℕ). on q (s ∷ e)) (drop-tail (suc k) (path e))
-          ∙ on-skip (drop (suc (suc k)) (path e)) s e (length-drop-lt (suc k) (path e) there) in
+      ∙ on-skip (drop (suc (suc k)) (path e)) s e (length-drop-lt (suc k) (path e) there) in
       (subst (λ (q : List ℕ). k < length q) (sym p) (within (path e) k h.0), h.1 ∙ ap (λ l. block_of (state names l)) (sym same'), blocks-over s e (suc k) bs p there h.2)
     where
       within : (q : List ℕ) (k : ℕ) → suc k < length q → k < length (drop 1 q)
@@ -278,8 +313,8 @@ module _ (names : List Name) where
   closed st e s is_k [] is marks =
       let c = closes st is_k in
       let after : state names (here (st ∷ e)) ≡ state names (here e) =
-          ap (λ l. state names l) (here-astray st e c.0 c.1 marks)
-              ∙ ap (λ j. added j (formula_of names st) (length e) (count e) (state names (here e))) is_k in
+      ap (λ l. state names l) (here-astray st e c.0 c.1 marks)
+      ∙ ap (λ j. added j (formula_of names st) (length e) (count e) (state names (here e))) is_k in
       record {
         open_blocks = [];
         is = ap (λ x. with_close x) is ∙ ap (λ x. with_blocks x []) (sym after);
@@ -308,8 +343,8 @@ module _ (names : List Name) where
   by_kind st e s entry.CloseBlock is i = closed st e s is i.open_blocks i.is i.marks
   by_kind st e s (entry.Statement kind.Floating) is i = let n = neither st is in
       plain st e s (entry.Statement kind.Floating) is (path-plain st e n.0 n.1) (here-plain st e n.0 n.1)
-          (λ bs. with_float-blocks (record (state names (here e)) { hyps = (state names (here e)).hyps ++ count e ∷ [] }) bs (count e)
-              (formula_of names st)) i
+      (λ bs. with_float-blocks (record (state names (here e)) { hyps = (state names (here e)).hyps ++ count e ∷ [] }) bs (count e)
+      (formula_of names st)) i
   by_kind st e s (entry.Statement kind.Constants) is i = let n = neither st is in plain st e s (entry.Statement kind.Constants) is (path-plain st e n.0 n.1) (here-plain st e n.0 n.1) (λ bs. refl) i
   by_kind st e s (entry.Statement kind.Variables) is i = let n = neither st is in plain st e s (entry.Statement kind.Variables) is (path-plain st e n.0 n.1) (here-plain st e n.0 n.1) (λ bs. refl) i
   by_kind st e s (entry.Statement kind.Distinct) is i = let n = neither st is in plain st e s (entry.Statement kind.Distinct) is (path-plain st e n.0 n.1) (here-plain st e n.0 n.1) (λ bs. refl) i

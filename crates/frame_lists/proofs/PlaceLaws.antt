@@ -53,8 +53,8 @@ pub place-found : (xs : List Entry) (position r : ℕ) → suc position ≤ r �
     → ((p : ℕ) → suc position ≤ p → p < r → depth_upto xs p ≡ 0 → ⊥) → r ≡ place_by xs position
 place-found xs position r low high h none =
     sym (ap (λ o. unwrap_or o (length xs))
-        (find-at (λ p. depth_upto xs p == 0) (suc position) (length xs - position) r low (omega (arith, low, high)) (zero-test (depth_upto xs r) h)
-            (λ p l m. not-zero (depth_upto xs p) (none p l m))))
+    (find-at (λ p. depth_upto xs p == 0) (suc position) (length xs - position) r low (omega (arith, low, high)) (zero-test (depth_upto xs r) h)
+    (λ p l m. not-zero (depth_upto xs p) (none p l m))))
 
 pub no-place : (xs : List Entry) (position : ℕ) → ((p : ℕ) → suc position ≤ p → p ≤ length xs → depth_upto xs p ≡ 0 → ⊥) → length xs ≡ place_by xs position
 no-place xs position none =

@@ -46,8 +46,8 @@ pub count-labels : (e : List Statement) → length (labels (reverse e)) ≡ coun
 count-labels [] = refl
 count-labels (s ∷ e) =
     let one : length (labels (s ∷ [])) ≡ length (labels_in s) =
-        ap (λ (ws : List Word). length (map (λ (w : Word). w.bytes) ws)) (append-nil (labels_in s))
-            ∙ length-map (λ (w : Word). w.bytes) (labels_in s) in
+    ap (λ (ws : List Word). length (map (λ (w : Word). w.bytes) ws)) (append-nil (labels_in s))
+    ∙ length-map (λ (w : Word). w.bytes) (labels_in s) in
     let whole : length (labels (reverse (s ∷ e))) ≡ length (labels (reverse e) ++ labels (s ∷ [])) = ap (λ l. length l) (ap labels (last-first s e) ∙ labels-append (reverse e) (s ∷ [])) in
     omega (arith, one, whole, length-append (labels (reverse e)) (labels (s ∷ [])), count-labels e)
 
@@ -56,9 +56,9 @@ count-positions [] = refl
 count-positions (s ∷ e) =
     let at = 0 + length (reverse e) in
     let one : length (positions_from at (s ∷ [])) ≡ length (labels_in s) =
-        ap (λ (l : List ℕ). length l) (append-nil (map (λ (w : Word). at) (labels_in s))) ∙ length-map (λ (w : Word). at) (labels_in s) in
+    ap (λ (l : List ℕ). length l) (append-nil (map (λ (w : Word). at) (labels_in s))) ∙ length-map (λ (w : Word). at) (labels_in s) in
     let whole : length (positions (reverse (s ∷ e))) ≡ length (positions (reverse e) ++ positions_from at (s ∷ [])) =
-        ap (λ l. length l) (ap positions (last-first s e) ∙ positions-append 0 (reverse e) (s ∷ [])) in
+    ap (λ l. length l) (ap positions (last-first s e) ∙ positions-append 0 (reverse e) (s ∷ [])) in
     omega (arith, one, whole, length-append (positions (reverse e)) (positions_from at (s ∷ [])), count-positions e)
 
 -- a statement with its number, and its label

@@ -97,9 +97,9 @@ look-is v [] = refl
 look-is v (p ∷ ps) =
     ap (λ o. option_and_then (λ k. slice_get (seconds (p ∷ ps)) k) o) (position-cons (nat_eq v) p.0 (firsts ps))
     ∙ elim (cases_Bool (nat_eq v p.0)) as
-        (λ w. option_and_then (λ k. slice_get (seconds (p ∷ ps)) k)
-            (cond (nat_eq v p.0) (Some 0) (option_map (λ n. suc n) (position (nat_eq v) (firsts ps))))
-            ≡ look v (p ∷ ps)) [
+    (λ w. option_and_then (λ k. slice_get (seconds (p ∷ ps)) k)
+    (cond (nat_eq v p.0) (Some 0) (option_map (λ n. suc n) (position (nat_eq v) (firsts ps))))
+    ≡ look v (p ∷ ps)) [
       | inl h ↦ rw h refl
       | inr h ↦ rw h (next (position (nat_eq v) (firsts ps)) ∙ look-is v ps)
     ]
@@ -208,8 +208,8 @@ module _ (ss : List Statement) where
     | inl k ↦
         let here' : contains (symbols_in i.statement ++ listed_by symbols_in (codes "$v") (statements_of ns)) v ≡ true = rw k at h in
         elim
-            (or_cases (contains (symbols_in i.statement) v) (contains (listed_by symbols_in (codes "$v") (statements_of ns)) v)
-                (sym (list_any-append (bytes_eq v) (symbols_in i.statement) (listed_by symbols_in (codes "$v") (statements_of ns))) ∙ here')) [
+        (or_cases (contains (symbols_in i.statement) v) (contains (listed_by symbols_in (codes "$v") (statements_of ns)) v)
+        (sym (list_any-append (bytes_eq v) (symbols_in i.statement) (listed_by symbols_in (codes "$v") (statements_of ns))) ∙ here')) [
           | inl d ↦ variable-known ss i.at i.statement v a.0.there k d
           | inr d ↦ variables-known ns v a.1 d
         ]
@@ -255,8 +255,8 @@ module _ (ss : List Statement) where
       let later = variables-law ns v known in
       ap (λ l. has l (number names v)) (added-variables (kind_in st) (formula_of names st) i.at i.label (state names ns))
       ∙ elim (cases_Bool (has_keyword (codes "$v") st)) as
-          (λ w. has (cond (is_variables (kind_in st)) (declared old (formula_of names st)) old) (number names v)
-              ≡ contains (listed_by symbols_in (codes "$v") (st ∷ statements_of ns)) v) [
+      (λ w. has (cond (is_variables (kind_in st)) (declared old (formula_of names st)) old) (number names v)
+      ≡ contains (listed_by symbols_in (codes "$v") (st ∷ statements_of ns)) v) [
         | inl k ↦ rw (sym (kind-is_variables st) ∙ k, k) (
             declared-has old (formula_of names st) (number names v)
             ∙ ap (λ b. b || has_symbol (formula_of names st) (number names v)) later
@@ -272,7 +272,7 @@ module _ (ss : List Statement) where
       let st = i.statement in
       let old = (state names ns).variables in
       let now : has (cond (is_variables (kind_in st)) (declared old (formula_of names st)) old) j ≡ true =
-          ap (λ l. has l j) (sym (added-variables (kind_in st) (formula_of names st) i.at i.label (state names ns))) ∙ h in
+      ap (λ l. has l j) (sym (added-variables (kind_in st) (formula_of names st) i.at i.label (state names ns))) ∙ h in
       elim (cases_Bool (has_keyword (codes "$v") st)) [
         | inl k ↦
             let both : has (declared old (formula_of names st)) j ≡ true = rw (sym (kind-is_variables st) ∙ k) at now in
@@ -322,12 +322,12 @@ module _ (ss : List Statement) where
       let later = typed-law ns v known in
       let rest = listed_by (λ s. second (symbols_in s)) (codes "$f") (statements_of ns) in
       let split : has (firsts (float_pairs names ns ++ float_pair names i)) (number names v)
-          ≡ (has (firsts (float_pairs names ns)) (number names v) || has (firsts (float_pair names i)) (number names v)) =
+      ≡ (has (firsts (float_pairs names ns)) (number names v) || has (firsts (float_pair names i)) (number names v)) =
       ap (λ l. has l (number names v)) (map-append (λ (p : ℕ × ℕ). p.0) (float_pairs names ns) (float_pair names i))
-          ∙ list_any-append (nat_eq (number names v)) (firsts (float_pairs names ns)) (firsts (float_pair names i)) in
+      ∙ list_any-append (nat_eq (number names v)) (firsts (float_pairs names ns)) (firsts (float_pair names i)) in
       elim (cases_Bool (has_keyword (codes "$f") st)) as
-          (λ w. contains (listed_by (λ s. second (symbols_in s)) (codes "$f") (st ∷ statements_of ns)) v
-              ≡ has (firsts (float_pairs names (i ∷ ns))) (number names v)) [
+      (λ w. contains (listed_by (λ s. second (symbols_in s)) (codes "$f") (st ∷ statements_of ns)) v
+      ≡ has (firsts (float_pairs names (i ∷ ns))) (number names v)) [
         | inl k ↦ sym (split ∙ rw (sym (kind-is_floating st) ∙ k, k) (
             ap (λ b. b || has (firsts (map (λ u. (number names u, i.label)) (second (symbols_in st)))) (number names v)) (sym later)
             ∙ ap (λ b. contains rest v || b) (one (second (symbols_in st)))
@@ -360,8 +360,8 @@ module _ (ss : List Statement) where
   kept-floats i ns k f =
       let none = no_float (kind_of i) (formula_of names i.statement) i.at i.label (state names ns) k in
       let same : float_pairs names (i ∷ ns) ≡ float_pairs names ns =
-          ap (λ b. float_pairs names ns ++ cond b (map (λ v. (number names v, i.label)) (second (symbols_in i.statement))) []) k
-              ∙ append-nil (float_pairs names ns) in
+      ap (λ b. float_pairs names ns ++ cond b (map (λ v. (number names v, i.label)) (second (symbols_in i.statement))) []) k
+      ∙ append-nil (float_pairs names ns) in
       record {
         typed_are = none.typed ∙ f.typed_are ∙ ap firsts (sym same);
         floats_are = none.floats ∙ f.floats_are ∙ ap seconds (sym same);
@@ -375,9 +375,9 @@ module _ (ss : List Statement) where
       let is_f = a_float (kind_of i) (formula_of names i.statement) i.at i.label (state names ns) k in
       let base = record (state names ns) { hyps = (state names ns).hyps ++ i.label ∷ [] } in
       let same : float_pairs names (i ∷ ns) ≡ float_pairs names ns =
-          ap (λ b. float_pairs names ns ++ cond b (map (λ v. (number names v, i.label)) (second (symbols_in i.statement))) []) k
-              ∙ ap (λ (u : List Name). float_pairs names ns ++ map (λ v. (number names v, i.label)) (second u)) is
-              ∙ append-nil (float_pairs names ns) in
+      ap (λ b. float_pairs names ns ++ cond b (map (λ v. (number names v, i.label)) (second (symbols_in i.statement))) []) k
+      ∙ ap (λ (u : List Name). float_pairs names ns ++ map (λ v. (number names v, i.label)) (second u)) is
+      ∙ append-nil (float_pairs names ns) in
       record {
         typed_are = is_f.typed ∙ ap (λ (u : List Name). (with_float base i.label (map (symbol_in names) u)).typed) is ∙ f.typed_are ∙ ap firsts (sym same);
         floats_are = is_f.floats ∙ ap (λ (u : List Name). (with_float base i.label (map (symbol_in names) u)).floats) is ∙ f.floats_are ∙ ap seconds (sym same);
@@ -387,9 +387,9 @@ module _ (ss : List Statement) where
       let is_f = a_float (kind_of i) (formula_of names i.statement) i.at i.label (state names ns) k in
       let base = record (state names ns) { hyps = (state names ns).hyps ++ i.label ∷ [] } in
       let same : float_pairs names (i ∷ ns) ≡ float_pairs names ns =
-          ap (λ b. float_pairs names ns ++ cond b (map (λ v. (number names v, i.label)) (second (symbols_in i.statement))) []) k
-              ∙ ap (λ (u : List Name). float_pairs names ns ++ map (λ v. (number names v, i.label)) (second u)) is
-              ∙ append-nil (float_pairs names ns) in
+      ap (λ b. float_pairs names ns ++ cond b (map (λ v. (number names v, i.label)) (second (symbols_in i.statement))) []) k
+      ∙ ap (λ (u : List Name). float_pairs names ns ++ map (λ v. (number names v, i.label)) (second u)) is
+      ∙ append-nil (float_pairs names ns) in
       record {
         typed_are = is_f.typed ∙ ap (λ (u : List Name). (with_float base i.label (map (symbol_in names) u)).typed) is ∙ f.typed_are ∙ ap firsts (sym same);
         floats_are = is_f.floats ∙ ap (λ (u : List Name). (with_float base i.label (map (symbol_in names) u)).floats) is ∙ f.floats_are ∙ ap seconds (sym same);
@@ -401,29 +401,29 @@ module _ (ss : List Statement) where
       let mine : has (firsts (float_pairs names ns)) (number names v) ≡ false = new v (or_left (bytes_eq v v) false (name-self v)) in
       let absent : has (state names ns).typed (number names v) ≡ false = ap (λ l. has l (number names v)) f.typed_are ∙ mine in
       let pairs : float_pairs names (i ∷ ns) ≡ float_pairs names ns ++ (number names v, i.label) ∷ [] =
-          ap (λ b. float_pairs names ns ++ cond b (map (λ u. (number names u, i.label)) (second (symbols_in i.statement))) []) k
-              ∙ ap (λ (w : List Name). float_pairs names ns ++ map (λ u. (number names u, i.label)) (second w)) is in
+      ap (λ b. float_pairs names ns ++ cond b (map (λ u. (number names u, i.label)) (second (symbols_in i.statement))) []) k
+      ∙ ap (λ (w : List Name). float_pairs names ns ++ map (λ u. (number names u, i.label)) (second w)) is in
       record {
         typed_are =
             is_f.typed ∙ ap (λ (u : List Name). (with_float base i.label (map (symbol_in names) u)).typed) is ∙ typed-put absent
-                ∙ ap (λ l. l ++ number names v ∷ []) f.typed_are
-                ∙ sym (ap firsts pairs ∙ map-append (λ (p : ℕ × ℕ). p.0) (float_pairs names ns) ((number names v, i.label) ∷ []));
+            ∙ ap (λ l. l ++ number names v ∷ []) f.typed_are
+            ∙ sym (ap firsts pairs ∙ map-append (λ (p : ℕ × ℕ). p.0) (float_pairs names ns) ((number names v, i.label) ∷ []));
         floats_are =
             is_f.floats ∙ ap (λ (u : List Name). (with_float base i.label (map (symbol_in names) u)).floats) is ∙ floats-put absent
-                ∙ ap (λ l. l ++ i.label ∷ []) f.floats_are
-                ∙ sym (ap seconds pairs ∙ map-append (λ (p : ℕ × ℕ). p.1) (float_pairs names ns) ((number names v, i.label) ∷ []));
+            ∙ ap (λ l. l ++ i.label ∷ []) f.floats_are
+            ∙ sym (ap seconds pairs ∙ map-append (λ (p : ℕ × ℕ). p.1) (float_pairs names ns) ((number names v, i.label) ∷ []));
         unique = subst Unique (sym pairs) (unique-push (float_pairs names ns) (number names v) i.label mine f.unique);
       }
     where
       typed-put : has (state names ns).typed (number names v) ≡ false
           → (with_float (record (state names ns) { hyps = (state names ns).hyps ++ i.label ∷ [] }) i.label (map (symbol_in names) (a ∷ v ∷ us))).typed
-              ≡ (state names ns).typed ++ number names v ∷ []
+          ≡ (state names ns).typed ++ number names v ∷ []
       typed-put h = rw h refl
 
       floats-put : has (state names ns).typed (number names v) ≡ false
           → (with_float (record (state names ns) { hyps = (state names ns).hyps ++ i.label ∷ [] }) i.label
-              (map (symbol_in names) (a ∷ v ∷ us))).floats
-              ≡ (state names ns).floats ++ i.label ∷ []
+          (map (symbol_in names) (a ∷ v ∷ us))).floats
+          ≡ (state names ns).floats ++ i.label ∷ []
       floats-put h = rw h refl
 
   floats-next : (s : Statement) (e : List Statement) → IsNewFloat e s → FloatsAre (here e) → FloatsAre (item s e ∷ here e)

@@ -86,7 +86,7 @@ module _ (ss : List Statement) (l : Listed) (of : AreOf l ss) (sound : AreSound 
         scope = subst (λ b. ScopeIs names b (scope_upto l (suc k))) (sym next) (subst (λ (t : Scope). ScopeIs names (s ∷ e) t) (sym same) step);
         label =
             ap (λ (n : ℕ). label_after l n k) u.label ∙ ap (λ b. cond b (count e + 1) (count e)) (label-here k s h)
-                ∙ counted (count e) (labels_in s) (sound-at k s h).one_label ∙ ap count (sym next);
+            ∙ counted (count e) (labels_in s) (sound-at k s h).one_label ∙ ap count (sym next);
       }
 
   pub upto : (k : ℕ) → k ≤ length ss → UptoIs k

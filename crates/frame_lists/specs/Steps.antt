@@ -67,16 +67,29 @@ with_float s n (a ∷ v ∷ ss) = if has s.typed v.0 then s else record s { type
 
 abbrev pub with_open : Scope → Scope
 with_open s =
-    record s { blocks =
-        s.blocks
-            ++ (record { variables = length s.variables; floats = length s.floats; essentials = length s.essentials; hyps = length s.hyps;
-                distinct = length s.distinct })
-                ∷ [] }
+    record s {
+      blocks =
+          s.blocks
+          ++ (record {
+            variables = length s.variables;
+            floats = length s.floats;
+            essentials = length s.essentials;
+            hyps = length s.hyps;
+            distinct = length s.distinct;
+          })
+          ∷ [];
+    }
 
 abbrev pub cut_to : Scope → Block → Scope
 cut_to s b =
-    record s { variables = take b.variables s.variables; typed = take b.floats s.typed; floats = take b.floats s.floats;
-        essentials = take b.essentials s.essentials; hyps = take b.hyps s.hyps; distinct = take b.distinct s.distinct }
+    record s {
+      variables = take b.variables s.variables;
+      typed = take b.floats s.typed;
+      floats = take b.floats s.floats;
+      essentials = take b.essentials s.essentials;
+      hyps = take b.hyps s.hyps;
+      distinct = take b.distinct s.distinct;
+    }
 
 abbrev pub last_block : List Block → Option Block
 last_block bs = slice_get bs (length bs - 1)

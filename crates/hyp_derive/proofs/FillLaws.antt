@@ -152,10 +152,10 @@ module _ (itself : (t : Tree) → same_tree t t ≡ true) (earlier : List Tree) 
   made_all (w ∷ ws) made places = elim (cases_Bool (list_any (same_tree w) (earlier ++ made))) [
     | inl e ↦
         ap (λ m. (fold (step earlier) (state m (places ++ at earlier made w ∷ [])) ws).made) (tree_kept earlier made w e)
-            ∙ made_all ws made (places ++ at earlier made w ∷ []) ∙ sym (all_kept earlier made w ws e)
+        ∙ made_all ws made (places ++ at earlier made w ∷ []) ∙ sym (all_kept earlier made w ws e)
     | inr e ↦
         ap (λ m. (fold (step earlier) (state m (places ++ at earlier made w ∷ [])) ws).made) (tree_put earlier made w e)
-            ∙ made_all ws (made ++ w ∷ []) (places ++ at earlier made w ∷ []) ∙ sym (all_put earlier made w ws e)
+        ∙ made_all ws (made ++ w ∷ []) (places ++ at earlier made w ∷ []) ∙ sym (all_put earlier made w ws e)
   ]
 
   pub places_all : (ws made : List Tree) (places : List ℕ) → (fold (step earlier) (state made places) ws).places ≡ places ++ map (at earlier (all_made earlier made ws)) ws

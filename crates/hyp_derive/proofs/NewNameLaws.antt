@@ -129,7 +129,7 @@ pub item_more : (items : List SheetItem) (i : ℕ) (one : SheetItem) → i < len
 item_more items i one h is =
     ap names_of (take_more items i one h ∙ ap (λ (x : SheetItem). take i items ++ x ∷ []) (sym is))
     ∙ ap (map (λ (s : SheetStep). s.name)) (filter_map-append step_of_item (take i items) (one ∷ []))
-        ∙ map-append (λ (s : SheetStep). s.name) (filter_map step_of_item (take i items)) (filter_map step_of_item (one ∷ []))
+    ∙ map-append (λ (s : SheetStep). s.name) (filter_map step_of_item (take i items)) (filter_map step_of_item (one ∷ []))
     ∙ ap (λ names. names_of (take i items) ++ names) (one_item one)
 
 -- ---- several new names

@@ -81,8 +81,8 @@ module _ (pre : List ℕ) (y z : ℕ) (zs : List ℕ) (c : Climbs (pre ++ y ∷ 
       ]
   change_least (w ∷ ws) same (inr h) =
       absurd
-          (falls_last (reverse others) ws (reverse_falls others (climbs_rise others (climbs_without pre y (z ∷ zs) c)))
-              (tails_same y (reverse others) ws (subst (λ x. SameCounts (y ∷ reverse others) (x ∷ ws)) (sym h.0) same)) h.1)
+      (falls_last (reverse others) ws (reverse_falls others (climbs_rise others (climbs_without pre y (z ∷ zs) c)))
+      (tails_same y (reverse others) ws (subst (λ x. SameCounts (y ∷ reverse others) (x ∷ ws)) (sym h.0) same)) h.1)
 
   change_same : IsPermutation (y ∷ reverse others) (z ∷ next)
   change_same =

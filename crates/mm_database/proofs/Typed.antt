@@ -82,7 +82,7 @@ module _ (f : Frame) where
   rows_alike code [] = refl
   rows_alike code (s ∷ rest) =
       ap (λ items. built code items (map (λ (v : FrameVariable). v.code) (frame_variables f.hyps)))
-          (sym (map_with (model.item_of (typed_variables f.hyps)) (item_of (frame_variables f.hyps)) (same_item f.hyps) (s ∷ rest)))
+      (sym (map_with (model.item_of (typed_variables f.hyps)) (item_of (frame_variables f.hyps)) (same_item f.hyps) (s ∷ rest)))
       ∙ ap (built code (map (model.item_of (typed_variables f.hyps)) (s ∷ rest)))
       (sym (ap (map (λ (v : TypedVariable). v.code)) (typed_are f.hyps) ∙ map_map (λ (v : TypedVariable). v.code) typed_as (frame_variables f.hyps)))
 

@@ -81,7 +81,7 @@ begins_from o s rest formula is named short =
 module _ (kinds : Kinds) (text : List ℕ) (ok : database_fault text ≡ None) (own : FramesHaveOwnExpressions) (small : length (statements text) ≤ 2 ^ 32 - 1)
     (rows : List Production) (parsed : List (Option Parsed)) (rows_are : rows ≡ kept_rows kinds.provable (statements text))
     (are : AreParsed (kinds_in (symbols (statements text)) kinds) rows (constant_places (statements text))
-        (map (λ n. frame_of (statements text) (label n)) (range_with_len 0 (length (labels (statements text))))) parsed) where
+    (map (λ n. frame_of (statements text) (label n)) (range_with_len 0 (length (labels (statements text))))) parsed) where
   abbrev ss : List Statement
   ss = statements text
 

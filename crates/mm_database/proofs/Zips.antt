@@ -108,8 +108,8 @@ split_at [] k d l = absurd (omega arith)
 split_at (x ∷ xs) zero d l = refl
 split_at (x ∷ xs) (suc k) d l =
     ap (λ ys. x ∷ ys)
-        (split_at xs k d (omega (arith, l)) ∙ ap (λ n. take k xs ++ get_or xs k d ∷ drop n xs) (let same : k + 1 ≡ suc k = omega arith in same))
-        ∙ ap (λ n. x ∷ (take k xs ++ get_or xs k d ∷ drop n (x ∷ xs))) (let same : suc (suc k) ≡ suc k + 1 = omega arith in same)
+    (split_at xs k d (omega (arith, l)) ∙ ap (λ n. take k xs ++ get_or xs k d ∷ drop n xs) (let same : k + 1 ≡ suc k = omega arith in same))
+    ∙ ap (λ n. x ∷ (take k xs ++ get_or xs k d ∷ drop n (x ∷ xs))) (let same : suc (suc k) ≡ suc k + 1 = omega arith in same)
 
 pub essential_split : (hs : List Hyp) (k : ℕ) (d : Hyp) → k < length hs → (get_or hs k d).floating ≡ false → essentials hs ≡ essentials (take k hs) ++ get_or hs k d ∷ essentials (drop (k + 1) hs)
 essential_split hs k d l e =

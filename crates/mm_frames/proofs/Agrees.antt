@@ -97,11 +97,20 @@ means-below : (u : Statement) (e : List Statement) (r : Reader) (n : List ℕ) (
     → variables (u ∷ e) ≡ variables e → typed (u ∷ e) ≡ typed e → Means (u ∷ e) r n m → Means e r n m
 means-below u e r n meant.Nothing c v t h = (ap (λ l. contains l n) (sym c) ∙ h.0, ap (λ l. contains l n) (sym v) ∙ h.1)
 means-below u e r n (meant.Constant s) c v t h =
-    record { a_constant = ap (λ l. contains l n) (sym c) ∙ h.a_constant; no_variable = ap (λ l. contains l n) (sym v) ∙ h.no_variable;
-        known = h.known; name = h.name }
+    record {
+      a_constant = ap (λ l. contains l n) (sym c) ∙ h.a_constant;
+      no_variable = ap (λ l. contains l n) (sym v) ∙ h.no_variable;
+      known = h.known;
+      name = h.name;
+    }
 means-below u e r n (meant.Variable s) c v t h =
-    record { no_constant = ap (λ l. contains l n) (sym c) ∙ h.no_constant; a_variable = ap (λ l. contains l n) (sym v) ∙ h.a_variable;
-        known = h.known; name = h.name; typed = ap (λ l. contains l n) (sym t) ∙ h.typed }
+    record {
+      no_constant = ap (λ l. contains l n) (sym c) ∙ h.no_constant;
+      a_variable = ap (λ l. contains l n) (sym v) ∙ h.a_variable;
+      known = h.known;
+      name = h.name;
+      typed = ap (λ l. contains l n) (sym t) ∙ h.typed;
+    }
 
 -- a name means the same below a statement that adds no constant, no variable and no typecode
 means-in : (before : List Word) (r : Reader) (n : List ℕ) (k : List ℕ) → IsOther k → IsBegun (unended before) k → bytes_eq k (codes "$c") ≡ false
@@ -133,10 +142,10 @@ essential-agrees before at b bs after r meant.Nothing names (s ∷ fs) q o e es 
 essential-agrees before at b bs after r (meant.Constant s) names [] q o e es h = Codes.essential-first before at b bs after o true false e es h.a_constant h.no_variable
 essential-agrees before at b bs after r (meant.Constant s) names (t ∷ fs) q o e es h =
     Codes.essential-later before at b bs after (names t) (map names fs) o true false
-        (is_typed before (word at (b ∷ bs))) e es h.a_constant h.no_variable refl
+    (is_typed before (word at (b ∷ bs))) e es h.a_constant h.no_variable refl
 essential-agrees before at b bs after r (meant.Variable s) names [] q o e es h =
     Codes.essential-first before at b bs after o false true e es h.no_constant h.a_variable
-        ∙ ap (λ (f : List Sym). cond (is_empty f) (Some 16) (cond (list_any (nat_eq s.0) r.typed) None (Some 14))) q
+    ∙ ap (λ (f : List Sym). cond (is_empty f) (Some 16) (cond (list_any (nat_eq s.0) r.typed) None (Some 14))) q
 essential-agrees before at b bs after r (meant.Variable s) names (t ∷ fs) q o e es h =
     Codes.essential-later before at b bs after (names t) (map names fs) o false true (list_any (nat_eq s.0) r.typed) e es h.no_constant h.a_variable h.typed
     ∙ turn (list_any (nat_eq s.0) r.typed)
@@ -151,10 +160,10 @@ axiom-agrees before at b bs after r meant.Nothing names (s ∷ fs) q o e es h =
 axiom-agrees before at b bs after r (meant.Constant s) names [] q o e es h = Codes.axiom-first before at b bs after o true false e es h.a_constant h.no_variable
 axiom-agrees before at b bs after r (meant.Constant s) names (t ∷ fs) q o e es h =
     Codes.axiom-later before at b bs after (names t) (map names fs) o true false
-        (is_typed before (word at (b ∷ bs))) e es h.a_constant h.no_variable refl
+    (is_typed before (word at (b ∷ bs))) e es h.a_constant h.no_variable refl
 axiom-agrees before at b bs after r (meant.Variable s) names [] q o e es h =
     Codes.axiom-first before at b bs after o false true e es h.no_constant h.a_variable
-        ∙ ap (λ (f : List Sym). cond (is_empty f) (Some 16) (cond (list_any (nat_eq s.0) r.typed) None (Some 14))) q
+    ∙ ap (λ (f : List Sym). cond (is_empty f) (Some 16) (cond (list_any (nat_eq s.0) r.typed) None (Some 14))) q
 axiom-agrees before at b bs after r (meant.Variable s) names (t ∷ fs) q o e es h =
     Codes.axiom-later before at b bs after (names t) (map names fs) o false true (list_any (nat_eq s.0) r.typed) e es h.no_constant h.a_variable h.typed
     ∙ turn (list_any (nat_eq s.0) r.typed)
@@ -169,10 +178,10 @@ provable-agrees before at b bs after r meant.Nothing names (s ∷ fs) q o e es h
 provable-agrees before at b bs after r (meant.Constant s) names [] q o e es h = Codes.provable-first before at b bs after o true false e es h.a_constant h.no_variable
 provable-agrees before at b bs after r (meant.Constant s) names (t ∷ fs) q o e es h =
     Codes.provable-later before at b bs after (names t) (map names fs) o true false
-        (is_typed before (word at (b ∷ bs))) e es h.a_constant h.no_variable refl
+    (is_typed before (word at (b ∷ bs))) e es h.a_constant h.no_variable refl
 provable-agrees before at b bs after r (meant.Variable s) names [] q o e es h =
     Codes.provable-first before at b bs after o false true e es h.no_constant h.a_variable
-        ∙ ap (λ (f : List Sym). cond (is_empty f) (Some 16) (cond (list_any (nat_eq s.0) r.typed) None (Some 14))) q
+    ∙ ap (λ (f : List Sym). cond (is_empty f) (Some 16) (cond (list_any (nat_eq s.0) r.typed) None (Some 14))) q
 provable-agrees before at b bs after r (meant.Variable s) names (t ∷ fs) q o e es h =
     Codes.provable-later before at b bs after (names t) (map names fs) o false true (list_any (nat_eq s.0) r.typed) e es h.no_constant h.a_variable h.typed
     ∙ turn (list_any (nat_eq s.0) r.typed)
@@ -229,16 +238,16 @@ constant-agrees before at b bs after r s o e es =
     let n = b ∷ bs in
     let u = unended before in
     let all : constants (u ∷ ended before) ≡ formula_names r ++ constants (ended before) =
-        constants-cons u (ended before) ∙ ap (λ l. l ++ constants (ended before)) (added-all (codes "$c") (formula_names r) u refl o) in
+    constants-cons u (ended before) ∙ ap (λ l. l ++ constants (ended before)) (added-all (codes "$c") (formula_names r) u refl o) in
     let ever : variables_ever (u ∷ ended before) ≡ variables_ever (ended before) =
-        variables_ever-cons u (ended before)
-            ∙ ap (λ l. l ++ variables_ever (ended before)) (added-none (codes "$v") (codes "$c") symbols_in u o.begun refl) in
+    variables_ever-cons u (ended before)
+    ∙ ap (λ l. l ++ variables_ever (ended before)) (added-none (codes "$v") (codes "$c") symbols_in u o.begun refl) in
     let known : list_any (bytes_eq n) r.symbols ≡ ((contains (formula_names r) n || contains (constants (ended before)) n) || contains (variables_ever (ended before)) n) =
     s.are_declared n ∙ ap (λ l. contains l n || contains (variables_ever (u ∷ ended before)) n) all
-        ∙ ap (λ t. t || contains (variables_ever (u ∷ ended before)) n) (contains-both (formula_names r) (constants (ended before)) n)
-        ∙ ap (λ l. (contains (formula_names r) n || contains (constants (ended before)) n) || contains l n) ever in
+    ∙ ap (λ t. t || contains (variables_ever (u ∷ ended before)) n) (contains-both (formula_names r) (constants (ended before)) n)
+    ∙ ap (λ l. (contains (formula_names r) n || contains (constants (ended before)) n) || contains l n) ever in
     Codes.constant-code before at b bs after (formula_names r) o (contains (constants (ended before)) n) (contains (variables_ever (ended before)) n)
-        (contains (formula_names r) n) e es refl refl refl
+    (contains (formula_names r) n) e es refl refl refl
     ∙ ap (λ (t : Bool). cond t (code 12) None) (either_order (contains (constants (ended before)) n) (contains (variables_ever (ended before)) n) (contains (formula_names r) n) ∙ sym known)
 
 one_fault : (c v st : Bool) → cond (c || (v || st)) (code 12) None ≡ cond c (code 12) (cond (st || v) (code 12) None)
@@ -269,24 +278,24 @@ variable-meets before n r s o p h =
     go u e same all None h =
         let absent = none-absent (bytes_eq n) r.symbols h in
         let c : contains (constants (ended before)) n ≡ false =
-            ap (λ l. contains l n) (sym same)
-                ∙ (or_parts (contains (constants (unended before ∷ ended before)) n) (contains (variables_ever (unended before ∷ ended before)) n)
-                    (sym (s.are_declared n) ∙ absent)).0 in
+        ap (λ l. contains l n) (sym same)
+        ∙ (or_parts (contains (constants (unended before ∷ ended before)) n) (contains (variables_ever (unended before ∷ ended before)) n)
+        (sym (s.are_declared n) ∙ absent)).0 in
         let v : (contains (formula_names r) n || contains (variables (ended before)) n) ≡ false =
-            sym (contains-both (formula_names r) (variables (ended before)) n) ∙ ap (λ l. contains l n) (sym all)
-                ∙ variable_none (unended before ∷ ended before) r.symbols r.constants r.variables r.typed r.labels (variable_marks r.scopes)
-                    (typed_marks r.scopes) n s absent in
+        sym (contains-both (formula_names r) (variables (ended before)) n) ∙ ap (λ l. contains l n) (sym all)
+        ∙ variable_none (unended before ∷ ended before) r.symbols r.constants r.variables r.typed r.labels (variable_marks r.scopes)
+        (typed_marks r.scopes) n s absent in
         no_fault (contains (constants (ended before)) n) (contains (variables (ended before)) n) (contains (formula_names r) n) c v
     go u e same all (Some i) h =
         let f = found-is r.symbols n i h in
         let c : contains (constants (ended before)) n ≡ is_flagged r.constants i =
-            ap (λ l. contains l n) (sym same) ∙ ap (λ m. contains (constants (unended before ∷ ended before)) m) (sym f.name)
-                ∙ sym (s.are_constants i f.within) in
+        ap (λ l. contains l n) (sym same) ∙ ap (λ m. contains (constants (unended before ∷ ended before)) m) (sym f.name)
+        ∙ sym (s.are_constants i f.within) in
         let v : (contains (formula_names r) n || contains (variables (ended before)) n) ≡ list_any (nat_eq i) r.variables =
-            sym (contains-both (formula_names r) (variables (ended before)) n) ∙ ap (λ l. contains l n) (sym all)
-                ∙ ap (λ m. contains (variables (unended before ∷ ended before)) m) (sym f.name)
-                ∙ variable_is (unended before ∷ ended before) r.symbols r.constants r.variables r.typed r.labels (variable_marks r.scopes)
-                    (typed_marks r.scopes) i s f.within in
+        sym (contains-both (formula_names r) (variables (ended before)) n) ∙ ap (λ l. contains l n) (sym all)
+        ∙ ap (λ m. contains (variables (unended before ∷ ended before)) m) (sym f.name)
+        ∙ variable_is (unended before ∷ ended before) r.symbols r.constants r.variables r.typed r.labels (variable_marks r.scopes)
+        (typed_marks r.scopes) i s f.within in
         one_fault (contains (constants (ended before)) n) (contains (variables (ended before)) n) (contains (formula_names r) n)
         ∙ ap (λ (t : Bool). cond t (code 12) (cond (contains (formula_names r) n || contains (variables (ended before)) n) (code 12) None)) c
         ∙ ap (λ (t : Bool). cond (is_flagged r.constants i) (code 12) (cond t (code 12) None)) v
@@ -316,14 +325,14 @@ symbol-agrees before at b bs after r kind.Constants s w o e es = constant-agrees
 symbol-agrees before at b bs after r kind.Variables s w o e es = variable-agrees before at b bs after r s o e es
 symbol-agrees before at b bs after r kind.Distinct s w o e es =
     distinct-agrees before at b bs after r (meaning_of r (b ∷ bs)) s w o e es
-        (means-in before r (b ∷ bs) (codes "$d") (other-keyword kind.Distinct) o.begun refl refl
-            (added-none (codes "$f") (codes "$d") types (unended before) o.begun refl) s)
+    (means-in before r (b ∷ bs) (codes "$d") (other-keyword kind.Distinct) o.begun refl refl
+    (added-none (codes "$f") (codes "$d") types (unended before) o.begun refl) s)
 symbol-agrees before at b bs after r kind.Floating s w o e es =
     let are : symbols_in (unended before) ≡ formula_names r = symbols-of (unended before) (codes "$f") o.begun ∙ o.names_are in
     let begun : has_keyword (codes "$f") (unended before) ≡ true = keyword-is (unended before) (codes "$f") (codes "$f") o.begun in
     let none : nat_lt 1 (length r.formula) ≡ false → added (codes "$f") types (unended before) ≡ [] =
-        λ h. ap (λ (t : Bool). cond t (types (unended before)) []) begun ∙ ap (λ l. second l) are
-            ∙ second-only (λ (x : Sym). name_of r.symbols x.0) r.formula h in
+    λ h. ap (λ (t : Bool). cond t (types (unended before)) []) begun ∙ ap (λ l. second l) are
+    ∙ second-only (λ (x : Sym). name_of r.symbols x.0) r.formula h in
     floating-agrees before at b bs after r (meaning_of r (b ∷ bs)) (λ (x : Sym). name_of r.symbols x.0) r.formula refl o e es
     (λ h. means-in before r (b ∷ bs) (codes "$f") (other-keyword kind.Floating) o.begun refl refl (none h) s)
 symbol-agrees before at b bs after r kind.Essential s w o e es =
@@ -347,7 +356,7 @@ pub word-agrees : (before : List Word) (at b : ℕ) (bs : List ℕ) (after : Lis
     → Codes.code_at before (word at (b ∷ bs)) after ≡ word_code_at s r (b ∷ bs) next
 word-agrees before at b bs after r next stage.Between x e es st w h =
     Codes.label-code before at b bs after (list_any (bytes_eq (b ∷ bs)) r.labels) (is_extra next) (list_all is_label_byte (b ∷ bs)) h.0 e es
-        (taken-is before (b ∷ bs) r.labels h.0 st.are_labels) (sym x) refl
+    (taken-is before (b ∷ bs) r.labels h.0 st.are_labels) (sym x) refl
 word-agrees before at b bs after r next stage.Labelled x e es st w h = absurd (clash (sym (not_labelled) ∙ h.0.next))
   where
     clash : true ≡ false → ⊥

@@ -94,7 +94,7 @@ entries-are names (x ∷ xs) (s ∷ ss) one k h =
 
 one-keyword : (xs : List (List ℕ)) (w : Word)
     → cond ((bytes_eq w.bytes (codes "$c") || (bytes_eq w.bytes (codes "$v") || false)) || false) xs []
-        ≡ cond (bytes_eq w.bytes (codes "$c") || false) xs [] ++ cond (bytes_eq w.bytes (codes "$v") || false) xs []
+    ≡ cond (bytes_eq w.bytes (codes "$c") || false) xs [] ++ cond (bytes_eq w.bytes (codes "$v") || false) xs []
 one-keyword xs w =
     elim (cases_Bool (bytes_eq w.bytes (codes "$c"))) [
       | inl e ↦
@@ -109,7 +109,7 @@ declares-are s = go (body s)
   where
     go : (b : List Word)
         → cond (list_any (is_one_of (codes "$c" ∷ codes "$v" ∷ [])) (take 1 b)) (symbols_in s) []
-            ≡ cond (list_any (is (codes "$c")) (take 1 b)) (symbols_in s) [] ++ cond (list_any (is (codes "$v")) (take 1 b)) (symbols_in s) []
+        ≡ cond (list_any (is (codes "$c")) (take 1 b)) (symbols_in s) [] ++ cond (list_any (is (codes "$v")) (take 1 b)) (symbols_in s) []
     go [] = refl
     go (w ∷ b) = one-keyword (symbols_in s) w
 
@@ -117,9 +117,9 @@ pub adds-are : (ss : List Statement) → flat_map symbols_in (filter (has_one_of
 adds-are [] = refl
 adds-are (s ∷ ss) =
     elim (has_one_of (codes "$c" ∷ codes "$v" ∷ []) s) as
-        (λ b. flat_map symbols_in
-            (cond b (s ∷ filter (has_one_of (codes "$c" ∷ codes "$v" ∷ [])) ss) (filter (has_one_of (codes "$c" ∷ codes "$v" ∷ [])) ss))
-            ≡ cond b (symbols_in s) [] ++ flat_map adds ss) [ true ↦ ap (λ l. symbols_in s ++ l) (adds-are ss) | false ↦ adds-are ss ]
+    (λ b. flat_map symbols_in
+    (cond b (s ∷ filter (has_one_of (codes "$c" ∷ codes "$v" ∷ [])) ss) (filter (has_one_of (codes "$c" ∷ codes "$v" ∷ [])) ss))
+    ≡ cond b (symbols_in s) [] ++ flat_map adds ss) [ true ↦ ap (λ l. symbols_in s ++ l) (adds-are ss) | false ↦ adds-are ss ]
     ∙ ap (λ l. l ++ flat_map adds ss) (declares-are s)
 
 pub labels-are : (ss : List Statement) → flat_map label_names ss ≡ labels ss
@@ -146,15 +146,15 @@ contents-are text i r h g none =
     let u : unended g.before ≡ [] = between-at-end (unended g.before) r r.stage reads.stage none in
     let ss : reverse e ≡ statements text = ap (λ ws. reverse (ended ws)) all in
     let last : flat_map adds (reverse (unended g.before ∷ e)) ≡ flat_map adds (reverse e) =
-        ap (λ (v : Statement). flat_map adds (reverse (v ∷ e))) u ∙ flat-last adds [] e ∙ append-nil (flat_map adds (reverse e)) in
+    ap (λ (v : Statement). flat_map adds (reverse (v ∷ e))) u ∙ flat-last adds [] e ∙ append-nil (flat_map adds (reverse e)) in
     let names : r.symbols ≡ symbols (statements text) = reads.state.are_symbols ∙ ap (λ l. without_repeats [] l) (last ∙ sym (adds-are (reverse e))) ∙ ap symbols ss in
     let label_last : flat_map label_names (reverse (unended g.before ∷ e)) ≡ flat_map label_names (reverse e) =
-        ap (λ (v : Statement). flat_map label_names (reverse (v ∷ e))) u ∙ flat-last label_names [] e
-            ∙ append-nil (flat_map label_names (reverse e)) in
+    ap (λ (v : Statement). flat_map label_names (reverse (v ∷ e))) u ∙ flat-last label_names [] e
+    ∙ append-nil (flat_map label_names (reverse e)) in
     let labels_ : r.labels ≡ labels (statements text) = reads.state.are_ordered ∙ label_last ∙ labels-are (reverse e) ∙ ap labels ss in
     let places : r.positions ≡ positions (statements text) =
-        g.more.positions_are ∙ ap (λ (v : Statement). positions_from 0 (reverse (v ∷ e))) u ∙ positions-empty e ∙ ap (λ xs. positions_from 0 xs) ss in
+    g.more.positions_are ∙ ap (λ (v : Statement). positions_from 0 (reverse (v ∷ e))) u ∙ positions-empty e ∙ ap (λ xs. positions_from 0 xs) ss in
     let entries_ : r.entries ≡ map (entry_in (symbols (statements text))) (statements text) =
-        entries-are r.symbols r.entries (reverse e) reads.state.one g.more.known g.more.entries_are ∙ ap (λ xs. map (entry_in r.symbols) xs) ss
-            ∙ ap (λ ns. map (entry_in ns) (statements text)) names in
+    entries-are r.symbols r.entries (reverse e) reads.state.one g.more.known g.more.entries_are ∙ ap (λ xs. map (entry_in r.symbols) xs) ss
+    ∙ ap (λ ns. map (entry_in ns) (statements text)) names in
     record { symbols_are = names; labels_are = labels_; positions_are = places; entries_are = entries_ }

@@ -142,8 +142,14 @@ floating-begins u e after r at stage.Labelled st h f l none =
     let i : is_word x ≡ true = h.0.is_name in
     subst (λ (y : Statement). IsReaderAt (y ++ w ∷ []) e after (with_stage r kind.Floating)) (sym h.0.is)
     (labelled-begins x (x ∷ w ∷ []) e after r kind.Floating
-    (record { plain = record { no_open = rw i refl; no_close = rw i refl }; plain_after = record { no_open = rw i refl; no_close = rw i refl };
-        new_constants = rw i refl; more_variables = rw i refl; more_types = rw i refl; more_labels = rw i refl })
+    (record {
+      plain = record { no_open = rw i refl; no_close = rw i refl };
+      plain_after = record { no_open = rw i refl; no_close = rw i refl };
+      new_constants = rw i refl;
+      more_variables = rw i refl;
+      more_types = rw i refl;
+      more_labels = rw i refl;
+    })
     (record { begun = record { at = at; rest = []; body_is = rw i refl; not_empty = refl; not_label = refl }; no_proof = no-equals x i; goes_on = refl; names_are = refl })
     h.1 (subst (λ (y : Statement). StateIs (y ∷ e) r) h.0.is st) f l)
 floating-begins u e after r at stage.Between st h f l none = absurd (some-none 18 none)
@@ -159,8 +165,14 @@ essential-begins u e after r at stage.Labelled st h f l none =
     let i : is_word x ≡ true = h.0.is_name in
     subst (λ (y : Statement). IsReaderAt (y ++ w ∷ []) e after (with_stage r kind.Essential)) (sym h.0.is)
     (labelled-begins x (x ∷ w ∷ []) e after r kind.Essential
-    (record { plain = record { no_open = rw i refl; no_close = rw i refl }; plain_after = record { no_open = rw i refl; no_close = rw i refl };
-        new_constants = rw i refl; more_variables = rw i refl; more_types = rw i refl; more_labels = rw i refl })
+    (record {
+      plain = record { no_open = rw i refl; no_close = rw i refl };
+      plain_after = record { no_open = rw i refl; no_close = rw i refl };
+      new_constants = rw i refl;
+      more_variables = rw i refl;
+      more_types = rw i refl;
+      more_labels = rw i refl;
+    })
     (record { begun = record { at = at; rest = []; body_is = rw i refl; not_empty = refl; not_label = refl }; no_proof = no-equals x i; goes_on = refl; names_are = refl })
     h.1 (subst (λ (y : Statement). StateIs (y ∷ e) r) h.0.is st) f l)
 essential-begins u e after r at stage.Between st h f l none = absurd (some-none 18 none)
@@ -176,8 +188,14 @@ axiom-begins u e after r at stage.Labelled st h f l none =
     let i : is_word x ≡ true = h.0.is_name in
     subst (λ (y : Statement). IsReaderAt (y ++ w ∷ []) e after (with_stage r kind.Axiom)) (sym h.0.is)
     (labelled-begins x (x ∷ w ∷ []) e after r kind.Axiom
-    (record { plain = record { no_open = rw i refl; no_close = rw i refl }; plain_after = record { no_open = rw i refl; no_close = rw i refl };
-        new_constants = rw i refl; more_variables = rw i refl; more_types = rw i refl; more_labels = rw i refl })
+    (record {
+      plain = record { no_open = rw i refl; no_close = rw i refl };
+      plain_after = record { no_open = rw i refl; no_close = rw i refl };
+      new_constants = rw i refl;
+      more_variables = rw i refl;
+      more_types = rw i refl;
+      more_labels = rw i refl;
+    })
     (record { begun = record { at = at; rest = []; body_is = rw i refl; not_empty = refl; not_label = refl }; no_proof = no-equals x i; goes_on = refl; names_are = refl })
     h.1 (subst (λ (y : Statement). StateIs (y ∷ e) r) h.0.is st) f l)
 axiom-begins u e after r at stage.Between st h f l none = absurd (some-none 18 none)
@@ -193,8 +211,14 @@ provable-begins u e after r at stage.Labelled st h f l none =
     let i : is_word x ≡ true = h.0.is_name in
     subst (λ (y : Statement). IsReaderAt (y ++ w ∷ []) e after (with_stage r kind.Provable)) (sym h.0.is)
     (labelled-begins x (x ∷ w ∷ []) e after r kind.Provable
-    (record { plain = record { no_open = rw i refl; no_close = rw i refl }; plain_after = record { no_open = rw i refl; no_close = rw i refl };
-        new_constants = rw i refl; more_variables = rw i refl; more_types = rw i refl; more_labels = rw i refl })
+    (record {
+      plain = record { no_open = rw i refl; no_close = rw i refl };
+      plain_after = record { no_open = rw i refl; no_close = rw i refl };
+      new_constants = rw i refl;
+      more_variables = rw i refl;
+      more_types = rw i refl;
+      more_labels = rw i refl;
+    })
     (record { begun = record { at = at; rest = []; body_is = rw i refl; not_empty = refl; not_label = refl }; no_proof = no-equals x i; goes_on = refl; names_are = refl })
     h.1 (subst (λ (y : Statement). StateIs (y ∷ e) r) h.0.is st) f l)
 provable-begins u e after r at stage.Between st h f l none = absurd (some-none 18 none)
@@ -210,7 +234,7 @@ proof-starts u e after r at from st o f l =
     record {
       state =
           state-alike (u ∷ e) ((u ++ w ∷ []) ∷ e) r.symbols r.constants r.variables r.typed r.labels (variable_marks r.scopes) (typed_marks r.scopes)
-              (alike-grows u (u ++ w ∷ []) e (grows-same u (codes "$p") w (other-keyword kind.Provable) o.begun (λ s. refl))) st;
+          (alike-grows u (u ++ w ∷ []) e (grows-same u (codes "$p") w (other-keyword kind.Provable) o.begun (λ s. refl))) st;
       stage = proof-begins u at (formula_names r) o;
       formula_known = f;
       listed_known = l;
@@ -236,12 +260,12 @@ ends : (u : Statement) (e : List Statement) (after : List Word) (r : Reader) (at
 ends u e after r at start k p o st =
     let w : Word = word at (codes "$.") in
     let grown : StateIs ((u ++ w ∷ []) ∷ e) r =
-        state-alike (u ∷ e) ((u ++ w ∷ []) ∷ e) r.symbols r.constants r.variables r.typed r.labels (variable_marks r.scopes) (typed_marks r.scopes)
-            (alike-grows u (u ++ w ∷ []) e (grows-same u k w p o (λ s. refl))) st in
+    state-alike (u ∷ e) ((u ++ w ∷ []) ∷ e) r.symbols r.constants r.variables r.typed r.labels (variable_marks r.scopes) (typed_marks r.scopes)
+    (alike-grows u (u ++ w ∷ []) e (grows-same u k w p o (λ s. refl))) st in
     record {
       state =
           state-alike ((u ++ w ∷ []) ∷ e) ([] ∷ (u ++ w ∷ []) ∷ e) r.symbols r.constants r.variables r.typed r.labels (variable_marks r.scopes)
-              (typed_marks r.scopes) (alike-empty ((u ++ w ∷ []) ∷ e)) grown;
+          (typed_marks r.scopes) (alike-empty ((u ++ w ∷ []) ∷ e)) grown;
       stage = (refl, record { formula = refl; listed = refl });
       formula_known = tt;
       listed_known = tt;
@@ -268,7 +292,7 @@ open-goes u e after r at stage.Between i st h f l none =
     (record {
       state =
           state-alike ((w ∷ []) ∷ e) ([] ∷ (w ∷ []) ∷ e) r.symbols r.constants r.variables r.typed r.labels
-              (length r.variables ∷ variable_marks r.scopes) (length r.typed ∷ typed_marks r.scopes) (alike-empty ((w ∷ []) ∷ e)) opened;
+          (length r.variables ∷ variable_marks r.scopes) (length r.typed ∷ typed_marks r.scopes) (alike-empty ((w ∷ []) ∷ e)) opened;
       stage = subst (λ (s : Stage). StageIs [] after (with_open r) s) i (refl, record { formula = h.1.formula; listed = h.1.listed });
       formula_known = f;
       listed_known = l;
@@ -287,16 +311,16 @@ close-goes u e after r at stage.Between (c ∷ cs) i j st h f l none =
     let first : StateIs ([] ∷ e) r = subst (λ (x : Statement). StateIs (x ∷ e) r) h.0 st in
     let before : StateIs e r = state-alike ([] ∷ e) e r.symbols r.constants r.variables r.typed r.labels (variable_marks r.scopes) (typed_marks r.scopes) (alike-drop e) first in
     let marked : IsState e r.symbols r.constants r.variables r.typed r.labels (c.variables ∷ variable_marks cs) (c.typed ∷ typed_marks cs) =
-        subst (λ (xs : List Scope). IsState e r.symbols r.constants r.variables r.typed r.labels (variable_marks xs) (typed_marks xs))
-            (sym j) before in
+    subst (λ (xs : List Scope). IsState e r.symbols r.constants r.variables r.typed r.labels (variable_marks xs) (typed_marks xs))
+    (sym j) before in
     let closed : IsState ((w ∷ []) ∷ e) r.symbols r.constants (take c.variables r.variables) (take c.typed r.typed) r.labels (variable_marks cs)
-        (typed_marks cs) =
-        closes at e r.symbols r.constants r.variables r.typed r.labels c.variables c.typed (variable_marks cs) (typed_marks cs) marked in
+    (typed_marks cs) =
+    closes at e r.symbols r.constants r.variables r.typed r.labels c.variables c.typed (variable_marks cs) (typed_marks cs) marked in
     subst (λ (x : Statement). IsReaderAt [] ((x ++ w ∷ []) ∷ e) after (with_close_at (c ∷ cs) r)) (sym h.0)
     (record {
       state =
           state-alike ((w ∷ []) ∷ e) ([] ∷ (w ∷ []) ∷ e) r.symbols r.constants (take c.variables r.variables) (take c.typed r.typed) r.labels
-              (variable_marks cs) (typed_marks cs) (alike-empty ((w ∷ []) ∷ e)) closed;
+          (variable_marks cs) (typed_marks cs) (alike-empty ((w ∷ []) ∷ e)) closed;
       stage = subst (λ (s : Stage). StageIs [] after (with_close_at (c ∷ cs) r) s) i (refl, record { formula = h.1.formula; listed = h.1.listed });
       formula_known = f;
       listed_known = l;
@@ -326,55 +350,55 @@ goes before after r w token.Word next start end_ o is x none =
     let st : StageIs (unended before) (word w.start n ∷ after) r r.stage = subst (λ (m : List ℕ). StageIs (unended before) (word w.start m ∷ after) r r.stage) is.eq o.stage in
     let none_n : word_code_at r.stage r n next ≡ None = ap (λ (m : List ℕ). word_code_at r.stage r m next) (sym is.eq) ∙ none in
     let there =
-        goes-on before after w.start is.first is.rest (with_word_at r.stage r n) is.no_dollar
-            (word-goes (unended before)
-                (ended
-                    before) after r w.start is.first is.rest next r.stage refl is.no_dollar is.none_behind x o.state st o.formula_known o.listed_known none_n) in
+    goes-on before after w.start is.first is.rest (with_word_at r.stage r n) is.no_dollar
+    (word-goes (unended before)
+    (ended
+    before) after r w.start is.first is.rest next r.stage refl is.no_dollar is.none_behind x o.state st o.formula_known o.listed_known none_n) in
     subst (λ (m : List ℕ). IsReader (word w.start m ∷ before) after (with_word_at r.stage r m)) (sym is.eq) there
 goes before after r w token.Constants next start end_ o is x none =
     let h : StageIs (unended before) (word w.start (codes "$c") ∷ after) r r.stage = subst (λ (n : List ℕ). StageIs (unended before) (word w.start n ∷ after) r r.stage) is o.stage in
     as-bytes before after w.start w.bytes (codes "$c") (with_token r token.Constants w.bytes start end_) is
-        (constants-begins (unended before) (ended before) after r w.start r.stage o.state h o.formula_known o.listed_known
-            (none-below (not (is_empty r.scopes)) 11 (between_code_at r.stage r) none).1)
+    (constants-begins (unended before) (ended before) after r w.start r.stage o.state h o.formula_known o.listed_known
+    (none-below (not (is_empty r.scopes)) 11 (between_code_at r.stage r) none).1)
 goes before after r w token.Variables next start end_ o is x none =
     let h : StageIs (unended before) (word w.start (codes "$v") ∷ after) r r.stage = subst (λ (n : List ℕ). StageIs (unended before) (word w.start n ∷ after) r r.stage) is o.stage in
     as-bytes before after w.start w.bytes (codes "$v") (with_token r token.Variables w.bytes start end_) is
-        (variables-begins (unended before) (ended before) after r w.start r.stage o.state h o.formula_known o.listed_known none)
+    (variables-begins (unended before) (ended before) after r w.start r.stage o.state h o.formula_known o.listed_known none)
 goes before after r w token.Distinct next start end_ o is x none =
     let h : StageIs (unended before) (word w.start (codes "$d") ∷ after) r r.stage = subst (λ (n : List ℕ). StageIs (unended before) (word w.start n ∷ after) r r.stage) is o.stage in
     as-bytes before after w.start w.bytes (codes "$d") (with_token r token.Distinct w.bytes start end_) is
-        (distinct-begins (unended before) (ended before) after r w.start r.stage o.state h o.formula_known o.listed_known none)
+    (distinct-begins (unended before) (ended before) after r w.start r.stage o.state h o.formula_known o.listed_known none)
 goes before after r w token.Floating next start end_ o is x none =
     let h : StageIs (unended before) (word w.start (codes "$f") ∷ after) r r.stage = subst (λ (n : List ℕ). StageIs (unended before) (word w.start n ∷ after) r r.stage) is o.stage in
     as-bytes before after w.start w.bytes (codes "$f") (with_token r token.Floating w.bytes start end_) is
-        (floating-begins (unended before) (ended before) after r w.start r.stage o.state h o.formula_known o.listed_known none)
+    (floating-begins (unended before) (ended before) after r w.start r.stage o.state h o.formula_known o.listed_known none)
 goes before after r w token.Essential next start end_ o is x none =
     let h : StageIs (unended before) (word w.start (codes "$e") ∷ after) r r.stage = subst (λ (n : List ℕ). StageIs (unended before) (word w.start n ∷ after) r r.stage) is o.stage in
     as-bytes before after w.start w.bytes (codes "$e") (with_token r token.Essential w.bytes start end_) is
-        (essential-begins (unended before) (ended before) after r w.start r.stage o.state h o.formula_known o.listed_known none)
+    (essential-begins (unended before) (ended before) after r w.start r.stage o.state h o.formula_known o.listed_known none)
 goes before after r w token.Axiom next start end_ o is x none =
     let h : StageIs (unended before) (word w.start (codes "$a") ∷ after) r r.stage = subst (λ (n : List ℕ). StageIs (unended before) (word w.start n ∷ after) r r.stage) is o.stage in
     as-bytes before after w.start w.bytes (codes "$a") (with_token r token.Axiom w.bytes start end_) is
-        (axiom-begins (unended before) (ended before) after r w.start r.stage o.state h o.formula_known o.listed_known none)
+    (axiom-begins (unended before) (ended before) after r w.start r.stage o.state h o.formula_known o.listed_known none)
 goes before after r w token.Provable next start end_ o is x none =
     let h : StageIs (unended before) (word w.start (codes "$p") ∷ after) r r.stage = subst (λ (n : List ℕ). StageIs (unended before) (word w.start n ∷ after) r r.stage) is o.stage in
     as-bytes before after w.start w.bytes (codes "$p") (with_token r token.Provable w.bytes start end_) is
-        (provable-begins (unended before) (ended before) after r w.start r.stage o.state h o.formula_known o.listed_known none)
+    (provable-begins (unended before) (ended before) after r w.start r.stage o.state h o.formula_known o.listed_known none)
 goes before after r w token.Equals next start end_ o is x none =
     let h : StageIs (unended before) (word w.start (codes "$=") ∷ after) r r.stage = subst (λ (n : List ℕ). StageIs (unended before) (word w.start n ∷ after) r r.stage) is o.stage in
     as-bytes before after w.start w.bytes (codes "$=") (with_token r token.Equals w.bytes start end_) is
-        (equals-goes (unended before) (ended before) after r w.start end_ r.stage o.state h o.formula_known o.listed_known none)
+    (equals-goes (unended before) (ended before) after r w.start end_ r.stage o.state h o.formula_known o.listed_known none)
 goes before after r w token.End next start end_ o is x none =
     let h : StageIs (unended before) (word w.start (codes "$.") ∷ after) r r.stage = subst (λ (n : List ℕ). StageIs (unended before) (word w.start n ∷ after) r r.stage) is o.stage in
     as-bytes before after w.start w.bytes (codes "$.") (with_token r token.End w.bytes start end_) is (end-goes (unended before) (ended before) after r w.start start r.stage o.state h none)
 goes before after r w token.OpenBlock next start end_ o is x none =
     let h : StageIs (unended before) (word w.start (codes "${") ∷ after) r r.stage = subst (λ (n : List ℕ). StageIs (unended before) (word w.start n ∷ after) r r.stage) is o.stage in
     as-bytes before after w.start w.bytes (codes "${") (with_token r token.OpenBlock w.bytes start end_) is
-        (open-goes (unended before) (ended before) after r w.start r.stage refl o.state h o.formula_known o.listed_known none)
+    (open-goes (unended before) (ended before) after r w.start r.stage refl o.state h o.formula_known o.listed_known none)
 goes before after r w token.CloseBlock next start end_ o is x none =
     let h : StageIs (unended before) (word w.start (codes "$}") ∷ after) r r.stage = subst (λ (n : List ℕ). StageIs (unended before) (word w.start n ∷ after) r r.stage) is o.stage in
     as-bytes before after w.start w.bytes (codes "$}") (with_token r token.CloseBlock w.bytes start end_) is
-        (close-goes (unended before) (ended before) after r w.start r.stage r.scopes refl refl o.state h o.formula_known o.listed_known none)
+    (close-goes (unended before) (ended before) after r w.start r.stage r.scopes refl refl o.state h o.formula_known o.listed_known none)
 goes before after r w token.OpenInclude next start end_ o is x none = absurd (some-none 10 none)
 goes before after r w token.CloseInclude next start end_ o is x none = absurd (some-none 29 none)
 goes before after r w token.OpenComment next start end_ o is x none = absurd is

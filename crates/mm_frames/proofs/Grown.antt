@@ -28,7 +28,7 @@ grows-same u k w p o h =
     let same = symbols-same u k w o h in
     let kept : (j : List ℕ) (f : List (List ℕ) → List (List ℕ)) → added j (λ s. f (symbols_in s)) (u ++ w ∷ []) ≡ added j (λ s. f (symbols_in s)) u ++ [] =
     λ j f. ap (λ (b : Bool). cond b (f (symbols_in (u ++ w ∷ []))) []) (keyword-same u k j w o) ∙ ap (λ l. cond (has_keyword j u) (f l) []) same
-        ∙ sym (append-nil (added j (λ s. f (symbols_in s)) u)) in
+    ∙ sym (append-nil (added j (λ s. f (symbols_in s)) u)) in
     record {
       plain = plain-begun u k p o;
       plain_after = plain-begun (u ++ w ∷ []) k p (begun-more u k w o);
@@ -57,7 +57,7 @@ grows-word u k w names p o h =
     let are : symbols_in u ≡ names = symbols-of u k o.begun ∙ o.names_are in
     let more : symbols_in (u ++ w ∷ []) ≡ names ++ n ∷ [] = symbols-more u k w o.begun o.goes_on h ∙ ap (λ l. l ++ n ∷ []) are in
     let kept : (j : List ℕ) (f : List (List ℕ) → List (List ℕ)) (xs : List (List ℕ)) → f (names ++ n ∷ []) ≡ f names ++ xs
-        → added j (λ s. f (symbols_in s)) (u ++ w ∷ []) ≡ added j (λ s. f (symbols_in s)) u ++ cond (bytes_eq k j) xs [] =
+    → added j (λ s. f (symbols_in s)) (u ++ w ∷ []) ≡ added j (λ s. f (symbols_in s)) u ++ cond (bytes_eq k j) xs [] =
     λ j f xs e. ap (λ (b : Bool). cond b (f (symbols_in (u ++ w ∷ []))) []) (keyword-same u k j w o.begun ∙ keyword-is u k j o.begun)
     ∙ ap (λ l. cond (bytes_eq k j || false) (f l) []) more ∙ ap (λ l. cond (bytes_eq k j || false) l []) e
     ∙ split (bytes_eq k j) (f names) xs
@@ -84,7 +84,7 @@ open-word u k w names o h e = record {
   goes_on = stops-more o.begun.rest w o.goes_on h;
   names_are =
       ap (λ (l : List Word). map (λ (w : Word). w.bytes) l) (words-more o.begun.rest w o.goes_on h)
-          ∙ map-append (λ (w : Word). w.bytes) (take_while is_word o.begun.rest) (w ∷ []) ∙ ap (λ l. l ++ w.bytes ∷ []) o.names_are;
+      ∙ map-append (λ (w : Word). w.bytes) (take_while is_word o.begun.rest) (w ∷ []) ∙ ap (λ l. l ++ w.bytes ∷ []) o.names_are;
 }
 
 -- a word in a proof

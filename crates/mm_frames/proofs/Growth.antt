@@ -175,11 +175,11 @@ constant-more u v e symbols constant variables_ typed_ labels_ vs ts n g absent 
     let now : constants (v ∷ e) ≡ (a ++ n ∷ []) ++ constants e = constants-cons v e ∙ ap (λ l. l ++ constants e) g.new_constants in
     let was : constants (u ∷ e) ≡ a ++ constants e = constants-cons u e in
     let ever : variables_ever (v ∷ e) ≡ variables_ever (u ∷ e) =
-        variables_ever-cons v e ∙ ap (λ l. l ++ variables_ever e) (g.more_variables ∙ append-nil (added (codes "$v") symbols_in u))
-            ∙ sym (variables_ever-cons u e) in
+    variables_ever-cons v e ∙ ap (λ l. l ++ variables_ever e) (g.more_variables ∙ append-nil (added (codes "$v") symbols_in u))
+    ∙ sym (variables_ever-cons u e) in
     let now_is : (m : List ℕ) → contains (constants (v ∷ e)) m ≡ ((contains a m || (bytes_eq m n || false)) || contains (constants e) m) =
-        λ m. ap (λ l. contains l m) now ∙ contains-append (a ++ n ∷ []) (constants e) m
-            ∙ ap (λ b. b || contains (constants e) m) (contains-append a (n ∷ []) m) in
+    λ m. ap (λ l. contains l m) now ∙ contains-append (a ++ n ∷ []) (constants e) m
+    ∙ ap (λ b. b || contains (constants e) m) (contains-append a (n ∷ []) m) in
     let was_is : (m : List ℕ) → contains (constants (u ∷ e)) m ≡ (contains a m || contains (constants e) m) = λ m. ap (λ l. contains l m) was ∙ contains-append a (constants e) m in
     record {
       one = injective-more symbols n s.one absent;
@@ -217,14 +217,14 @@ constant-more u v e symbols constant variables_ typed_ labels_ vs ts n g absent 
       ];
       are_variables =
           names-more symbols n variables_ s.variables_known ∙ s.are_variables
-              ∙ ap (λ l. reverse l) (sym (kept-grows (added (codes "$v") symbols_in) u v e [] g.plain g.plain_after g.more_variables));
+          ∙ ap (λ l. reverse l) (sym (kept-grows (added (codes "$v") symbols_in) u v e [] g.plain g.plain_after g.more_variables));
       are_typed = names-more symbols n typed_ s.typed_known ∙ s.are_typed ∙ ap (λ l. reverse l) (sym (kept-grows (added (codes "$f") types) u v e [] g.plain g.plain_after g.more_types));
       are_labels = s.are_labels ∙ ap (λ l. reverse l) (labels-cons u e ∙ ap (λ l. l ++ labels e) (sym g.more_labels) ∙ sym (labels-cons v e));
       are_v_marks = marks-grows new_variables u v e vs g.plain g.plain_after s.are_v_marks;
       are_t_marks = marks-grows new_types u v e ts g.plain g.plain_after s.are_t_marks;
       are_symbols =
           ap (λ l. l ++ n ∷ []) s.are_symbols ∙ repeats-new (flat_map adds (reverse (u ∷ e))) n (ap (λ l. contains l n) (sym s.are_symbols) ∙ absent)
-              ∙ ap (λ l. without_repeats [] l) (sym (adds-constant u v e n no_variables g.new_constants g.more_variables));
+          ∙ ap (λ l. without_repeats [] l) (sym (adds-constant u v e n no_variables g.new_constants g.more_variables));
       are_ordered = s.are_ordered ∙ ordered-same u v e g.more_labels;
     }
   where
@@ -251,20 +251,20 @@ variable-more u v e symbols constant variables_ typed_ labels_ vs ts n g absent 
     let now : variables_ever (v ∷ e) ≡ (a ++ n ∷ []) ++ variables_ever e = variables_ever-cons v e ∙ ap (λ l. l ++ variables_ever e) g.more_variables in
     let was : variables_ever (u ∷ e) ≡ a ++ variables_ever e = variables_ever-cons u e in
     let now_is : (m : List ℕ) → contains (variables_ever (v ∷ e)) m ≡ ((contains a m || (bytes_eq m n || false)) || contains (variables_ever e) m) =
-        λ m. ap (λ l. contains l m) now ∙ contains-append (a ++ n ∷ []) (variables_ever e) m
-            ∙ ap (λ b. b || contains (variables_ever e) m) (contains-append a (n ∷ []) m) in
+    λ m. ap (λ l. contains l m) now ∙ contains-append (a ++ n ∷ []) (variables_ever e) m
+    ∙ ap (λ b. b || contains (variables_ever e) m) (contains-append a (n ∷ []) m) in
     let was_is : (m : List ℕ) → contains (variables_ever (u ∷ e)) m ≡ (contains a m || contains (variables_ever e) m) = λ m. ap (λ l. contains l m) was ∙ contains-append a (variables_ever e) m in
     let more_names : map (λ i. name_of (symbols ++ n ∷ []) i) (variables_ ++ length symbols ∷ []) ≡ map (λ i. name_of symbols i) variables_ ++ n ∷ [] =
     map-append (λ i. name_of (symbols ++ n ∷ []) i) variables_ (length symbols ∷ [])
-        ∙ ap (λ l. l ++ name_of (symbols ++ n ∷ []) (length symbols) ∷ []) (names-more symbols n variables_ s.variables_known)
-        ∙ ap (λ m. map (λ i. name_of symbols i) variables_ ++ m ∷ []) (name_of-last symbols n) in
+    ∙ ap (λ l. l ++ name_of (symbols ++ n ∷ []) (length symbols) ∷ []) (names-more symbols n variables_ s.variables_known)
+    ∙ ap (λ m. map (λ i. name_of symbols i) variables_ ++ m ∷ []) (name_of-last symbols n) in
     record {
       one = injective-more symbols n s.one absent;
       all_known = length-more constant false ∙ ap (λ (k : ℕ). suc k) s.all_known ∙ sym long;
       variables_known =
           subst (λ (k : ℕ). Within k (variables_ ++ length symbols ∷ [])) (sym long)
-              (within-add (suc (length symbols)) variables_ (length symbols) (within-more (length symbols) variables_ s.variables_known)
-                  (omega arith));
+          (within-add (suc (length symbols)) variables_ (length symbols) (within-more (length symbols) variables_ s.variables_known)
+          (omega arith));
       typed_known = subst (λ (k : ℕ). Within k typed_) (sym long) (within-more (length symbols) typed_ s.typed_known);
       are_constants = λ i h. elim (cases_Bool (ltb i (length symbols))) [
         | inl b ↦
@@ -296,14 +296,14 @@ variable-more u v e symbols constant variables_ typed_ labels_ vs ts n g absent 
       ];
       are_variables =
           more_names ∙ ap (λ l. l ++ n ∷ []) s.are_variables ∙ sym (reverse-append (n ∷ []) (kept new_variables (u ∷ e)))
-              ∙ ap (λ l. reverse l) (sym (kept-grows (added (codes "$v") symbols_in) u v e (n ∷ []) g.plain g.plain_after g.more_variables));
+          ∙ ap (λ l. reverse l) (sym (kept-grows (added (codes "$v") symbols_in) u v e (n ∷ []) g.plain g.plain_after g.more_variables));
       are_typed = names-more symbols n typed_ s.typed_known ∙ s.are_typed ∙ ap (λ l. reverse l) (sym (kept-grows (added (codes "$f") types) u v e [] g.plain g.plain_after g.more_types));
       are_labels = s.are_labels ∙ ap (λ l. reverse l) (labels-cons u e ∙ ap (λ l. l ++ labels e) (sym g.more_labels) ∙ sym (labels-cons v e));
       are_v_marks = marks-grows new_variables u v e vs g.plain g.plain_after s.are_v_marks;
       are_t_marks = marks-grows new_types u v e ts g.plain g.plain_after s.are_t_marks;
       are_symbols =
           ap (λ l. l ++ n ∷ []) s.are_symbols ∙ repeats-new (flat_map adds (reverse (u ∷ e))) n (ap (λ l. contains l n) (sym s.are_symbols) ∙ absent)
-              ∙ ap (λ l. without_repeats [] l) (sym (adds-variable u v e n g.new_constants g.more_variables));
+          ∙ ap (λ l. without_repeats [] l) (sym (adds-variable u v e n g.new_constants g.more_variables));
       are_ordered = s.are_ordered ∙ ordered-same u v e g.more_labels;
     }
   where
@@ -322,11 +322,11 @@ variable-again u v e symbols constant variables_ typed_ labels_ vs ts i g hi fla
     let now : variables_ever (v ∷ e) ≡ (a ++ n ∷ []) ++ variables_ever e = variables_ever-cons v e ∙ ap (λ l. l ++ variables_ever e) g.more_variables in
     let was : variables_ever (u ∷ e) ≡ a ++ variables_ever e = variables_ever-cons u e in
     let now_is : (m : List ℕ) → contains (variables_ever (v ∷ e)) m ≡ ((contains a m || (bytes_eq m n || false)) || contains (variables_ever e) m) =
-        λ m. ap (λ l. contains l m) now ∙ contains-append (a ++ n ∷ []) (variables_ever e) m
-            ∙ ap (λ b. b || contains (variables_ever e) m) (contains-append a (n ∷ []) m) in
+    λ m. ap (λ l. contains l m) now ∙ contains-append (a ++ n ∷ []) (variables_ever e) m
+    ∙ ap (λ b. b || contains (variables_ever e) m) (contains-append a (n ∷ []) m) in
     let was_is : (m : List ℕ) → contains (variables_ever (u ∷ e)) m ≡ (contains a m || contains (variables_ever e) m) = λ m. ap (λ l. contains l m) was ∙ contains-append a (variables_ever e) m in
     let before : (m : List ℕ) → list_any (bytes_eq m) symbols ≡ (contains (constants (u ∷ e)) m || (contains a m || contains (variables_ever e) m)) =
-        λ m. s.are_declared m ∙ ap (λ b. contains (constants (u ∷ e)) m || b) (was_is m) in
+    λ m. s.are_declared m ∙ ap (λ b. contains (constants (u ∷ e)) m || b) (was_is m) in
     record {
       one = s.one;
       all_known = s.all_known;
@@ -345,17 +345,17 @@ variable-again u v e symbols constant variables_ typed_ labels_ vs ts i g hi fla
       ];
       are_variables =
           map-append (λ k. name_of symbols k) variables_ (i ∷ []) ∙ ap (λ l. l ++ n ∷ []) s.are_variables
-              ∙ sym (reverse-append (n ∷ []) (kept new_variables (u ∷ e)))
-              ∙ ap (λ l. reverse l) (sym (kept-grows (added (codes "$v") symbols_in) u v e (n ∷ []) g.plain g.plain_after g.more_variables));
+          ∙ sym (reverse-append (n ∷ []) (kept new_variables (u ∷ e)))
+          ∙ ap (λ l. reverse l) (sym (kept-grows (added (codes "$v") symbols_in) u v e (n ∷ []) g.plain g.plain_after g.more_variables));
       are_typed = s.are_typed ∙ ap (λ l. reverse l) (sym (kept-grows (added (codes "$f") types) u v e [] g.plain g.plain_after g.more_types));
       are_labels = s.are_labels ∙ ap (λ l. reverse l) (labels-cons u e ∙ ap (λ l. l ++ labels e) (sym g.more_labels) ∙ sym (labels-cons v e));
       are_v_marks = marks-grows new_variables u v e vs g.plain g.plain_after s.are_v_marks;
       are_t_marks = marks-grows new_types u v e ts g.plain g.plain_after s.are_t_marks;
       are_symbols =
           s.are_symbols
-              ∙ repeats-old (flat_map adds (reverse (u ∷ e))) n
-                  (ap (λ l. contains l n) (sym s.are_symbols) ∙ stands symbols n i hi ((bytes_eq-Decides n n).1 refl))
-              ∙ ap (λ l. without_repeats [] l) (sym (adds-variable u v e n g.new_constants g.more_variables));
+          ∙ repeats-old (flat_map adds (reverse (u ∷ e))) n
+          (ap (λ l. contains l n) (sym s.are_symbols) ∙ stands symbols n i hi ((bytes_eq-Decides n n).1 refl))
+          ∙ ap (λ l. without_repeats [] l) (sym (adds-variable u v e n g.new_constants g.more_variables));
       are_ordered = s.are_ordered ∙ ordered-same u v e g.more_labels;
     }
   where
@@ -384,8 +384,8 @@ typed-more u v e symbols constant variables_ typed_ labels_ vs ts i g hi s =
     let n = name_of symbols i in
     let same : constants (v ∷ e) ≡ constants (u ∷ e) = constants-cons v e ∙ ap (λ l. l ++ constants e) (g.new_constants ∙ append-nil (added (codes "$c") symbols_in u)) ∙ sym (constants-cons u e) in
     let ever : variables_ever (v ∷ e) ≡ variables_ever (u ∷ e) =
-        variables_ever-cons v e ∙ ap (λ l. l ++ variables_ever e) (g.more_variables ∙ append-nil (added (codes "$v") symbols_in u))
-            ∙ sym (variables_ever-cons u e) in
+    variables_ever-cons v e ∙ ap (λ l. l ++ variables_ever e) (g.more_variables ∙ append-nil (added (codes "$v") symbols_in u))
+    ∙ sym (variables_ever-cons u e) in
     record {
       one = s.one;
       all_known = s.all_known;
@@ -397,8 +397,8 @@ typed-more u v e symbols constant variables_ typed_ labels_ vs ts i g hi s =
       are_variables = s.are_variables ∙ ap (λ l. reverse l) (sym (kept-grows (added (codes "$v") symbols_in) u v e [] g.plain g.plain_after g.more_variables));
       are_typed =
           map-append (λ k. name_of symbols k) typed_ (i ∷ []) ∙ ap (λ l. l ++ n ∷ []) s.are_typed
-              ∙ sym (reverse-append (n ∷ []) (kept new_types (u ∷ e)))
-              ∙ ap (λ l. reverse l) (sym (kept-grows (added (codes "$f") types) u v e (n ∷ []) g.plain g.plain_after g.more_types));
+          ∙ sym (reverse-append (n ∷ []) (kept new_types (u ∷ e)))
+          ∙ ap (λ l. reverse l) (sym (kept-grows (added (codes "$f") types) u v e (n ∷ []) g.plain g.plain_after g.more_types));
       are_labels = s.are_labels ∙ ap (λ l. reverse l) (labels-cons u e ∙ ap (λ l. l ++ labels e) (sym g.more_labels) ∙ sym (labels-cons v e));
       are_v_marks = marks-grows new_variables u v e vs g.plain g.plain_after s.are_v_marks;
       are_t_marks = marks-grows new_types u v e ts g.plain g.plain_after s.are_t_marks;
@@ -414,8 +414,8 @@ pub label-more : (u v : Statement) (e : List Statement) (symbols : List (List �
 label-more u v e symbols constant variables_ typed_ labels_ vs ts n g no_label s =
     let same : constants (v ∷ e) ≡ constants (u ∷ e) = constants-cons v e ∙ ap (λ l. l ++ constants e) (g.new_constants ∙ append-nil (added (codes "$c") symbols_in u)) ∙ sym (constants-cons u e) in
     let ever : variables_ever (v ∷ e) ≡ variables_ever (u ∷ e) =
-        variables_ever-cons v e ∙ ap (λ l. l ++ variables_ever e) (g.more_variables ∙ append-nil (added (codes "$v") symbols_in u))
-            ∙ sym (variables_ever-cons u e) in
+    variables_ever-cons v e ∙ ap (λ l. l ++ variables_ever e) (g.more_variables ∙ append-nil (added (codes "$v") symbols_in u))
+    ∙ sym (variables_ever-cons u e) in
     let now : labels (v ∷ e) ≡ n ∷ labels (u ∷ e) = labels-cons v e ∙ ap (λ l. l ++ labels e) g.more_labels ∙ ap (λ l. n ∷ l) (sym (labels-cons u e)) in
     record {
       one = s.one;
@@ -433,7 +433,7 @@ label-more u v e symbols constant variables_ typed_ labels_ vs ts n g no_label s
       are_symbols = s.are_symbols ∙ ap (λ l. without_repeats [] l) (adds-same u v e g.new_constants g.more_variables);
       are_ordered =
           ap (λ l. l ++ n ∷ [])
-              (s.are_ordered ∙ flat-last label_names u e ∙ ap (λ l. flat_map label_names (reverse e) ++ l) no_label
-                  ∙ append-nil (flat_map label_names (reverse e)))
-              ∙ sym (flat-last label_names v e ∙ ap (λ l. flat_map label_names (reverse e) ++ l) (g.more_labels ∙ ap (λ l. n ∷ l) no_label));
+          (s.are_ordered ∙ flat-last label_names u e ∙ ap (λ l. flat_map label_names (reverse e) ++ l) no_label
+          ∙ append-nil (flat_map label_names (reverse e)))
+          ∙ sym (flat-last label_names v e ∙ ap (λ l. flat_map label_names (reverse e) ++ l) (g.more_labels ∙ ap (λ l. n ∷ l) no_label));
     }

@@ -292,8 +292,12 @@ goes-noted text i b r stage.Between q g =
       turned = g.turned;
       behind = g.behind;
       reader =
-          record { state = g.reader.state; stage = stage-noted (unended g.before) g.after r b r.stage g.reader.stage;
-              formula_known = g.reader.formula_known; listed_known = g.reader.listed_known };
+          record {
+            state = g.reader.state;
+            stage = stage-noted (unended g.before) g.after r b r.stage g.reader.stage;
+            formula_known = g.reader.formula_known;
+            listed_known = g.reader.listed_known;
+          };
       no_fault = g.no_fault;
       more = more-noted (unended g.before) (ended g.before) r b h.0 q g.more;
       few_symbols = g.few_symbols;
@@ -340,9 +344,9 @@ next-token text i r next good h n g =
     let goods : Each IsGood (w ∷ rest) = subst (λ ws. Each IsGood ws) d.2 (each-drop IsGood (tokens text) i (tokens-good text good)) in
     let one : i + 1 ≡ suc i = omega arith in
     let kinds : next ≡ option_map (λ (t : Token). t.kind) (first_token rest) =
-        n ∙ ap (λ (k : ℕ). option_map (λ (t : Token). t.kind) (slice_get (map token_of (tokens text)) k)) one
-            ∙ ap (λ (o : Option Token). option_map (λ (t : Token). t.kind) o) (get-drop (tokens text) (suc i))
-            ∙ ap (λ ws. option_map (λ (t : Token). t.kind) (first_token ws)) later in
+    n ∙ ap (λ (k : ℕ). option_map (λ (t : Token). t.kind) (slice_get (map token_of (tokens text)) k)) one
+    ∙ ap (λ (o : Option Token). option_map (λ (t : Token). t.kind) o) (get-drop (tokens text) (suc i))
+    ∙ ap (λ ws. option_map (λ (t : Token). t.kind) (first_token ws)) later in
     record {
       before = g.before;
       w = w;
@@ -385,18 +389,18 @@ goes-to text i p r q t d next good h n g was is none then =
     let w = x.w in
     let same : t ≡ token_of w = is ∙ x.is_token d in
     let code : step_code r (kind_of w) w.bytes next ≡ None =
-        ap (λ l. step_code r (kind_of w) l next) (sym x.bytes_are) ∙ ap (λ (u : Token). step_code r u.kind (bytes_of text u) next) (sym same)
-            ∙ none in
+    ap (λ l. step_code r (kind_of w) l next) (sym x.bytes_are) ∙ ap (λ (u : Token). step_code r u.kind (bytes_of text u) next) (sym same)
+    ∙ none in
     let now : q ≡ with_token r (kind_of w) w.bytes w.start (token_of w).«end» =
-        then ∙ ap (λ (u : Token). with_token r u.kind (bytes_of text u) u.start u.«end») same
-            ∙ ap (λ l. with_token r (kind_of w) l w.start (token_of w).«end») x.bytes_are in
+    then ∙ ap (λ (u : Token). with_token r u.kind (bytes_of text u) u.start u.«end») same
+    ∙ ap (λ l. with_token r (kind_of w) l w.start (token_of w).«end») x.bytes_are in
     let reads = goes x.before x.after r w (kind_of w) next w.start (token_of w).«end» x.reader x.is_kind x.next_is code in
     let no_code : code_at x.before w x.after ≡ None = agrees x.before x.after r w (kind_of w) next x.reader x.is_kind x.next_is ∙ code in
     let kept : noted r w.start ≡ r =
-        ap (λ (v : Reader). noted v w.start) (was ∙ ap (λ (u : Token). noted p u.start) same) ∙ noted-twice p w.start p.stage refl
-            ∙ sym (was ∙ ap (λ (u : Token). noted p u.start) same) in
+    ap (λ (v : Reader). noted v w.start) (was ∙ ap (λ (u : Token). noted p u.start) same) ∙ noted-twice p w.start p.stage refl
+    ∙ sym (was ∙ ap (λ (u : Token). noted p u.start) same) in
     let begun : first_byte (unended x.before ++ w ∷ []) ≡ r.begins =
-        begins-noted (unended x.before) (ended x.before) (w ∷ x.after) r w r.stage x.reader.stage x.more ∙ ap (λ (v : Reader). v.begins) kept in
+    begins-noted (unended x.before) (ended x.before) (w ∷ x.after) r w r.stage x.reader.stage x.more ∙ ap (λ (v : Reader). v.begins) kept in
     let all = more-goes x.before x.after r w (kind_of w) next x.reader x.more begun x.is_kind code in
     let f = few r (kind_of w) w.bytes w.start (token_of w).«end» in
     let one : i + 1 ≡ suc i = omega arith in
@@ -422,13 +426,13 @@ fails-at text i r t d next e good h n g is fails =
     let w = x.w in
     let same : t ≡ token_of w = is ∙ x.is_token d in
     let code : step_code r t.kind (bytes_of text t) next ≡ code_at x.before w x.after =
-        ap (λ (u : Token). step_code r u.kind (bytes_of text u) next) same ∙ ap (λ l. step_code r (kind_of w) l next) x.bytes_are
-            ∙ sym (agrees x.before x.after r w (kind_of w) next x.reader x.is_kind x.next_is) in
+    ap (λ (u : Token). step_code r u.kind (bytes_of text u) next) same ∙ ap (λ l. step_code r (kind_of w) l next) x.bytes_are
+    ∙ sym (agrees x.before x.after r w (kind_of w) next x.reader x.is_kind x.next_is) in
     let there : FailsAt e w.start (code_at x.before w x.after) =
-        subst (λ (o : Option ℕ). FailsAt e w.start o) code
-            (subst (λ (u : Token). FailsAt e u.start (step_code r t.kind (bytes_of text t) next)) same fails) in
+    subst (λ (o : Option ℕ). FailsAt e w.start o) code
+    (subst (λ (u : Token). FailsAt e u.start (step_code r t.kind (bytes_of text t) next)) same fails) in
     fault-at e w.start (code_at x.before w x.after) (statement_fault text) there
-        (λ c k. ap (λ (o : Option Fault). or_else o (end_fault (length text) (reverse (tokens text)))) (x.no_fault ∙ here x.before w x.after c k))
+    (λ c k. ap (λ (o : Option Fault). or_else o (end_fault (length text) (reverse (tokens text)))) (x.no_fault ∙ here x.before w x.after c k))
 
 -- ---- what a step asks for
 
@@ -483,4 +487,4 @@ ends-well text i r h g none = last-fault text i r h g ∙ ap (λ (o : Option ℕ
 pub ends-badly : (text : List ℕ) (i : ℕ) (r : Reader) (e : ReadFault) → length (tokens text) ≤ i → GoesTo text i r → FailsAt e (length text) (last_code r) → IsFault e (statement_fault text)
 ends-badly text i r e h g fails =
     fault-at e (length text) (last_code r) (statement_fault text) fails
-        (λ c k. last-fault text i r h g ∙ ap (λ (o : Option ℕ). option_map (λ c. fault (length text) c) o) k)
+    (λ c k. last-fault text i r h g ∙ ap (λ (o : Option ℕ). option_map (λ c. fault (length text) c) o) k)

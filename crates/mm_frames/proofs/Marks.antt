@@ -35,8 +35,8 @@ marks-plain g s e k (m ∷ ms) o c h =
     let there : 0 < length (path e) = omega (arith, h.0) in
     let deep : k < length (path (s ∷ e)) = subst (λ (p : List ℕ). k < length p) (sym (path-plain s e o c)) h.0 in
     let same : active_on (drop (suc k) (path (s ∷ e))) (s ∷ e) ≡ active_on (drop (suc k) (path e)) e =
-        ap (λ (p : List ℕ). active_on (drop (suc k) p) (s ∷ e)) (path-plain s e o c)
-            ∙ active_on-skip (drop (suc k) (path e)) s e (length-drop-lt k (path e) there) in
+    ap (λ (p : List ℕ). active_on (drop (suc k) p) (s ∷ e)) (path-plain s e o c)
+    ∙ active_on-skip (drop (suc k) (path e)) s e (length-drop-lt k (path e) there) in
     (deep, h.1 ∙ ap (λ (ss : List Statement). length (flat_map g ss)) (sym same), marks-plain g s e (suc k) ms o c h.2)
 
 pub marks-back : {X : Type 0} (g : Statement → List X) (s : Statement) (e : List Statement) (k : ℕ) (ms : List ℕ) → has_keyword (codes "${") s ≡ false
@@ -46,8 +46,8 @@ marks-back g s e k (m ∷ ms) o c h =
     let deep : k < length (path e) = subst (λ (p : List ℕ). k < length p) (path-plain s e o c) h.0 in
     let there : 0 < length (path e) = omega (arith, deep) in
     let same : active_on (drop (suc k) (path (s ∷ e))) (s ∷ e) ≡ active_on (drop (suc k) (path e)) e =
-        ap (λ (p : List ℕ). active_on (drop (suc k) p) (s ∷ e)) (path-plain s e o c)
-            ∙ active_on-skip (drop (suc k) (path e)) s e (length-drop-lt k (path e) there) in
+    ap (λ (p : List ℕ). active_on (drop (suc k) p) (s ∷ e)) (path-plain s e o c)
+    ∙ active_on-skip (drop (suc k) (path e)) s e (length-drop-lt k (path e) there) in
     (deep, h.1 ∙ ap (λ (ss : List Statement). length (flat_map g ss)) same, marks-back g s e (suc k) ms o c h.2)
 
 -- `${` notes the length that is there
@@ -58,8 +58,8 @@ marks-under g s e k (m ∷ ms) o h =
     let more : suc k < length (length e ∷ path e) = omega (arith, h.0) in
     let deep : suc k < length (path (s ∷ e)) = subst (λ (p : List ℕ). suc k < length p) (sym (path-open s e o)) more in
     let same : active_on (drop (suc (suc k)) (path (s ∷ e))) (s ∷ e) ≡ active_on (drop (suc k) (path e)) e =
-        ap (λ (p : List ℕ). active_on (drop (suc (suc k)) p) (s ∷ e)) (path-open s e o)
-            ∙ active_on-skip (drop (suc k) (path e)) s e (length-drop-lt k (path e) there) in
+    ap (λ (p : List ℕ). active_on (drop (suc (suc k)) p) (s ∷ e)) (path-open s e o)
+    ∙ active_on-skip (drop (suc k) (path e)) s e (length-drop-lt k (path e) there) in
     (deep, h.1 ∙ ap (λ (ss : List Statement). length (flat_map g ss)) (sym same), marks-under g s e (suc k) ms o h.2)
 
 pub marks-open : {X : Type 0} (g : Statement → List X) (s : Statement) (e : List Statement) (m : ℕ) (ms : List ℕ) → has_keyword (codes "${") s ≡ true
@@ -84,8 +84,8 @@ marks-over g s e k (m ∷ ms) o c there h =
     let deep : k < length (path (s ∷ e)) = subst (λ (p : List ℕ). k < length p) (sym (path-close s e o c)) less in
     let same : active_on (drop (suc k) (path (s ∷ e))) (s ∷ e) ≡ active_on (drop (suc (suc k)) (path e)) e =
     ap (λ (p : List ℕ). active_on (drop (suc k) p) (s ∷ e)) (path-close s e o c)
-        ∙ ap (λ (p : List ℕ). active_on p (s ∷ e)) (drop-tail (suc k) (path e))
-        ∙ active_on-skip (drop (suc (suc k)) (path e)) s e (length-drop-lt (suc k) (path e) there) in
+    ∙ ap (λ (p : List ℕ). active_on p (s ∷ e)) (drop-tail (suc k) (path e))
+    ∙ active_on-skip (drop (suc (suc k)) (path e)) s e (length-drop-lt (suc k) (path e) there) in
     (deep, h.1 ∙ ap (λ (ss : List Statement). length (flat_map g ss)) (sym same), marks-over g s e (suc k) ms o c there h.2)
   where
     within : (p : List ℕ) (k : ℕ) → suc k < length p → k < length (drop 1 p)

@@ -92,15 +92,17 @@ doubled-symbol-of r n kind.Provable h = tt
 entries-on : (ds : List Described) (r q : Reader) → Same r q → map (shown r.symbols) r.entries ≡ ds → Known (length r.symbols) r.entries
     → (map (shown q.symbols) q.entries ≡ ds) × Known (length q.symbols) q.entries
 entries-on ds r q s a k = elim s.symbols [
-  | inl e ↦
-      (ap (λ xs. map (shown q.symbols) xs) s.entries ∙ ap (λ l. map (shown l) r.entries) e ∙ a,
-          subst (λ xs. Known (length q.symbols) xs) (sym s.entries) (subst (λ l. Known (length l) r.entries) (sym e) k))
+  | inl e ↦ (
+    ap (λ xs. map (shown q.symbols) xs) s.entries ∙ ap (λ l. map (shown l) r.entries) e ∙ a,
+    subst (λ xs. Known (length q.symbols) xs) (sym s.entries) (subst (λ l. Known (length l) r.entries) (sym e) k),
+  )
   | inr e ↦
       let n : List ℕ = e.0 in
       let longer : length (r.symbols ++ n ∷ []) ≡ suc (length r.symbols) = length-more r.symbols n in
-      let known : Known (length (r.symbols ++ n ∷ [])) r.entries = subst (λ (len : ℕ). Known len r.entries) (sym longer) (known-more (length r.symbols) r.entries k) in
-      (ap (λ xs. map (shown q.symbols) xs) s.entries ∙ ap (λ l. map (shown l) r.entries) e.1 ∙ shown-more r.symbols n r.entries k ∙ a,
-          subst (λ xs. Known (length q.symbols) xs) (sym s.entries) (subst (λ l. Known (length l) r.entries) (sym e.1) known))
+      let known : Known (length (r.symbols ++ n ∷ [])) r.entries = subst (λ (len : ℕ). Known len r.entries) (sym longer) (known-more (length r.symbols) r.entries k) in (
+        ap (λ xs. map (shown q.symbols) xs) s.entries ∙ ap (λ l. map (shown l) r.entries) e.1 ∙ shown-more r.symbols n r.entries k ∙ a,
+        subst (λ xs. Known (length q.symbols) xs) (sym s.entries) (subst (λ l. Known (length l) r.entries) (sym e.1) known),
+      )
 ]
 
 more-on : (u v : Statement) (e : List Statement) (r q : Reader) → More u e r
@@ -131,12 +133,12 @@ label-more at b bs e r d ds m f =
     let w = word at (b ∷ bs) in
     let one : labels_in (w ∷ []) ≡ w ∷ [] = rw (d, ds) refl in
     let count : length r.entries ≡ 0 + length (reverse e) =
-        sym (length-map r.entries (shown r.symbols)) ∙ ap (λ l. length l) m.entries_are ∙ length-map (reverse e) described
-            ∙ (let zero_ : length (reverse e) ≡ 0 + length (reverse e) = omega arith in zero_) in
+    sym (length-map r.entries (shown r.symbols)) ∙ ap (λ l. length l) m.entries_are ∙ length-map (reverse e) described
+    ∙ (let zero_ : length (reverse e) ≡ 0 + length (reverse e) = omega arith in zero_) in
     record {
       positions_are =
           ap (λ l. l ++ length r.entries ∷ []) (m.positions_are ∙ positions-empty e) ∙ ap (λ (n : ℕ). positions_from 0 (reverse e) ++ n ∷ []) count
-              ∙ ap (λ ws. positions_from 0 (reverse e) ++ map (λ (w : Word). 0 + length (reverse e)) ws) (sym one) ∙ sym (positions-of (w ∷ []) e);
+          ∙ ap (λ ws. positions_from 0 (reverse e) ++ map (λ (w : Word). 0 + length (reverse e)) ws) (sym one) ∙ sym (positions-of (w ∷ []) e);
       entries_are = m.entries_are;
       known = m.known;
       begins_are = λ n. f;
@@ -147,7 +149,7 @@ label-more at b bs e r d ds m f =
 pub word-more : (u : Statement) (e : List Statement) (after : List Word) (r : Reader) (at b : ℕ) (bs : List ℕ) (next : Option TokenKind) (s : Stage)
     → s ≡ r.stage → eqb b 36 ≡ false → list_any (λ b. eqb b 36) bs ≡ false
     → StageIs u after r s → More u e r → first_byte (u ++ word at (b ∷ bs) ∷ []) ≡ r.begins → word_code_at s r (b ∷ bs) next ≡ None
-        → More (u ++ word at (b ∷ bs) ∷ []) e (with_word_at s r (b ∷ bs))
+    → More (u ++ word at (b ∷ bs) ∷ []) e (with_word_at s r (b ∷ bs))
 word-more u e after r at b bs next stage.Between i d ds h m f none =
     let first : More [] e r = subst (λ (v : Statement). More v e r) h.0 m in
     let starts : at ≡ r.begins = ap (λ (v : Statement). first_byte (v ++ word at (b ∷ bs) ∷ [])) (sym h.0) ∙ f in
@@ -160,7 +162,7 @@ word-more u e after r at b bs next (stage.Symbols k) i d ds h m f none =
     let q = with_symbol_of r k n in
     let stage_is : stage.Symbols k ≡ q.stage = i ∙ sym s.stage in
     more-on u (u ++ w ∷ []) e r q m (entries-on (map described (reverse e)) r q s m.entries_are m.known) s.positions s.begins
-        (labels-more u (w ∷ []) (word h.begun.at (keyword k)) h.begun.rest h.begun.body_is) f
+    (labels-more u (w ∷ []) (word h.begun.at (keyword k)) h.begun.rest h.begun.body_is) f
     (subst (λ (t : Stage). ProofIs (u ++ w ∷ []) t) stage_is (no-proof (u ++ w ∷ []) k))
     (subst (λ (t : Stage). Doubled q t) stage_is (doubled-symbol-of r n k (subst (λ (t : Stage). Doubled r t) (sym i) m.doubled)))
 word-more u e after r at b bs next (stage.Proof from) i d ds h m f none =
@@ -189,7 +191,7 @@ constants-more : (u : Statement) (e : List Statement) (after : List Word) (r : R
     → More (u ++ word at (codes "$c") ∷ []) e (with_stage r kind.Constants)
 constants-more u e after r at stage.Between h m f none =
     stage-more u (u ++ word at (codes "$c") ∷ []) e r kind.Constants h.1 m
-        (ap (λ (v : Statement). labels_in (v ++ word at (codes "$c") ∷ [])) h.0 ∙ ap (λ (v : Statement). labels_in v) (sym h.0)) f
+    (ap (λ (v : Statement). labels_in (v ++ word at (codes "$c") ∷ [])) h.0 ∙ ap (λ (v : Statement). labels_in v) (sym h.0)) f
 constants-more u e after r at stage.Labelled h m f none = absurd (some-none 29 none)
 constants-more u e after r at (stage.Symbols k) h m f none = absurd (some-none 29 none)
 constants-more u e after r at (stage.Proof from) h m f none = absurd (some-none 29 none)
@@ -199,7 +201,7 @@ variables-more : (u : Statement) (e : List Statement) (after : List Word) (r : R
     → More (u ++ word at (codes "$v") ∷ []) e (with_stage r kind.Variables)
 variables-more u e after r at stage.Between h m f none =
     stage-more u (u ++ word at (codes "$v") ∷ []) e r kind.Variables h.1 m
-        (ap (λ (v : Statement). labels_in (v ++ word at (codes "$v") ∷ [])) h.0 ∙ ap (λ (v : Statement). labels_in v) (sym h.0)) f
+    (ap (λ (v : Statement). labels_in (v ++ word at (codes "$v") ∷ [])) h.0 ∙ ap (λ (v : Statement). labels_in v) (sym h.0)) f
 variables-more u e after r at stage.Labelled h m f none = absurd (some-none 29 none)
 variables-more u e after r at (stage.Symbols k) h m f none = absurd (some-none 29 none)
 variables-more u e after r at (stage.Proof from) h m f none = absurd (some-none 29 none)
@@ -209,7 +211,7 @@ distinct-more : (u : Statement) (e : List Statement) (after : List Word) (r : Re
     → More (u ++ word at (codes "$d") ∷ []) e (with_stage r kind.Distinct)
 distinct-more u e after r at stage.Between h m f none =
     stage-more u (u ++ word at (codes "$d") ∷ []) e r kind.Distinct h.1 m
-        (ap (λ (v : Statement). labels_in (v ++ word at (codes "$d") ∷ [])) h.0 ∙ ap (λ (v : Statement). labels_in v) (sym h.0)) f
+    (ap (λ (v : Statement). labels_in (v ++ word at (codes "$d") ∷ [])) h.0 ∙ ap (λ (v : Statement). labels_in v) (sym h.0)) f
 distinct-more u e after r at stage.Labelled h m f none = absurd (some-none 29 none)
 distinct-more u e after r at (stage.Symbols k) h m f none = absurd (some-none 29 none)
 distinct-more u e after r at (stage.Proof from) h m f none = absurd (some-none 29 none)
@@ -317,9 +319,9 @@ entry-more : (v : Statement) (e : List Statement) (r : Reader) (x : Entry) (star
 entry-more v e r x start m h l w q qs qe qp qt = record {
   positions_are =
       qp ∙ m.positions_are ∙ positions-empty e
-          ∙ sym
-              (positions-empty (v ∷ e) ∙ positions-of v e ∙ ap (λ ws. positions_from 0 (reverse e) ++ map (λ (w : Word). 0 + length (reverse e)) ws) l
-                  ∙ append-nil (positions_from 0 (reverse e)));
+      ∙ sym
+      (positions-empty (v ∷ e) ∙ positions-of v e ∙ ap (λ ws. positions_from 0 (reverse e) ++ map (λ (w : Word). 0 + length (reverse e)) ws) l
+      ∙ append-nil (positions_from 0 (reverse e)));
   entries_are = all-entries v e r x q m.entries_are h qs qe;
   known = subst (λ l. Known (length l) q.entries) (sym qs) (subst (λ xs. Known (length r.symbols) xs) (sym qe) (known-end (length r.symbols) r.entries x m.known w));
   begins_are = λ n. absurd (clash n);
@@ -481,91 +483,91 @@ more-goes before after r w token.Word next o m f is none =
     let d = is.no_dollar in
     let no_end : ends_statement (word w.start n) ≡ false = rw d refl in
     let there =
-        more-here before (word w.start n) (with_word_at r.stage r n) no_end
-            (word-more (unended before) (ended before)
-                (word w.start n ∷ after) r w.start is.first is.rest next r.stage refl is.no_dollar is.none_behind st m begins none_n) in
+    more-here before (word w.start n) (with_word_at r.stage r n) no_end
+    (word-more (unended before) (ended before)
+    (word w.start n ∷ after) r w.start is.first is.rest next r.stage refl is.no_dollar is.none_behind st m begins none_n) in
     subst (λ (x : List ℕ). More (unended (word w.start x ∷ before)) (ended (word w.start x ∷ before)) (with_word_at r.stage r x)) (sym is.eq) there
 more-goes before after r w token.Constants next o m f is none =
     let h : StageIs (unended before) (word w.start (codes "$c") ∷ after) r r.stage = subst (λ (n : List ℕ). StageIs (unended before) (word w.start n ∷ after) r r.stage) is o.stage in
     let begins : first_byte (unended before ++ word w.start (codes "$c") ∷ []) ≡ r.begins = ap (λ (n : List ℕ). first_byte (unended before ++ word w.start n ∷ [])) (sym is) ∙ f in
     subst
-        (λ (n : List ℕ). More (unended (word w.start n ∷ before)) (ended (word w.start n ∷ before))
-            (with_token r token.Constants n w.start (w.start + length n)))
-        (sym is)
-        (constants-more (unended before) (ended before) (word w.start (codes "$c") ∷ after) r w.start r.stage h m begins
-            (none-below (not (is_empty r.scopes)) 11 (between_code_at r.stage r) none))
+    (λ (n : List ℕ). More (unended (word w.start n ∷ before)) (ended (word w.start n ∷ before))
+    (with_token r token.Constants n w.start (w.start + length n)))
+    (sym is)
+    (constants-more (unended before) (ended before) (word w.start (codes "$c") ∷ after) r w.start r.stage h m begins
+    (none-below (not (is_empty r.scopes)) 11 (between_code_at r.stage r) none))
 more-goes before after r w token.Variables next o m f is none =
     let h : StageIs (unended before) (word w.start (codes "$v") ∷ after) r r.stage = subst (λ (n : List ℕ). StageIs (unended before) (word w.start n ∷ after) r r.stage) is o.stage in
     let begins : first_byte (unended before ++ word w.start (codes "$v") ∷ []) ≡ r.begins = ap (λ (n : List ℕ). first_byte (unended before ++ word w.start n ∷ [])) (sym is) ∙ f in
     subst
-        (λ (n : List ℕ). More (unended (word w.start n ∷ before)) (ended (word w.start n ∷ before))
-            (with_token r token.Variables n w.start (w.start + length n)))
-        (sym is) (variables-more (unended before) (ended before) (word w.start (codes "$v") ∷ after) r w.start r.stage h m begins none)
+    (λ (n : List ℕ). More (unended (word w.start n ∷ before)) (ended (word w.start n ∷ before))
+    (with_token r token.Variables n w.start (w.start + length n)))
+    (sym is) (variables-more (unended before) (ended before) (word w.start (codes "$v") ∷ after) r w.start r.stage h m begins none)
 more-goes before after r w token.Distinct next o m f is none =
     let h : StageIs (unended before) (word w.start (codes "$d") ∷ after) r r.stage = subst (λ (n : List ℕ). StageIs (unended before) (word w.start n ∷ after) r r.stage) is o.stage in
     let begins : first_byte (unended before ++ word w.start (codes "$d") ∷ []) ≡ r.begins = ap (λ (n : List ℕ). first_byte (unended before ++ word w.start n ∷ [])) (sym is) ∙ f in
     subst
-        (λ (n : List ℕ). More (unended (word w.start n ∷ before)) (ended (word w.start n ∷ before))
-            (with_token r token.Distinct n w.start (w.start + length n)))
-        (sym is) (distinct-more (unended before) (ended before) (word w.start (codes "$d") ∷ after) r w.start r.stage h m begins none)
+    (λ (n : List ℕ). More (unended (word w.start n ∷ before)) (ended (word w.start n ∷ before))
+    (with_token r token.Distinct n w.start (w.start + length n)))
+    (sym is) (distinct-more (unended before) (ended before) (word w.start (codes "$d") ∷ after) r w.start r.stage h m begins none)
 more-goes before after r w token.Floating next o m f is none =
     let h : StageIs (unended before) (word w.start (codes "$f") ∷ after) r r.stage = subst (λ (n : List ℕ). StageIs (unended before) (word w.start n ∷ after) r r.stage) is o.stage in
     let begins : first_byte (unended before ++ word w.start (codes "$f") ∷ []) ≡ r.begins = ap (λ (n : List ℕ). first_byte (unended before ++ word w.start n ∷ [])) (sym is) ∙ f in
     subst
-        (λ (n : List ℕ). More (unended (word w.start n ∷ before)) (ended (word w.start n ∷ before))
-            (with_token r token.Floating n w.start (w.start + length n)))
-        (sym is) (floating-more (unended before) (ended before) (word w.start (codes "$f") ∷ after) r w.start r.stage h m begins none)
+    (λ (n : List ℕ). More (unended (word w.start n ∷ before)) (ended (word w.start n ∷ before))
+    (with_token r token.Floating n w.start (w.start + length n)))
+    (sym is) (floating-more (unended before) (ended before) (word w.start (codes "$f") ∷ after) r w.start r.stage h m begins none)
 more-goes before after r w token.Essential next o m f is none =
     let h : StageIs (unended before) (word w.start (codes "$e") ∷ after) r r.stage = subst (λ (n : List ℕ). StageIs (unended before) (word w.start n ∷ after) r r.stage) is o.stage in
     let begins : first_byte (unended before ++ word w.start (codes "$e") ∷ []) ≡ r.begins = ap (λ (n : List ℕ). first_byte (unended before ++ word w.start n ∷ [])) (sym is) ∙ f in
     subst
-        (λ (n : List ℕ). More (unended (word w.start n ∷ before)) (ended (word w.start n ∷ before))
-            (with_token r token.Essential n w.start (w.start + length n)))
-        (sym is) (essential-more (unended before) (ended before) (word w.start (codes "$e") ∷ after) r w.start r.stage h m begins none)
+    (λ (n : List ℕ). More (unended (word w.start n ∷ before)) (ended (word w.start n ∷ before))
+    (with_token r token.Essential n w.start (w.start + length n)))
+    (sym is) (essential-more (unended before) (ended before) (word w.start (codes "$e") ∷ after) r w.start r.stage h m begins none)
 more-goes before after r w token.Axiom next o m f is none =
     let h : StageIs (unended before) (word w.start (codes "$a") ∷ after) r r.stage = subst (λ (n : List ℕ). StageIs (unended before) (word w.start n ∷ after) r r.stage) is o.stage in
     let begins : first_byte (unended before ++ word w.start (codes "$a") ∷ []) ≡ r.begins = ap (λ (n : List ℕ). first_byte (unended before ++ word w.start n ∷ [])) (sym is) ∙ f in
     subst
-        (λ (n : List ℕ). More (unended (word w.start n ∷ before)) (ended (word w.start n ∷ before))
-            (with_token r token.Axiom n w.start (w.start + length n)))
-        (sym is) (axiom-more (unended before) (ended before) (word w.start (codes "$a") ∷ after) r w.start r.stage h m begins none)
+    (λ (n : List ℕ). More (unended (word w.start n ∷ before)) (ended (word w.start n ∷ before))
+    (with_token r token.Axiom n w.start (w.start + length n)))
+    (sym is) (axiom-more (unended before) (ended before) (word w.start (codes "$a") ∷ after) r w.start r.stage h m begins none)
 more-goes before after r w token.Provable next o m f is none =
     let h : StageIs (unended before) (word w.start (codes "$p") ∷ after) r r.stage = subst (λ (n : List ℕ). StageIs (unended before) (word w.start n ∷ after) r r.stage) is o.stage in
     let begins : first_byte (unended before ++ word w.start (codes "$p") ∷ []) ≡ r.begins = ap (λ (n : List ℕ). first_byte (unended before ++ word w.start n ∷ [])) (sym is) ∙ f in
     subst
-        (λ (n : List ℕ). More (unended (word w.start n ∷ before)) (ended (word w.start n ∷ before))
-            (with_token r token.Provable n w.start (w.start + length n)))
-        (sym is) (provable-more (unended before) (ended before) (word w.start (codes "$p") ∷ after) r w.start r.stage h m begins none)
+    (λ (n : List ℕ). More (unended (word w.start n ∷ before)) (ended (word w.start n ∷ before))
+    (with_token r token.Provable n w.start (w.start + length n)))
+    (sym is) (provable-more (unended before) (ended before) (word w.start (codes "$p") ∷ after) r w.start r.stage h m begins none)
 more-goes before after r w token.Equals next o m f is none =
     let h : StageIs (unended before) (word w.start (codes "$=") ∷ after) r r.stage = subst (λ (n : List ℕ). StageIs (unended before) (word w.start n ∷ after) r r.stage) is o.stage in
     let begins : first_byte (unended before ++ word w.start (codes "$=") ∷ []) ≡ r.begins = ap (λ (n : List ℕ). first_byte (unended before ++ word w.start n ∷ [])) (sym is) ∙ f in
     subst
-        (λ (n : List ℕ). More (unended (word w.start n ∷ before)) (ended (word w.start n ∷ before))
-            (with_token r token.Equals n w.start (w.start + length n)))
-        (sym is) (equals-more (unended before) (ended before) (word w.start (codes "$=") ∷ after) r w.start r.stage h m begins none)
+    (λ (n : List ℕ). More (unended (word w.start n ∷ before)) (ended (word w.start n ∷ before))
+    (with_token r token.Equals n w.start (w.start + length n)))
+    (sym is) (equals-more (unended before) (ended before) (word w.start (codes "$=") ∷ after) r w.start r.stage h m begins none)
 more-goes before after r w token.End next o m f is none =
     let h : StageIs (unended before) (word w.start (codes "$.") ∷ after) r r.stage = subst (λ (n : List ℕ). StageIs (unended before) (word w.start n ∷ after) r r.stage) is o.stage in
     let begins : first_byte (unended before ++ word w.start (codes "$.") ∷ []) ≡ r.begins = ap (λ (n : List ℕ). first_byte (unended before ++ word w.start n ∷ [])) (sym is) ∙ f in
     subst
-        (λ (n : List ℕ). More (unended (word w.start n ∷ before)) (ended (word w.start n ∷ before))
-            (with_token r token.End n w.start (w.start + length n)))
-        (sym is)
-        (end-more (unended before) (ended before) (word w.start (codes "$.") ∷ after) r w.start r.stage
-            (no-ends before) refl h m begins o.formula_known none)
+    (λ (n : List ℕ). More (unended (word w.start n ∷ before)) (ended (word w.start n ∷ before))
+    (with_token r token.End n w.start (w.start + length n)))
+    (sym is)
+    (end-more (unended before) (ended before) (word w.start (codes "$.") ∷ after) r w.start r.stage
+    (no-ends before) refl h m begins o.formula_known none)
 more-goes before after r w token.OpenBlock next o m f is none =
     let h : StageIs (unended before) (word w.start (codes "${") ∷ after) r r.stage = subst (λ (n : List ℕ). StageIs (unended before) (word w.start n ∷ after) r r.stage) is o.stage in
     let begins : first_byte (unended before ++ word w.start (codes "${") ∷ []) ≡ r.begins = ap (λ (n : List ℕ). first_byte (unended before ++ word w.start n ∷ [])) (sym is) ∙ f in
     subst
-        (λ (n : List ℕ). More (unended (word w.start n ∷ before)) (ended (word w.start n ∷ before))
-            (with_token r token.OpenBlock n w.start (w.start + length n)))
-        (sym is) (open-more (unended before) (ended before) (word w.start (codes "${") ∷ after) r w.start r.stage refl h m begins none)
+    (λ (n : List ℕ). More (unended (word w.start n ∷ before)) (ended (word w.start n ∷ before))
+    (with_token r token.OpenBlock n w.start (w.start + length n)))
+    (sym is) (open-more (unended before) (ended before) (word w.start (codes "${") ∷ after) r w.start r.stage refl h m begins none)
 more-goes before after r w token.CloseBlock next o m f is none =
     let h : StageIs (unended before) (word w.start (codes "$}") ∷ after) r r.stage = subst (λ (n : List ℕ). StageIs (unended before) (word w.start n ∷ after) r r.stage) is o.stage in
     let begins : first_byte (unended before ++ word w.start (codes "$}") ∷ []) ≡ r.begins = ap (λ (n : List ℕ). first_byte (unended before ++ word w.start n ∷ [])) (sym is) ∙ f in
     subst
-        (λ (n : List ℕ). More (unended (word w.start n ∷ before)) (ended (word w.start n ∷ before))
-            (with_token r token.CloseBlock n w.start (w.start + length n)))
-        (sym is) (close-more (unended before) (ended before) (word w.start (codes "$}") ∷ after) r w.start r.stage r.scopes refl h m begins none)
+    (λ (n : List ℕ). More (unended (word w.start n ∷ before)) (ended (word w.start n ∷ before))
+    (with_token r token.CloseBlock n w.start (w.start + length n)))
+    (sym is) (close-more (unended before) (ended before) (word w.start (codes "$}") ∷ after) r w.start r.stage r.scopes refl h m begins none)
 more-goes before after r w token.OpenInclude next o m f is none = absurd (some-none 10 none)
 more-goes before after r w token.CloseInclude next o m f is none = absurd (some-none 29 none)
 more-goes before after r w token.OpenComment next o m f is none = absurd is

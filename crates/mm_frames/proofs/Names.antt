@@ -43,8 +43,8 @@ found-is (s ∷ symbols) n i e =
           subst (λ (k : ℕ). Found (s ∷ symbols) n k) is (record { within = omega arith; name = here })
       | inr h ↦
           let rest : option_map (λ (n : ℕ). suc n) (position (bytes_eq n) symbols) ≡ Some i =
-              sym (cond_else (bytes_eq n s) (Some 0) (option_map (λ (n : ℕ). suc n) (position (bytes_eq n) symbols)) h)
-                  ∙ sym (position-cons (bytes_eq n) s symbols) ∙ e in
+          sym (cond_else (bytes_eq n s) (Some 0) (option_map (λ (n : ℕ). suc n) (position (bytes_eq n) symbols)) h)
+          ∙ sym (position-cons (bytes_eq n) s symbols) ∙ e in
           deeper s symbols n i (position (bytes_eq n) symbols) rest (λ k q. found-is symbols n k q)
     ]
   where

@@ -30,13 +30,13 @@ get-entry names (s ∷ ss) (suc i) = get-entry names ss i
 
 proof-of : (names : List Name) (at : ℕ) (o : Option Statement)
     → option_and_then (λ (x : Entry). x.proof) (option_map (entry_in names) o)
-        ≡ option_and_then (λ (p : ℕ × Statement). proof_of p.1) (option_map (λ s. (at, s)) o)
+    ≡ option_and_then (λ (p : ℕ × Statement). proof_of p.1) (option_map (λ s. (at, s)) o)
 proof-of names at None = refl
 proof-of names at (Some s) = refl
 
 at-label : (names : List Name) (ss : List Statement) (o : Option ℕ)
     → option_and_then (λ at. option_and_then (λ (x : Entry). x.proof) (slice_get (map (entry_in names) ss) at)) o
-        ≡ option_and_then (λ (p : ℕ × Statement). proof_of p.1) (option_and_then (λ at. option_map (λ s. (at, s)) (slice_get ss at)) o)
+    ≡ option_and_then (λ (p : ℕ × Statement). proof_of p.1) (option_and_then (λ at. option_map (λ s. (at, s)) (slice_get ss at)) o)
 at-label names ss None = refl
 at-label names ss (Some at) = ap (λ (x : Option Entry). option_and_then (λ (y : Entry). y.proof) x) (get-entry names ss at) ∙ proof-of names at (slice_get ss at)
 
@@ -104,7 +104,7 @@ frame-is c l text h =
     nowhere : (ss : List Statement) (l : Label) → slice_get (positions ss) l.0 ≡ None → frame_of ss l ≡ None
     nowhere ss l e =
         ap (λ o. option_and_then (λ (p : ℕ × Statement). cond (is_assertion p.1) (Some (frame_there ss l p.0 p.1)) None)
-            (option_and_then (λ at. option_map (λ s. (at, s)) (slice_get ss at)) o)) e
+        (option_and_then (λ at. option_map (λ s. (at, s)) (slice_get ss at)) o)) e
 
 -- ---- constants
 

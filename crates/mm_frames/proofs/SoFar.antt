@@ -151,9 +151,10 @@ means e r n s = go (position (bytes_eq n) r.symbols) refl
   where
     go : (o : Option ℕ) → position (bytes_eq n) r.symbols ≡ o → Means e r n (meaning_of_at o r n)
     go None h =
-        let absent = none-absent (bytes_eq n) r.symbols h in
-        (or_left (contains (constants e) n) (contains (variables_ever e) n) (sym (s.are_declared n) ∙ absent),
-            variable_none e r.symbols r.constants r.variables r.typed r.labels (variable_marks r.scopes) (typed_marks r.scopes) n s absent)
+        let absent = none-absent (bytes_eq n) r.symbols h in (
+          or_left (contains (constants e) n) (contains (variables_ever e) n) (sym (s.are_declared n) ∙ absent),
+          variable_none e r.symbols r.constants r.variables r.typed r.labels (variable_marks r.scopes) (typed_marks r.scopes) n s absent,
+        )
     go (Some i) h =
         let f = found-is r.symbols n i h in
         subst (λ (m : List ℕ). Means e r m (meaning_of_at (Some i) r m)) f.name (means-known e r i s f.within)

@@ -55,8 +55,15 @@ put-stands text front bs b (w ∷ ws) e h =
           let both : s.front ++ (w.bytes ++ s.behind) ≡ (front ++ b ∷ []) ++ bs = sym s.split ∙ e ∙ sym (append_assoc front (b ∷ []) bs) in
           let same = front-same s.front (w.bytes ++ s.behind) (front ++ b ∷ []) bs at both in
           let there : Stands text (word (length front) (b ∷ w.bytes)) =
-              record { front = front; behind = s.behind; split = e ∙ ap (λ l. front ++ b ∷ l) (sym same.1); starts = refl; first = b; rest = w.bytes;
-                  not_empty = refl } in
+          record {
+            front = front;
+            behind = s.behind;
+            split = e ∙ ap (λ l. front ++ b ∷ l) (sym same.1);
+            starts = refl;
+            first = b;
+            rest = w.bytes;
+            not_empty = refl;
+          } in
           let all : Each (Stands text) (word (length front) (b ∷ w.bytes) ∷ ws) = (there, h.1) in
           subst (λ l. Each (Stands text) l) (sym (cond_then (eqb w.start (suc (length front))) (word (length front) (b ∷ w.bytes) ∷ ws) (word (length front) (b ∷ []) ∷ w ∷ ws) q)) all
       | inr q ↦
@@ -122,8 +129,8 @@ put-length : (at b : ℕ) (ws : List Word) → length (put_before at b ws) ≤ s
 put-length at b [] = omega arith
 put-length at b (w ∷ ws) =
     elim (eqb w.start (suc at)) as
-        (λ t. length (cond t (word at (b ∷ w.bytes) ∷ ws) (word at (b ∷ []) ∷ w ∷ ws))
-            ≤ suc (suc (length ws))) [ true ↦ omega arith | false ↦ omega arith ]
+    (λ t. length (cond t (word at (b ∷ w.bytes) ∷ ws) (word at (b ∷ []) ∷ w ∷ ws))
+    ≤ suc (suc (length ws))) [ true ↦ omega arith | false ↦ omega arith ]
 
 words-length : (at : ℕ) (bs : List ℕ) → length (words_from at bs) ≤ length bs
 words-length at [] = omega arith
@@ -131,8 +138,8 @@ words-length at (b ∷ bs) =
     let later = words-length (suc at) bs in
     let put = put-length at b (words_from (suc at) bs) in
     elim (is_white b) as
-        (λ t. length (cond t (words_from (suc at) bs) (put_before at b (words_from (suc at) bs)))
-            ≤ suc (length bs)) [ true ↦ omega (arith, later) | false ↦ omega (arith, later, put) ]
+    (λ t. length (cond t (words_from (suc at) bs) (put_before at b (words_from (suc at) bs)))
+    ≤ suc (length bs)) [ true ↦ omega (arith, later) | false ↦ omega (arith, later, put) ]
 
 where-length : (c : Bool) (ws : List Word) → length (tokens_where c ws) ≤ length ws
 where-length c [] = omega arith
@@ -165,8 +172,8 @@ rules-none before w h = go (comment_in_comment before w) (bad_keyword before w) 
   where
     go : (a b : Bool)
         → option_map (λ code. fault w.start code)
-            (option_map (λ (r : ℕ × (List Word → Word → Bool)). r.0) (cond a (Some (3, comment_in_comment)) (cond b (Some (4, bad_keyword)) None)))
-            ≡ None
+        (option_map (λ (r : ℕ × (List Word → Word → Bool)). r.0) (cond a (Some (3, comment_in_comment)) (cond b (Some (4, bad_keyword)) None)))
+        ≡ None
         → (a ≡ false) × (b ≡ false)
     go true b h = absurd (clash h)
       where
@@ -198,8 +205,8 @@ good-tokens false before (w ∷ ws) i h =
           (good-tokens true (w ∷ before) ws (cond_then (is_open_comment w) true (cond (is_close_comment w) false (in_comment before)) q) parts.1)
       | inr q ↦
           let outside : in_comment (w ∷ before) ≡ false =
-              cond_else (is_open_comment w) true (cond (is_close_comment w) false (in_comment before)) q
-                  ∙ cond_else (is_close_comment w) false (in_comment before) both.0 ∙ i in
+          cond_else (is_open_comment w) true (cond (is_close_comment w) false (in_comment before)) q
+          ∙ cond_else (is_close_comment w) false (in_comment before) both.0 ∙ i in
           let good : IsGood w = record { no_open = q; no_close = both.0; no_bad = both.1 } in
           let all : Each IsGood (w ∷ tokens_where false ws) = (good, good-tokens false (w ∷ before) ws outside parts.1) in
           subst (λ l. Each IsGood l) (sym (cond_else (is_open_comment w) (tokens_where true ws) (w ∷ tokens_where false ws) q)) all
@@ -217,8 +224,8 @@ no-words-fault (Some f) (Some g) h = absurd (go (Rattle.mm_model.specs.Faults.co
 pub tokens-good : (text : List ℕ) → token_fault text ≡ None → Each IsGood (tokens text)
 tokens-good text h =
     good-tokens false [] (words text) refl
-        (none-left (first_fault (λ before w. w.start) word_rules [] (words text)) (Rattle.mm_model.specs.Tokens.open_comment text)
-            (no-words-fault (bad_byte text) (words_fault text) h)).0
+    (none-left (first_fault (λ before w. w.start) word_rules [] (words text)) (Rattle.mm_model.specs.Tokens.open_comment text)
+    (no-words-fault (bad_byte text) (words_fault text) h)).0
 
 and-left : (a : Bool) → (a && true) ≡ false → a ≡ false
 and-left true h = absurd (clash h)
@@ -271,9 +278,24 @@ kind-is n first rest e o c bad =
                                                                               | inl q ↦ rw (h0, h1, h2, h3, h4, h5, h6, h7, h8, h9, h10, o, c, h13, q) ((bytes_eq-Decides n (codes "$]")).0 q)
                                                                               | inr h14 ↦
                                                                                   let none : list_any (λ b. eqb b 36) n ≡ false =
-                                                                                      and-left (list_any (λ b. eqb b 36) n)
-                                                                                          (rw (h0, h1, h2, h3, h4, h5, h6, h7, h8, h9, h10, o, c, h13,
-                                                                                              h14) at bad) in
+                                                                                  and-left (list_any (λ b. eqb b 36) n)
+                                                                                  (rw (
+                                                                                    h0,
+                                                                                    h1,
+                                                                                    h2,
+                                                                                    h3,
+                                                                                    h4,
+                                                                                    h5,
+                                                                                    h6,
+                                                                                    h7,
+                                                                                    h8,
+                                                                                    h9,
+                                                                                    h10,
+                                                                                    o,
+                                                                                    c,
+                                                                                    h13,
+                                                                                    h14,
+                                                                                  ) at bad) in
                                                                                   let here : list_any (λ b. eqb b 36) (first ∷ rest) ≡ false = ap (λ l. list_any (λ b. eqb b 36) l) (sym e) ∙ none in
                                                                                   let parts = or_parts (eqb first 36) (list_any (λ b. eqb b 36) rest) here in
                                                                                   let name : IsName n = record { first = first; rest = rest; eq = e; no_dollar = parts.0; none_behind = parts.1 } in

@@ -25,8 +25,20 @@ use Rattle.mm_frames.specs.Kinds.{is_extra}
 
 abbrev pub first_reader : Reader
 first_reader =
-    record { symbols = []; constants = []; labels = []; variables = []; typed = []; scopes = []; stage = stage.Between; formula = []; listed = [];
-        begins = 0; entries = []; positions = [] }
+    record {
+      symbols = [];
+      constants = [];
+      labels = [];
+      variables = [];
+      typed = [];
+      scopes = [];
+      stage = stage.Between;
+      formula = [];
+      listed = [];
+      begins = 0;
+      entries = [];
+      positions = [];
+    }
 
 -- where a statement begins, its byte is kept
 abbrev pub noted_at : Stage → Reader → ℕ → Reader
@@ -116,8 +128,12 @@ variable_code r n = variable_code_at ((position (bytes_eq n) r.symbols)) r n
 
 abbrev pub with_variable_at : Option ℕ → Reader → Name → Reader
 with_variable_at None r n =
-    record r { symbols = r.symbols ++ n ∷ []; constants = r.constants ++ false ∷ []; variables = r.variables ++ length r.symbols ∷ [];
-        formula = r.formula ++ sym (length r.symbols) ∷ [] }
+    record r {
+      symbols = r.symbols ++ n ∷ [];
+      constants = r.constants ++ false ∷ [];
+      variables = r.variables ++ length r.symbols ∷ [];
+      formula = r.formula ++ sym (length r.symbols) ∷ [];
+    }
 with_variable_at (Some i) r n = record r { variables = r.variables ++ i ∷ []; formula = r.formula ++ sym i ∷ [] }
 
 abbrev pub with_variable : Reader → Name → Reader

@@ -36,7 +36,7 @@ pub listed-append : (k : List ℕ) (f : Statement → List (List ℕ)) (xs ys : 
 listed-append k f [] ys = refl
 listed-append k f (x ∷ xs) ys =
     listed-cons k f x (xs ++ ys) ∙ ap (λ l. added k f x ++ l) (listed-append k f xs ys)
-        ∙ sym (append_assoc (added k f x) (listed k f xs) (listed k f ys)) ∙ ap (λ l. l ++ listed k f ys) (sym (listed-cons k f x xs))
+    ∙ sym (append_assoc (added k f x) (listed k f xs) (listed k f ys)) ∙ ap (λ l. l ++ listed k f ys) (sym (listed-cons k f x xs))
 
 pub constants-cons : (s : Statement) (e : List Statement) → constants (s ∷ e) ≡ added (codes "$c") symbols_in s ++ constants e
 constants-cons s e = listed-cons (codes "$c") symbols_in s e

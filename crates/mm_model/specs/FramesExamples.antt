@@ -66,8 +66,14 @@ P_frame_ax-mp = refl
 
 pub P_frame_ax-1 : frame_of S (label 8)
     ≡ Some
-        (record { label = label 8; is_axiom = true; at = 12; formula = syms (5 ∷ 0 ∷ 6 ∷ 2 ∷ 0 ∷ 7 ∷ 2 ∷ 6 ∷ 1 ∷ 1 ∷ []); hyps = wph ∷ wps ∷ [];
-            pairs = [] })
+    (record {
+      label = label 8;
+      is_axiom = true;
+      at = 12;
+      formula = syms (5 ∷ 0 ∷ 6 ∷ 2 ∷ 0 ∷ 7 ∷ 2 ∷ 6 ∷ 1 ∷ 1 ∷ []);
+      hyps = wph ∷ wps ∷ [];
+      pairs = [];
+    })
 P_frame_ax-1 = refl
 
 -- a `$f` and a `$e` have no frame, nor has a number that is no label's
@@ -121,7 +127,7 @@ P_float_codes = refl
 abbrev nested : List ℕ
 nested =
     codes
-        "$c |- w s E $. $v p x $. wp $f w p $. sx $f s x $. ${ $v y $. sy $f s y $. $d y x p $. all $a w E x p $. ${ $d p x $. one $e |- p $. two $p |- E x p $= one all $. three $a |- E y p $. $} four $a |- p $. $}"
+    "$c |- w s E $. $v p x $. wp $f w p $. sx $f s x $. ${ $v y $. sy $f s y $. $d y x p $. all $a w E x p $. ${ $d p x $. one $e |- p $. two $p |- E x p $= one all $. three $a |- E y p $. $} four $a |- p $. $}"
 
 abbrev N : List Statement
 N = statements nested

@@ -34,7 +34,7 @@ P_rows = refl
 abbrev pub chained : List ℕ
 chained =
     codes
-        "$c |- a b c t $. $v x y z $. fa $f a x $. fb $f b y $. fc $f c z $. ab $a b x $. bc $a c y $. ca $a a z $. aa $a a x $. ac $a c x $. ta $a a t x $. tw $a b y t x $. pr $a |- x $. rr $a a x t x $. co $a a $. ${ $d x y $. dd $a a x y $. $} ${ e $e |- x $. ee $a a t x $. $} pp $p a t $= $."
+    "$c |- a b c t $. $v x y z $. fa $f a x $. fb $f b y $. fc $f c z $. ab $a b x $. bc $a c y $. ca $a a z $. aa $a a x $. ac $a c x $. ta $a a t x $. tw $a b y t x $. pr $a |- x $. rr $a a x t x $. co $a a $. ${ $d x y $. dd $a a x y $. $} ${ e $e |- x $. ee $a a t x $. $} pp $p a t $= $."
 
 abbrev C : List Statement
 C = statements chained

@@ -17,8 +17,8 @@ pub words_past : (text : List ℕ) (from n : ℕ) → n ≡ prefix_len is_white 
 words_past text from n e =
     let e' : n ≡ prefix_len is_white (drop from text) = e ∙ ap (λ (t : List ℕ). prefix_len is_white t) (tail_is text from) in
     let there : words_from from (drop from text) ≡ words_from (from + n) (drop n (drop from text)) =
-        subst (λ (k : ℕ). words_from from (drop from text) ≡ words_from (from + k) (drop k (drop from text))) (sym e')
-            (words_from-white from (drop from text)) in
+    subst (λ (k : ℕ). words_from from (drop from text) ≡ words_from (from + k) (drop k (drop from text))) (sym e')
+    (words_from-white from (drop from text)) in
     there ∙ ap (λ (t : List ℕ). words_from (from + n) t) (drop-drop n from text)
 
 pub no_words : (text : List ℕ) (from n : ℕ) → n ≡ prefix_len is_white (tail text from) → from + n ≡ length text → words_from from (drop from text) ≡ []
@@ -42,10 +42,10 @@ word_first text start m e positive =
     let e' : m ≡ prefix_len is_inked (drop start text) = e ∙ ap (λ (t : List ℕ). prefix_len is_inked t) (tail_is text start) in
     let there = words_from-inked start (drop start text) (omega arith) in
     let at_m : words_from start (drop start text) ≡ word start (take m (drop start text)) ∷ words_from (start + m) (drop m (drop start text)) =
-        subst
-            (λ (k : ℕ). words_from start (drop start text)
-                ≡ word start (take k (drop start text)) ∷ words_from (start + k) (drop k (drop start text)))
-            (sym e') there in
+    subst
+    (λ (k : ℕ). words_from start (drop start text)
+    ≡ word start (take k (drop start text)) ∷ words_from (start + k) (drop k (drop start text)))
+    (sym e') there in
     let k : m ≡ start + m - start = omega arith in
     at_m ∙ ap (λ (t : List ℕ). word start (take m (drop start text)) ∷ words_from (start + m) t) (drop-drop m start text)
-        ∙ ap (λ (j : ℕ). word start (take j (drop start text)) ∷ words_from (start + m) (drop (start + m) text)) k
+    ∙ ap (λ (j : ℕ). word start (take j (drop start text)) ∷ words_from (start + m) (drop (start + m) text)) k

@@ -45,9 +45,9 @@ cond_else false x y e = refl
 code_outside : (before : List Word) (w : Word) → in_comment before ≡ false → first_code word_rules before w ≡ cond (is_close_comment w || is_bad_keyword w) (Some 4) None
 code_outside before w h =
     rw h
-        (elim (is_close_comment w || is_bad_keyword w) as
-            (λ t. option_map (λ (r : ℕ × (List Word → Word → Bool)). r.0) (cond t (Some (4, bad_keyword)) None)
-                ≡ cond t (Some 4) None) [ true ↦ refl | false ↦ refl ])
+    (elim (is_close_comment w || is_bad_keyword w) as
+    (λ t. option_map (λ (r : ℕ × (List Word → Word → Bool)). r.0) (cond t (Some (4, bad_keyword)) None)
+    ≡ cond t (Some 4) None) [ true ↦ refl | false ↦ refl ])
 
 code_inside : (before : List Word) (w : Word) → in_comment before ≡ true → is_open_comment w ≡ false → first_code word_rules before w ≡ None
 code_inside before w h e = rw (h, e) refl
@@ -56,12 +56,12 @@ code_inside before w h e = rw (h, e) refl
 fault_later : (len : ℕ) (before : List Word) (w : Word) (ws : List Word) → first_code word_rules before w ≡ None → fault_from len before (w ∷ ws) ≡ fault_from len (w ∷ before) ws
 fault_later len before w ws e =
     ap (λ (o : Option ℕ). or_else (or_else (option_map (λ code. fault w.start code) o) (first_fault (λ b v. v.start) word_rules (w ∷ before) ws))
-        (cond (in_comment (reverse_aux ws (w ∷ before))) (Some (fault len 2)) None)) e
+    (cond (in_comment (reverse_aux ws (w ∷ before))) (Some (fault len 2)) None)) e
 
 fault_here : (len : ℕ) (before : List Word) (w : Word) (ws : List Word) (code : ℕ) → first_code word_rules before w ≡ Some code → fault_from len before (w ∷ ws) ≡ Some (fault w.start code)
 fault_here len before w ws code e =
     ap (λ (o : Option ℕ). or_else (or_else (option_map (λ code. fault w.start code) o) (first_fault (λ b v. v.start) word_rules (w ∷ before) ws))
-        (cond (in_comment (reverse_aux ws (w ∷ before))) (Some (fault len 2)) None)) e
+    (cond (in_comment (reverse_aux ws (w ∷ before))) (Some (fault len 2)) None)) e
 
 pub read_words-law : (c : Bool) (len : ℕ) (before ws : List Word) → in_comment before ≡ c → read_words c len ws ≡ outcome (fault_from len before ws) (map token_of (tokens_where c ws))
 read_words-law true len before [] h = rw h refl
@@ -99,8 +99,8 @@ read_words-law false len before (w ∷ ws) h =
                 let none : first_code word_rules before w ≡ None = code_outside before w h ∙ cond_else bad (Some 4) None b in
                 let k : is_close_comment w ≡ false = (or_parts (is_close_comment w) (is_bad_keyword w) b).0 in
                 let outside : in_comment (w ∷ before) ≡ false =
-                    cond_else (is_open_comment w) true (cond (is_close_comment w) false (in_comment before)) e
-                        ∙ cond_else (is_close_comment w) false (in_comment before) k ∙ h in
+                cond_else (is_open_comment w) true (cond (is_close_comment w) false (in_comment before)) e
+                ∙ cond_else (is_close_comment w) false (in_comment before) k ∙ h in
                 start ∙ cond_else bad (Err (fault w.start 4)) read b
                 ∙ ap (λ (r : Result (List Token) Fault). with_front (token_of w ∷ []) r) (read_words-law false len (w ∷ before) ws outside)
                 ∙ outcome-front (token_of w) (fault_from len (w ∷ before) ws) (map token_of (tokens_where false ws))

@@ -18,7 +18,7 @@ read_words in_comment len [] = if in_comment then Err (fault len 2) else Ok []
 read_words true len (w ∷ ws) = if is_open_comment w then Err (fault w.start 3) else read_words (not (is_close_comment w)) len ws
 read_words false len (w ∷ ws) =
     if is_open_comment w then read_words true len ws else
-        (if is_close_comment w || is_bad_keyword w then Err (fault w.start 4) else with_front (token_of w ∷ []) (read_words false len ws))
+    (if is_close_comment w || is_bad_keyword w then Err (fault w.start 4) else with_front (token_of w ∷ []) (read_words false len ws))
 
 -- what the reader answers is what reading gives, unless memory runs out
 abbrev pub FailsWith : TokenFault → Result (List Token) Fault → Type 0

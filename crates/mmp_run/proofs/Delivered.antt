@@ -113,8 +113,13 @@ later before mid now fell rose = omega arith
 fault_later : (command : Command) (files : Option Files) (before mid now : Name → ℕ) (end : Ending) → NoneFell mid now
     → IsReadFault command files before mid end → IsReadFault command files before now end
 fault_later command files before mid now end fell f =
-    record { name = f.name; named = f.named; in_turn = f.in_turn; rose = later (before f.name) (mid f.name) (now f.name) (fell f.name) f.rose;
-        says = f.says }
+    record {
+      name = f.name;
+      named = f.named;
+      in_turn = f.in_turn;
+      rose = later (before f.name) (mid f.name) (now f.name) (fell f.name) f.rose;
+      says = f.says;
+    }
 
 by_words : (files : Option Files) (before mid now : Name → ℕ) (end : Ending) (o : Option Command) → NoneFell mid now → MayEndFor o files before mid end
     → MatchOption (option_and_then database_of o) (CallAnswer no_files o end)

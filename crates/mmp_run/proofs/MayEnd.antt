@@ -134,7 +134,7 @@ module _ (command : SheetCommand) (is_in_place : Bool) (database : List ℕ) whe
       (λ none. absurd (some_not_none command.database none))
   may_refuse_sheet told before mid now end opened fell (inr is) =
       may_not_read (unify command is_in_place) told before now command.sheet end (inr refl) (inr (sound told opened))
-          (rose_since (before command.sheet) (mid command.sheet) (now command.sheet) (fell command.sheet) is.rose) is.says
+      (rose_since (before command.sheet) (mid command.sheet) (now command.sheet) (fell command.sheet) is.rose) is.says
 
   due_unified : (told : Option Files) (text : List ℕ) (end : Ending) → IsOpen told command.database database → Has told command.sheet text → IsUnified command.options database text end
       → IfSome told (λ files. CallAnswer files (Some (unify command is_in_place)) end)

@@ -100,10 +100,10 @@ unfolding found frame_by
 no_theorem_of ss name l f e is h =
     let none : proof_of ss l ≡ None = no_words ss l (statement_of ss l) f is h in
     ap (found ss) e
-        ∙ ap
-            (λ (o : Option (List Name)). option_and_then {U = Theorem × List Name} (λ f. option_map (λ words. (theorem_of_frame ss f, words)) o)
-                (frame_of ss l)) none
-        ∙ none_of ss (frame_of ss l)
+    ∙ ap
+    (λ (o : Option (List Name)). option_and_then {U = Theorem × List Name} (λ f. option_map (λ words. (theorem_of_frame ss f, words)) o)
+    (frame_of ss l)) none
+    ∙ none_of ss (frame_of ss l)
 
 pub theorem_of_name : (ss : List Statement) (name : List ℕ) (l : Label) (f : Frame) → label_named (labels ss) name ≡ Some l → frame_of ss l ≡ Some f → f.is_axiom ≡ false → IsTheorem ss name l
 unfolding frame_by

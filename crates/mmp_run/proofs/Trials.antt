@@ -90,14 +90,14 @@ tried_written blocks d outcome end is is_outcome tells =
           tells
           ∙ ap (λ (r : List ReportLine). ending (length r) (fits_in r) (letter_count (proof_line outcome.text)) outcome.finished) is_outcome.written.report
           ∙ ap
-              (λ (t : List ℕ). ending (length (written_report db trial_options w)) (fits_in (written_report db trial_options w))
-                  (letter_count (proof_line t)) outcome.finished) is_outcome.written.text
+          (λ (t : List ℕ). ending (length (written_report db trial_options w)) (fits_in (written_report db trial_options w))
+          (letter_count (proof_line t)) outcome.finished) is_outcome.written.text
           ∙ ap
-              (λ (b : Bool). ending (length (written_report db trial_options w)) (fits_in (written_report db trial_options w))
-                  (letter_count (proof_line (written_text db trial_options w))) b) is_outcome.written.finished
+          (λ (b : Bool). ending (length (written_report db trial_options w)) (fits_in (written_report db trial_options w))
+          (letter_count (proof_line (written_text db trial_options w))) b) is_outcome.written.finished
           ∙ ap (λ (n : ℕ). ending n (fits_in (written_report db trial_options w)) (letter_count (proof_line (written_text db trial_options w))) w.finished) (length-map (steps_in w.items) _)
           ∙ ap (λ (n : ℕ). ending (length (steps_in w.items)) n (letter_count (proof_line (written_text db trial_options w))) w.finished)
-              (count_by-map (λ (line : ReportLine). is_fits line.verdict) _ (steps_in w.items));
+          (count_by-map (λ (line : ReportLine). is_fits line.verdict) _ (steps_in w.items));
     }
 
 pub tried_ok : (blocks : ℕ) (options : Options) (d : opened.Opened) (outcome : Outcome) (end : Result Ending memory.Memory) → options ≡ trial_options

@@ -57,13 +57,13 @@ said_code text name l t f e =
     said_of text name l t (bad_code f)
     (subst (λ (o : Option Fault). MatchOption o
     ((code : Code) × IsCodeOf (labels_of_hyps t.frame.hyps) t.words code
-        × (bad_code f ≡ verdict_of (proof_fault (frames_of_database (statements text)) (theorem_of_frame (statements text) t.frame) code)))
+    × (bad_code f ≡ verdict_of (proof_fault (frames_of_database (statements text)) (theorem_of_frame (statements text) t.frame) code)))
     (λ g. bad_code f ≡ bad_code g)) (sym e) refl)
 
 said_proof : (text name : List ℕ) (l : Label) (t : IsTheorem (statements text) name l) (code : Code) (v : Verdict) → proof_code_fault (labels_of_hyps t.frame.hyps) t.words ≡ None
     → IsCodeOf (labels_of_hyps t.frame.hyps) t.words code
-        → verdict_of (proof_fault (frames_of_database (statements text)) (theorem_of_frame (statements text) t.frame) code) ≡ v
-        → IsVerdict text name v
+    → verdict_of (proof_fault (frames_of_database (statements text)) (theorem_of_frame (statements text) t.frame) code) ≡ v
+    → IsVerdict text name v
 said_proof text name l t code v e is says =
     said_of text name l t v
     (subst (λ (o : Option Fault). MatchOption o
@@ -73,13 +73,13 @@ said_proof text name l t code v e is says =
 -- by the theorem that the machine was given
 pub said_machine : (text name : List ℕ) (l : Label) (t : IsTheorem (statements text) name l) (theorem : Theorem) (code : Code) (v : Verdict) → theorem ≡ theorem_of_frame (statements text) t.frame
     → proof_code_fault (labels_of_hyps t.frame.hyps) t.words ≡ None → IsCodeOf (labels_of_hyps t.frame.hyps) t.words code
-        → verdict_of (proof_fault (frames_of_database (statements text)) theorem code) ≡ v → IsVerdict text name v
+    → verdict_of (proof_fault (frames_of_database (statements text)) theorem code) ≡ v → IsVerdict text name v
 said_machine text name l t theorem code v e sound is says =
     said_proof text name l t code v sound is (subst (λ (h : Theorem). verdict_of (proof_fault (frames_of_database (statements text)) h code) ≡ v) e says)
 
 pub said_accepted : (text name : List ℕ) (l : Label) (t : IsTheorem (statements text) name l) (theorem : Theorem) (code : Code) → theorem ≡ theorem_of_frame (statements text) t.frame
     → proof_code_fault (labels_of_hyps t.frame.hyps) t.words ≡ None → IsCodeOf (labels_of_hyps t.frame.hyps) t.words code
-        → Accepts (frames_of_database (statements text)) theorem code → IsVerdict text name accepted
+    → Accepts (frames_of_database (statements text)) theorem code → IsVerdict text name accepted
 said_accepted text name l t theorem code e sound is accepts =
     said_machine text name l t theorem code accepted e sound is (ap verdict_of accepts)
 

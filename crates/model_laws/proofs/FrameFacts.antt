@@ -92,8 +92,8 @@ apart_one s v is (h ∷ hs) none = elim (cases_Bool (is_float h)) [
   | inl d ↦
       let two : contains (types h ++ flat_map types (with_keyword (codes "$f") hs)) v ≡ false = rw d at none in
       let halves =
-          or_parts (contains (types h) v) (contains (flat_map types (with_keyword (codes "$f") hs)) v)
-              (sym (list_any-append (bytes_eq v) (types h) (flat_map types (with_keyword (codes "$f") hs))) ∙ two) in (
+      or_parts (contains (types h) v) (contains (flat_map types (with_keyword (codes "$f") hs)) v)
+      (sym (list_any-append (bytes_eq v) (types h) (flat_map types (with_keyword (codes "$f") hs))) ∙ two) in (
         (λ f g u c there.
             let in_one : contains (v ∷ []) u ≡ true = sym (ap (λ ns. contains ns u) is) ∙ c in
             let same : u ≡ v = only u v in_one in
@@ -247,7 +247,7 @@ module _ (names mandatory : List Name) where
 
   others : (known : (n : Name) → contains mandatory n ≡ true → contains names n ≡ true) → (h : Statement) → is_float h ≡ true → (m : IsMandatory mandatory h)
       → (hs : List Statement) → AllByRecursion (λ x. is_float x ≡ true) hs → AllByRecursion (IsMandatory mandatory) hs → AllByRecursion (Apart h) hs
-          → AllByRecursion (Other (variable_of h m)) (typed_list hs)
+      → AllByRecursion (Other (variable_of h m)) (typed_list hs)
   others known h f m [] fs ms apart = tt
   others known h f m (x ∷ hs) fs ms apart =
       let stands : contains (second (symbols_in h)) m.variable ≡ true = ap (λ ns. contains (second ns) m.variable) m.symbols ∙ alone m.variable in

@@ -68,7 +68,7 @@ module _ (b : List Statement) (h : Statement) (front rest : List Statement) (is 
   type_stays : (n : Name) → contains (typed l.before) n ≡ true → contains (typed b) n ≡ true
   type_stays n c =
       ap (λ x. contains (listed (codes "$f") (λ (s : Statement). second (symbols_in s)) x) n) active_is
-          ∙ listed-right (codes "$f") (λ (s : Statement). second (symbols_in s)) (front ++ h ∷ []) (active l.before) n c
+      ∙ listed-right (codes "$f") (λ (s : Statement). second (symbols_in s)) (front ++ h ∷ []) (active l.before) n c
 
   meaning_stays : (n : Name) → Meant l.before n → Meant b n
   meaning_stays n m = elim m [ inl c ↦ inl (constant_stays n c) | inr v ↦ inr (variable_stays n v.0, type_stays n v.1) ]

@@ -191,7 +191,7 @@ labels_are_named text ok =
     let inked = all_pieces IsInked labels_in ss (all_with AreInked (λ s. AllByRecursion IsInked (labels_in s)) labels_inked ss (statements_inked text)) in
     all_mapped (λ n. is_label n ≡ true) (λ (w : Word). w.bytes) (flat_map labels_in ss)
     (both IsInked HasLabelBytes (λ (w : Word). is_label w.bytes ≡ true)
-        (λ w i b. and_from (not (length w.bytes == 0)) (list_all is_label_byte w.bytes) (ap not i.some) b) (flat_map labels_in ss) inked bytes)
+    (λ w i b. and_from (not (length w.bytes == 0)) (list_all is_label_byte w.bytes) (ap not i.some) b) (flat_map labels_in ss) inked bytes)
 
 pub names_words : NamesAreWords
 names_words kinds text db is ok =

@@ -130,7 +130,7 @@ module _ (names mandatory : List Name) (n : Name) (known : contains names n ≡ 
 
   pub same_code : (hs : List Statement)
       → float_of (symbol_in names n) (map (hypothesis_of names) (filter is_hypothesis hs))
-          ≡ float_of (symbol_in names n) (map (hypothesis_of names) (filter (counts mandatory) hs))
+      ≡ float_of (symbol_in names n) (map (hypothesis_of names) (filter (counts mandatory) hs))
   same_code hs =
       ap (λ vs. option_map (λ (v : TypedVariable). v.code) (find is_it vs)) (typed_are (filter is_hypothesis hs))
       ∙ ap (option_map (λ (v : TypedVariable). v.code)) (kept_find hs)

@@ -135,14 +135,14 @@ frame_codes_at ss l at s each v m =
     let b = below ss at in
     let mandatory = mandatory_at ss at s in
     let r =
-        float_origin (symbols ss) mandatory (floats_of mandatory b) (floats_mandatory mandatory b each)
-            (all_floats (mandatory_hypotheses mandatory b)) v (subst (λ vs. Contains vs v) (typed_at ss l at s) m) in
+    float_origin (symbols ss) mandatory (floats_of mandatory b) (floats_mandatory mandatory b each)
+    (all_floats (mandatory_hypotheses mandatory b)) v (subst (λ vs. Contains vs v) (typed_at ss l at s) m) in
     let one =
-        any-with (λ x. is_float x && gives r.0 x) (gives r.0) (λ x d. (and_parts (is_float x) (gives r.0 x) d).1) (mandatory_hypotheses mandatory b)
-            (any-filter (gives r.0) is_float (mandatory_hypotheses mandatory b) r.2) in
+    any-with (λ x. is_float x && gives r.0 x) (gives r.0) (λ x d. (and_parts (is_float x) (gives r.0 x) d).1) (mandatory_hypotheses mandatory b)
+    (any-filter (gives r.0) is_float (mandatory_hypotheses mandatory b) r.2) in
     let two =
-        any-with (λ x. counts mandatory x && gives r.0 x) (gives r.0) (λ x d. (and_parts (counts mandatory x) (gives r.0 x) d).1) (reverse (active b))
-            (any-filter (gives r.0) (counts mandatory) (reverse (active b)) one) in
+    any-with (λ x. counts mandatory x && gives r.0 x) (gives r.0) (λ x d. (and_parts (counts mandatory x) (gives r.0 x) d).1) (reverse (active b))
+    (any-filter (gives r.0) (counts mandatory) (reverse (active b)) one) in
     let three = any-reverse (gives r.0) (take at ss) (any-active (gives r.0) (path b) b (any-reverse (gives r.0) (active b) two)) in
     subst (Contains (float_codes ss at)) r.1 (coded_in (symbols ss) (code_names (take at ss)) r.0 (into_codes (take at ss) r.0 three))
 
@@ -150,7 +150,7 @@ frame_codes_at ss l at s each v m =
 constants_on : (s : Statement) (e : List Statement) (n : Name) → contains (constants e) n ≡ true → contains (constants (s ∷ e)) n ≡ true
 constants_on s e n h =
     ap (λ ns. contains ns n) (constants-cons s e) ∙ list_any-append (bytes_eq n) (added (codes "$c") symbols_in s) (constants e)
-        ∙ or_right (contains (added (codes "$c") symbols_in s) n) (contains (constants e) n) h
+    ∙ or_right (contains (added (codes "$c") symbols_in s) n) (contains (constants e) n) h
 
 first_known : (e : List Statement) (ns : List Name) (n : Name) → FloatKnown e ns → contains (take 1 ns) n ≡ true → contains (constants e) n ≡ true
 first_known e [] n k h = absurd cc
@@ -222,7 +222,7 @@ module _ (kinds : Kinds) (text : List ℕ) (db : Database) (is : IsDatabaseOf ki
       let there = found IsChecked (last_first text) k.at k.statement each k.stands in
       is.is_constant_at c f.at
       ∙ subst (λ (x : Frame). x.formula ≡ c ∷ rest → is_constant_at ss c x.at ≡ true) k.frame
-          (first_constant ss k.at (symbols_in k.statement) (assertion_known (below ss k.at) k.statement there.here k.assertion) c rest) e
+      (first_constant ss k.at (symbols_in k.statement) (assertion_known (below ss k.at) k.statement there.here k.assertion) c rest) e
 
   more_codes : (p q : ℕ) (c : Typecode) → p ≤ q → Contains (db.float_codes p) c → Contains (db.float_codes q) c
   more_codes p q c le m = subst (λ cs. Contains cs c) (sym (is.float_codes q)) (codes_more ss p q c le (subst (λ cs. Contains cs c) (is.float_codes p) m))

@@ -102,8 +102,8 @@ no_essential names mandatory b e =
     let turned : AllByRecursion (λ h. has_keyword (codes "$e") h ≡ false) (reverse (active b)) =
     all_with (λ h. counts mandatory h ≡ true → not (is_float h) ≡ true → ⊥) (λ h. has_keyword (codes "$e") h ≡ false)
     (λ h c. false_from_ne_true (has_keyword (codes "$e") h)
-        (λ is_e. c (or_left _ _ is_e) (not_from_false (is_float h) (one_keyword h (codes "$e") (codes "$f") is_e refl))))
-        (reverse (active b)) each in
+    (λ is_e. c (or_left _ _ is_e) (not_from_false (is_float h) (one_keyword h (codes "$e") (codes "$f") is_e refl))))
+    (reverse (active b)) each in
     none_kept (has_keyword (codes "$e")) (active b) (subst (AllByRecursion (λ h. has_keyword (codes "$e") h ≡ false)) (reverse-reverse (active b)) (all-reverse _ (reverse (active b)) turned))
 
 -- ---- the number of a variable in the frame

@@ -171,7 +171,7 @@ LabelIsNew e (l ∷ m ∷ ls) = ⊥
 
 label_here : (e : List Statement) (l : Word) (after : List Word) → At e [] l after → is_word l ≡ true
     → (contains (labels e) l.bytes ≡ false)
-        × (list_any (λ v. not (is_one_of (codes "$f" ∷ codes "$e" ∷ codes "$a" ∷ codes "$p" ∷ []) v)) (take 1 after) ≡ false)
+    × (list_any (λ v. not (is_one_of (codes "$f" ∷ codes "$e" ∷ codes "$a" ∷ codes "$p" ∷ []) v)) (take 1 after) ≡ false)
 label_here e l after a h =
     let fail = rules_fail a.before l after a.no_rule in
     let empty : is_empty (unended a.before) ≡ true = ap is_empty a.unended_is in

@@ -79,15 +79,15 @@ Apart e = (n : Name) → contains (constants e) n ≡ true → contains (variabl
 apart_step : (s : Statement) (e : List Statement) → IsChecked e s → Apart e → Apart (s ∷ e)
 apart_step s e c h n a b =
     let left =
-        or_cases (contains (added (codes "$c") symbols_in s) n) (contains (constants e) n)
-            (sym (ap (λ ns. contains ns n) (constants-cons s e) ∙ list_any-append (bytes_eq n) (added (codes "$c") symbols_in s) (constants e))
-                ∙ a) in
+    or_cases (contains (added (codes "$c") symbols_in s) n) (contains (constants e) n)
+    (sym (ap (λ ns. contains ns n) (constants-cons s e) ∙ list_any-append (bytes_eq n) (added (codes "$c") symbols_in s) (constants e))
+    ∙ a) in
     let right =
-        or_cases (contains (added (codes "$v") symbols_in s) n) (contains (variables_ever e) n)
-            (sym
-                (ap (λ ns. contains ns n) (variables_ever-cons s e)
-                    ∙ list_any-append (bytes_eq n) (added (codes "$v") symbols_in s) (variables_ever e))
-                ∙ b) in
+    or_cases (contains (added (codes "$v") symbols_in s) n) (contains (variables_ever e) n)
+    (sym
+    (ap (λ ns. contains ns n) (variables_ever-cons s e)
+    ∙ list_any-append (bytes_eq n) (added (codes "$v") symbols_in s) (variables_ever e))
+    ∙ b) in
     elim left [
       | inl x ↦
           let mine = added_by (codes "$c") s n (has_keyword (codes "$c") s) refl x in
@@ -95,13 +95,13 @@ apart_step s e c h n a b =
             | inl y ↦ let its = added_by (codes "$v") s n (has_keyword (codes "$v") s) refl y in both_ways (has_keyword (codes "$v") s) (one_keyword s (codes "$c") (codes "$v") mine.0 refl) its.0
             | inr y ↦ both_ways (contains (variables_ever e) n)
                 (of_contained (λ m. contains (variables_ever e) m ≡ false) (symbols_in s) n
-                    (all_symbols _ e s (codes "$c") c mine.0 refl (constant_is_new e)) mine.1) y
+                (all_symbols _ e s (codes "$c") c mine.0 refl (constant_is_new e)) mine.1) y
           ]
       | inr x ↦ elim right [
         | inl y ↦ let its = added_by (codes "$v") s n (has_keyword (codes "$v") s) refl y in
             both_ways (contains (constants e) n)
-                (of_contained (λ m. contains (constants e) m ≡ false) (symbols_in s) n
-                    (all_symbols _ e s (codes "$v") c its.0 refl (variable_is_new e)) its.1) x
+            (of_contained (λ m. contains (constants e) m ≡ false) (symbols_in s) n
+            (all_symbols _ e s (codes "$v") c its.0 refl (variable_is_new e)) its.1) x
         | inr y ↦ h n x y
       ]
     ]
@@ -113,9 +113,9 @@ apart (s ∷ e) h n a b = apart_step s e h.0 (apart e h.1) n a b
 pub active_ever : (b : List Statement) (n : Name) → contains (variables b) n ≡ true → contains (variables_ever b) n ≡ true
 active_ever b n h =
     let some =
-        any-active _ (path b) b
-            (any-filter (λ x. contains (symbols_in x) n) (has_keyword (codes "$v")) (active b)
-                (sym (any-flat (bytes_eq n) symbols_in (with_keyword (codes "$v") (active b))) ∙ h)) in
+    any-active _ (path b) b
+    (any-filter (λ x. contains (symbols_in x) n) (has_keyword (codes "$v")) (active b)
+    (sym (any-flat (bytes_eq n) symbols_in (with_keyword (codes "$v") (active b))) ∙ h)) in
     any-flat (bytes_eq n) symbols_in (with_keyword (codes "$v") b) ∙ any_kept (λ x. contains (symbols_in x) n) (has_keyword (codes "$v")) b some
 
 -- ---- a mandatory variable stands
@@ -164,16 +164,16 @@ module _ (ss : List Statement) (l : Label) (at : ℕ) (s : Statement) (each : Ea
   in_essential n h =
       let one = any-filter (λ x. contains (symbols_in x) n) (has_keyword (codes "$e")) (active b) h in
       let two =
-          any-reverse (λ x. has_keyword (codes "$e") x && contains (symbols_in x) n) (reverse (active b))
-              (ap (list_any (λ x. has_keyword (codes "$e") x && contains (symbols_in x) n)) (reversed (active b)) ∙ one) in
+      any-reverse (λ x. has_keyword (codes "$e") x && contains (symbols_in x) n) (reverse (active b))
+      (ap (list_any (λ x. has_keyword (codes "$e") x && contains (symbols_in x) n)) (reversed (active b)) ∙ one) in
       let three = any-with (λ x. has_keyword (codes "$e") x && contains (symbols_in x) n) (λ x. counts mandatory x && (not (is_float x) && contains (symbols_in x) n))
       (λ x d.
       let both = and_parts (has_keyword (codes "$e") x) (contains (symbols_in x) n) d in
       and_from (counts mandatory x) _ (or_left _ _ both.0)
-          (and_from (not (is_float x)) _ (not_from_false (is_float x) (one_keyword x (codes "$e") (codes "$f") both.0 refl)) both.1))
-          (reverse (active b)) two in
+      (and_from (not (is_float x)) _ (not_from_false (is_float x) (one_keyword x (codes "$e") (codes "$f") both.0 refl)) both.1))
+      (reverse (active b)) two in
       any_kept (λ x. contains (symbols_in x) n) (λ h. not (is_float h)) (mandatory_hypotheses mandatory b)
-          (any_kept (λ x. not (is_float x) && contains (symbols_in x) n) (counts mandatory) (reverse (active b)) three)
+      (any_kept (λ x. not (is_float x) && contains (symbols_in x) n) (counts mandatory) (reverse (active b)) three)
     where
       reversed : (xs : List Statement) → reverse (reverse xs) ≡ xs
       reversed xs = reverse-reverse xs
@@ -197,9 +197,13 @@ module _ (ss : List Statement) (l : Label) (at : ℕ) (s : Statement) (each : Ea
           | inr d ↦
               let r = any_at (λ (x : Statement). contains (symbols_in x) n) essential (in_essential n d) in
               let at_hyp = ap (λ hs. slice_get hs r.0) essentials_are ∙ slice_get-map (hypothesis_of (symbols ss)) essential r.0 ∙ rw r.2 refl in
-              inr (r.0, hypothesis_of (symbols ss) r.1, at_hyp,
-                  behind (symbols ss) (symbols_in r.1) b n (apart b each)
-                      (all_at (λ h. FormulaKnown b (symbols_in h)) essential r.0 r.1 known r.2) both.0 r.3)
+              inr (
+                r.0,
+                hypothesis_of (symbols ss) r.1,
+                at_hyp,
+                behind (symbols ss) (symbols_in r.1) b n (apart b each)
+                    (all_at (λ h. FormulaKnown b (symbols_in h)) essential r.0 r.1 known r.2) both.0 r.3,
+              )
         ],
       )
 
@@ -222,8 +226,8 @@ variables_stand text db shows ok l f frame v h =
     let known = assertion_known (below ss k.at) k.statement there.here k.assertion in
     let place = at_place (typed_variables f.hyps) v h in
     let stands =
-        subst
-            (λ (x : Frame). slice_get (typed_variables x.hyps) place.0 ≡ Some v
-                → (is_constant_at ss v.sym x.at ≡ false) × StandsInFrame x v.sym) k.frame
-            (stands_at ss l k.at k.statement there.before known place.0 v) place.1 in
+    subst
+    (λ (x : Frame). slice_get (typed_variables x.hyps) place.0 ≡ Some v
+    → (is_constant_at ss v.sym x.at ≡ false) × StandsInFrame x v.sym) k.frame
+    (stands_at ss l k.at k.statement there.before known place.0 v) place.1 in
     (shows.is_constant_at v.sym f.at ∙ stands.0, stands.1)

@@ -114,11 +114,11 @@ active_source names (h ∷ hs) v f m = by (symbols_in h) refl (active_source nam
 
     found_in : (a b : Name) (ns : List Name) → symbols_in h ≡ a ∷ b ∷ ns
         → (Contains (flat_map (λ (x : Hyp). typed_by x.formula) (map (hypothesis_of names) hs)) v
-            → (n : Name) × (coded names n ≡ v.code) × (list_any (gives n) hs ≡ true))
+        → (n : Name) × (coded names n ≡ v.code) × (list_any (gives n) hs ≡ true))
         → Contains
-            ((let q : TypedVariable = record { sym = symbol_in names b; code = typecode (symbol_in names a) } in q)
-                ∷ flat_map (λ (x : Hyp). typed_by x.formula) (map (hypothesis_of names) hs)) v
-            → (n : Name) × (coded names n ≡ v.code) × (list_any (gives n) (h ∷ hs) ≡ true)
+        ((let q : TypedVariable = record { sym = symbol_in names b; code = typecode (symbol_in names a) } in q)
+        ∷ flat_map (λ (x : Hyp). typed_by x.formula) (map (hypothesis_of names) hs)) v
+        → (n : Name) × (coded names n ≡ v.code) × (list_any (gives n) (h ∷ hs) ≡ true)
     found_in a b ns e rest (zero, l, q) =
         let stands : contains (take 1 (symbols_in h)) a ≡ true = ap (λ xs. contains (take 1 xs) a) e ∙ or_left (bytes_eq a a) false (name_self a) in
         (a, ap (λ (x : TypedVariable). x.code) q, or_left (gives a h) (list_any (gives a) hs) (and_from (is_float h) _ f.0 stands))
@@ -126,7 +126,7 @@ active_source names (h ∷ hs) v f m = by (symbols_in h) refl (active_source nam
 
     by : (ns : List Name) → symbols_in h ≡ ns
         → (Contains (flat_map (λ (x : Hyp). typed_by x.formula) (map (hypothesis_of names) hs)) v
-            → (n : Name) × (coded names n ≡ v.code) × (list_any (gives n) hs ≡ true))
+        → (n : Name) × (coded names n ≡ v.code) × (list_any (gives n) hs ≡ true))
         → (n : Name) × (coded names n ≡ v.code) × (list_any (gives n) (h ∷ hs) ≡ true)
     by [] e rest = more (rest (moved [] e))
     by (a ∷ []) e rest = more (rest (moved (a ∷ []) e))
@@ -148,8 +148,8 @@ active_codes_at ss p v m =
     let r = active_source (symbols ss) (filter is_float hs) v (all_floats hs) m' in
     let one = any-with (λ x. is_float x && gives r.0 x) (gives r.0) (λ x d. (and_parts (is_float x) (gives r.0 x) d).1) hs (any-filter (gives r.0) is_float hs r.2) in
     let two =
-        any-with (λ x. is_hypothesis x && gives r.0 x) (gives r.0) (λ x d. (and_parts (is_hypothesis x) (gives r.0 x) d).1) (reverse (active b))
-            (any-filter (gives r.0) is_hypothesis (reverse (active b)) one) in
+    any-with (λ x. is_hypothesis x && gives r.0 x) (gives r.0) (λ x d. (and_parts (is_hypothesis x) (gives r.0 x) d).1) (reverse (active b))
+    (any-filter (gives r.0) is_hypothesis (reverse (active b)) one) in
     let three = any-reverse (gives r.0) (take p ss) (any-active (gives r.0) (path b) b (any-reverse (gives r.0) (active b) two)) in
     subst (Contains (float_codes ss p)) r.1 (coded_in (symbols ss) (code_names (take p ss)) r.0 (into_codes (take p ss) r.0 three))
 
@@ -289,8 +289,8 @@ module _ (kinds : Kinds) (text : List ℕ) (db : Database) (is : IsDatabaseOf ki
         let none : get_or (symbols ss) s.0 [] ≡ [] = past (symbols ss) s.0 (subst (λ names. length names ≤ s.0) is.symbols long) in
         let here : contains (constants (below ss p)) [] ≡ true = ap (contains (constants (below ss p))) (sym none) ∙ sym (is.is_constant_at s p) ∙ h in
         let some =
-            any-take (λ x. has_keyword (codes "$c") x && contains (symbols_in x) []) p ss
-                (any-reverse (λ x. has_keyword (codes "$c") x && contains (symbols_in x) []) (take p ss) (from_constants (below ss p) [] here)) in
+        any-take (λ x. has_keyword (codes "$c") x && contains (symbols_in x) []) p ss
+        (any-reverse (λ x. has_keyword (codes "$c") x && contains (symbols_in x) []) (take p ss) (from_constants (below ss p) [] here)) in
         absurd (none_declares (last_first text) all_filled (any-reverse (λ x. has_keyword (codes "$c") x && contains (symbols_in x) []) (last_first text) some))
   ]
 

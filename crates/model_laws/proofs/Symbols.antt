@@ -54,9 +54,9 @@ module _ (e : List Statement) (k : List ℕ) (us : List Word) (w : Word) (after 
   declared h =
       let fail : not_active before w after ≡ false = (rules_fail before w after f.here.no_rule).1.1.1.0 in
       let one : ((is_symbol_of asserting before w || (is_symbol_of (codes "$f" ∷ []) before w && is_first before)) && not (is_constant before w)
-          && not (is_variable before w))
-          ≡ false =
-          (or_parts _ _ fail).0 in
+      && not (is_variable before w))
+      ≡ false =
+      (or_parts _ _ fail).0 in
       let c : is_constant before w ≡ contains (constants e) w.bytes = ap (λ (x : List Statement). contains (constants x) w.bytes) f.here.ended_is in
       let v : is_variable before w ≡ contains (variables e) w.bytes = ap (λ (x : List Statement). contains (variables x) w.bytes) f.here.ended_is in
       elim (declared_by (is_constant before w) (is_variable before w) (rw h at one)) [ inl d ↦ inl (sym c ∙ d) | inr d ↦ inr (sym v ∙ d) ]

@@ -34,8 +34,8 @@ not_noted items places n noted e = sym (nowhere items n (λ i h. let both : Some
 pub noted_past : (items places : List ℕ) (n p : ℕ) → Noted items places → slice_get places n ≡ Some p → slice_get items p ≡ None → false ≡ list_any (nat_eq n) items
 noted_past items places n p noted e past =
     sym (nowhere items n
-        (λ i h. let same : i ≡ p = some_is i p (sym (noted i n h) ∙ e) in
-            let both : None ≡ Some n = sym past ∙ subst (λ (j : ℕ). slice_get items j ≡ Some n) same h in absurd cc))
+    (λ i h. let same : i ≡ p = some_is i p (sym (noted i n h) ∙ e) in
+    let both : None ≡ Some n = sym past ∙ subst (λ (j : ℕ). slice_get items j ≡ Some n) same h in absurd cc))
 
 pub noted_there : (items places : List ℕ) (n p m : ℕ) → Noted items places → slice_get places n ≡ Some p → slice_get items p ≡ Some m → nat_eq m n ≡ list_any (nat_eq n) items
 noted_there items places n p m noted e there =
@@ -43,10 +43,10 @@ noted_there items places n p m noted e there =
       | inl h ↦ let same : m ≡ n = grind (arith, nat_tests) in h ∙ sym (found items p n (there ∙ ap (λ (k : ℕ). Some k) same))
       | inr h ↦ h
           ∙ sym
-              (nowhere items n
-                  (λ i g. let same : i ≡ p = some_is i p (sym (noted i n g) ∙ e) in
-                      let here : Some m ≡ Some n = sym there ∙ subst (λ (j : ℕ). slice_get items j ≡ Some n) same g in
-                      let is : m ≡ n = some_is m n here in let t : eqb m n ≡ true = grind (arith, nat_tests) in absurd cc))
+          (nowhere items n
+          (λ i g. let same : i ≡ p = some_is i p (sym (noted i n g) ∙ e) in
+          let here : Some m ≡ Some n = sym there ∙ subst (λ (j : ℕ). slice_get items j ≡ Some n) same g in
+          let is : m ≡ n = some_is m n here in let t : eqb m n ≡ true = grind (arith, nat_tests) in absurd cc))
     ]
 
 -- ---- a number is put in

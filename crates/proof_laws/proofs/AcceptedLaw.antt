@@ -55,6 +55,7 @@ module _ (frames : Frames) (thm : Theorem) where
       ∙ ap (λ b. option_map {U = ℕ × MachineFault} (λ x. (n, x)) (cond b None (Some result_differs))) (formula_self thm.formula)
 
   pub ends_with_theorem : EndsWithTheorem frames thm
-  ends_with_theorem code =
-      (accepted_ends (run_steps frames thm code.labels 0 code.steps start) (length code.steps),
-          ends_accepted (run_steps frames thm code.labels 0 code.steps start) (length code.steps))
+  ends_with_theorem code = (
+    accepted_ends (run_steps frames thm code.labels 0 code.steps start) (length code.steps),
+    ends_accepted (run_steps frames thm code.labels 0 code.steps start) (length code.steps),
+  )

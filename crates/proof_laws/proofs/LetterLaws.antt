@@ -26,7 +26,7 @@ pub skip : {X : Type 0} (code : ℕ) (rule : List X → X → Bool) (table : Lis
     → first_code ((code, rule) ∷ table) before x ≡ first_code table before x
 skip {X} code rule table before x e =
     ap (λ (r : Option (ℕ × (List X → X → Bool))). option_map (λ (q : ℕ × (List X → X → Bool)). q.0) r)
-        (cond_else (rule before x) (Some (code, rule)) (find (λ (q : ℕ × (List X → X → Bool)). q.1 before x) table) e)
+    (cond_else (rule before x) (Some (code, rule)) (find (λ (q : ℕ × (List X → X → Bool)). q.1 before x) table) e)
 
 -- ---- kinds of letters
 

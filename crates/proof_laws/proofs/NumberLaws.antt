@@ -96,6 +96,10 @@ spells_what m n what.Unknown = refl
 
 pub spells_steps : StepsAreSpelled
 spells_steps m n [] = refl
-spells_steps m n (s ∷ ss) =
-    (what_letters m n s.what ++ mark s.marked, steps_letters m n ss, refl,
-        record { front = what_letters m n s.what; what = spells_what m n s.what; whole = refl }, spells_steps m n ss)
+spells_steps m n (s ∷ ss) = (
+  what_letters m n s.what ++ mark s.marked,
+  steps_letters m n ss,
+  refl,
+  record { front = what_letters m n s.what; what = spells_what m n s.what; whole = refl },
+  spells_steps m n ss,
+)

@@ -133,6 +133,6 @@ pub spells_one : (text : List ℕ) (mandatory : List (List ℕ)) (c d : Code) �
 spells_one text mandatory c d s t =
     let labels : d.labels ≡ c.labels = t.labels ∙ sym s.labels in
     let steps : SpellsSteps (length mandatory) (length c.labels) (letters_of text) d.steps =
-        subst (λ (ls : List (List ℕ)). SpellsSteps (length mandatory) (length ls) (letters_of text) d.steps) labels t.steps in
+    subst (λ (ls : List (List ℕ)). SpellsSteps (length mandatory) (length ls) (letters_of text) d.steps) labels t.steps in
     let there : AreInRange (length mandatory) (length c.labels) 0 d.steps = subst (λ (ls : List (List ℕ)). AreInRange (length mandatory) (length ls) 0 d.steps) labels t.in_range in
     same_code c d (sym labels) (steps_one (length mandatory) (length c.labels) 0 (letters_of text) c.steps d.steps s.steps steps s.in_range there)

@@ -95,9 +95,9 @@ has_words m code h =
     let tokens : AllByRecursion IsToken front = ((refl, tt), tokens_append code.labels (codes ")" ∷ []) (all_from IsToken is_listable code.labels listable_token h.labels) ((refl, tt), tt)) in
     let inked = letters_ink m (length code.labels) letters code.steps (spells_steps m (length code.labels) code.steps) in
     let whole : spelled m code ≡ join_with_byte 32 (front ++ letters ∷ []) =
-        ap (λ (ts : List (List ℕ)). join_with_byte 32 (codes "(" ∷ ts)) (sym (append_assoc code.labels (codes ")" ∷ []) (letters ∷ []))) in
+    ap (λ (ts : List (List ℕ)). join_with_byte 32 (codes "(" ∷ ts)) (sym (append_assoc code.labels (codes ")" ∷ []) (letters ∷ []))) in
     ap (λ (t : List ℕ). texts (words t)) whole ∙ joined_texts 0 front letters tokens inked
-        ∙ ap (λ (ts : List (List ℕ)). codes "(" ∷ ts) (append_assoc code.labels (codes ")" ∷ []) (last_word letters))
+    ∙ ap (λ (ts : List (List ℕ)). codes "(" ∷ ts) (append_assoc code.labels (codes ")" ∷ []) (last_word letters))
 
 pub written_spells : WrittenSpells
 written_spells mandatory code h =
@@ -110,7 +110,7 @@ written_spells mandatory code h =
       labels = sym (labels_are (spelled m code) code.labels letters shut words');
       steps =
           subst (λ (ls : List ℕ). SpellsSteps m (length code.labels) ls code.steps)
-              (sym (letters_are (spelled m code) code.labels letters shut words')) (spells_steps m (length code.labels) code.steps);
+          (sym (letters_are (spelled m code) code.labels letters shut words')) (spells_steps m (length code.labels) code.steps);
       in_range = h.in_range;
     }
 
@@ -157,7 +157,7 @@ written_sound mandatory code h a =
     let no_label : label_fault mandatory code.labels ≡ None = labels_from mandatory [] code.labels a h.differ (all_new code.labels) in
     let no_letter : letter_fault (m + length code.labels) letters ≡ None = letters_sound m (length code.labels) letters code.steps (spells_steps m (length code.labels) code.steps) h.in_range in
     cond_then (is_bracketed text) (or_else (label_fault mandatory (labels_of text)) (letter_fault (m + length (labels_of text)) (letters_of text)))
-        (Some (fault 0 6)) (bracketed_is text code.labels letters words')
+    (Some (fault 0 6)) (bracketed_is text code.labels letters words')
     ∙ ap (λ (ls : List (List ℕ)). or_else (label_fault mandatory ls) (letter_fault (m + length ls) (letters_of text))) labels
     ∙ ap (λ (ls : List ℕ). or_else (label_fault mandatory code.labels) (letter_fault (m + length code.labels) ls)) letters'
     ∙ ap (λ (o : Option Fault). or_else o (letter_fault (m + length code.labels) letters)) no_label ∙ no_letter

@@ -73,7 +73,7 @@ demo = frames_of (assertion (codes "tze") 5 7 (codes "term 0") [] [] ∷ asserti
 abbrev demo_text : List ℕ
 demo_text =
     codes
-        "$c 0 + = -> ( ) term wff |- -. setvar class { | } A. $. $v t r s P Q ph ps ch x A $. tt $f term t $. tr $f term r $. ts $f term s $. wp $f wff P $. wq $f wff Q $. tze $a term 0 $. tpl $a term ( t + r ) $. weq $a wff t = r $. wim $a wff ( P -> Q ) $. a1 $a |- ( t = r -> ( t = s -> r = s ) ) $. a2 $a |- ( t + 0 ) = t $. ${ min $e |- P $. maj $e |- ( P -> Q ) $. mp $a |- Q $. $}"
+    "$c 0 + = -> ( ) term wff |- -. setvar class { | } A. $. $v t r s P Q ph ps ch x A $. tt $f term t $. tr $f term r $. ts $f term s $. wp $f wff P $. wq $f wff Q $. tze $a term 0 $. tpl $a term ( t + r ) $. weq $a wff t = r $. wim $a wff ( P -> Q ) $. a1 $a |- ( t = r -> ( t = s -> r = s ) ) $. a2 $a |- ( t + 0 ) = t $. ${ min $e |- P $. maj $e |- ( P -> Q ) $. mp $a |- Q $. $}"
 
 pub demo_fault : database_fault demo_text ≡ None
 demo_fault = refl
@@ -121,7 +121,7 @@ floats = wph ∷ wps ∷ wch ∷ vx ∷ cA ∷ []
 abbrev logic_text : List ℕ
 logic_text =
     codes
-        "$c 0 + = -> ( ) term wff |- -. setvar class { | } A. $. $v t r s P Q ph ps ch x A $. wph $f wff ph $. wps $f wff ps $. wch $f wff ch $. vx $f setvar x $. wi $a wff ( ph -> ps ) $. ${ min $e |- ph $. maj $e |- ( ph -> ps ) $. ax-mp $a |- ps $. $} ax-1 $a |- ( ph -> ( ps -> ph ) ) $. ax-2 $a |- ( ( ph -> ( ps -> ch ) ) -> ( ( ph -> ps ) -> ( ph -> ch ) ) ) $. cA $f class A $. cab $a class { x | ph } $. wal $a wff A. x ph $. ${ a1i.1 $e |- ph $. a1i $a |- ( ps -> ph ) $. $} ${ a2i.1 $e |- ( ph -> ( ps -> ch ) ) $. a2i $a |- ( ( ph -> ps ) -> ( ph -> ch ) ) $. $} ${ $d ph x $. ax-5 $a |- ( ph -> A. x ph ) $. $} eqid $a |- A = A $. ${ drop.1 $e |- ( ph -> A. x ph ) $. drop $a |- ( ph -> ph ) $. $}"
+    "$c 0 + = -> ( ) term wff |- -. setvar class { | } A. $. $v t r s P Q ph ps ch x A $. wph $f wff ph $. wps $f wff ps $. wch $f wff ch $. vx $f setvar x $. wi $a wff ( ph -> ps ) $. ${ min $e |- ph $. maj $e |- ( ph -> ps ) $. ax-mp $a |- ps $. $} ax-1 $a |- ( ph -> ( ps -> ph ) ) $. ax-2 $a |- ( ( ph -> ( ps -> ch ) ) -> ( ( ph -> ps ) -> ( ph -> ch ) ) ) $. cA $f class A $. cab $a class { x | ph } $. wal $a wff A. x ph $. ${ a1i.1 $e |- ph $. a1i $a |- ( ps -> ph ) $. $} ${ a2i.1 $e |- ( ph -> ( ps -> ch ) ) $. a2i $a |- ( ( ph -> ps ) -> ( ph -> ch ) ) $. $} ${ $d ph x $. ax-5 $a |- ( ph -> A. x ph ) $. $} eqid $a |- A = A $. ${ drop.1 $e |- ( ph -> A. x ph ) $. drop $a |- ( ph -> ph ) $. $}"
 
 pub logic_fault : database_fault logic_text ≡ None
 logic_fault = refl

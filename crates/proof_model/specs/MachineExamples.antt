@@ -175,7 +175,7 @@ open_step = refl
 -- the numbers of the faults
 pub numbers : map machine_code
     (underflow ∷ type_differs ∷ hyp_differs [] [] ∷ shared (sym []) (sym []) (sym []) ∷ not_distinct (sym []) (sym []) ∷ not_earlier ∷ left_over 0
-        ∷ result_differs ∷ unknown ∷ [])
+    ∷ result_differs ∷ unknown ∷ [])
     ≡ 1 ∷ 2 ∷ 3 ∷ 4 ∷ 5 ∷ 6 ∷ 7 ∷ 8 ∷ 9 ∷ []
 numbers = refl
 

@@ -272,8 +272,8 @@ table_more given steps i s old new ns now n inside e table one is =
           ap (table_proofs new) is ∙ map_push (option_map (proof_at (node_proofs new))) ns n
           ∙ ap (λ l. l ++ option_map (proof_at (node_proofs new)) n ∷ []) (grown.0 ∙ table.all) ∙ ap (λ p. earlier ++ p ∷ []) (one.proof ∙ ap (λ l. given l s) table.all)
           ∙ sym
-              (ap (fold (λ earlier s. earlier ++ given earlier s ∷ []) []) (take_more steps i s inside ∙ ap (λ y. take i steps ++ y ∷ []) (sym e))
-                  ∙ fold_push (λ earlier s. earlier ++ given earlier s ∷ []) [] (take i steps) s);
+          (ap (fold (λ earlier s. earlier ++ given earlier s ∷ []) []) (take_more steps i s inside ∙ ap (λ y. take i steps ++ y ∷ []) (sym e))
+          ∙ fold_push (λ earlier s. earlier ++ given earlier s ∷ []) [] (take i steps) s);
     }
 
 pub table_begun : (nodes : List ProofNode) (ns : List (Option ℕ)) → ns ≡ [] → IsTable nodes [] ns
@@ -320,9 +320,9 @@ pub number_there : (nodes : List ProofNode) (ps : List (Option Proof)) (ns : Lis
     → is_some (item_at ps k) ≡ true → (n : ℕ) × (k < length ns) × (get_or ns k None ≡ Some n)
 number_there nodes ps ns k t e =
     let found =
-        there (item_at ns k)
-            (sym (some_of (proof_at (node_proofs nodes)) (item_at ns k))
-                ∙ ap is_some (sym (item_map (proof_at (node_proofs nodes)) ns k) ∙ ap (λ l. item_at l k) t.all) ∙ e) in
+    there (item_at ns k)
+    (sym (some_of (proof_at (node_proofs nodes)) (item_at ns k))
+    ∙ ap is_some (sym (item_map (proof_at (node_proofs nodes)) ns k) ∙ ap (λ l. item_at l k) t.all) ∙ e) in
     let at = item_there ns k found.0 found.1 in
     (found.0, at.0, at.1)
 

@@ -33,7 +33,7 @@ listed_back (p ∷ ps) = ap (λ l. p ∷ l) (listed_back ps)
 two_of : (top c : ℕ) → 2 ≤ top → nat_le 2 (min top c) ≡ nat_le 2 c
 two_of top c h =
     iff_same (nat_le 2 (min top c)) (nat_le 2 c) (λ e. le-leb 2 c (let l = leb-true 2 (min top c) e in omega (arith, l, h)))
-        (λ e. le-leb 2 (min top c) (let l = leb-true 2 c e in omega (arith, l, h)))
+    (λ e. le-leb 2 (min top c) (let l = leb-true 2 c e in omega (arith, l, h)))
 
 module _ (nodes : List ProofNode) (graph : IsGraph nodes) where
   abbrev P : ℕ → Proof
@@ -57,7 +57,7 @@ module _ (nodes : List ProofNode) (graph : IsGraph nodes) where
   places_named [] a = refl
   places_named (k ∷ ks) a =
       ap (λ l. l ++ flat_map children (map P ks)) (children_are k a.0) ∙ ap (λ l. map P (below_of nodes k) ++ l) (places_named ks a.1)
-          ∙ sym (map_append P (below_of nodes k) (flat_map (below_of nodes) ks))
+      ∙ sym (map_append P (below_of nodes k) (flat_map (below_of nodes) ks))
 
   count_from : (n : ℕ) (ks : List ℕ) (a : ℕ) → n < length nodes → AllByRecursion (λ k. k < length nodes) ks
       → fold (λ b x. b + cond (same_proof (P n) x) 1 0) a (map P ks) ≡ fold (λ b k. b + cond (nat_eq n k) 1 0) a ks
@@ -70,7 +70,7 @@ module _ (nodes : List ProofNode) (graph : IsGraph nodes) where
       let named = flat_map (below_of nodes) order in
       let places : argument_places (root_proof nodes) ≡ map P named = ap (flat_map children) (sym o.proofs_are) ∙ places_named order o.inside in
       let count : count_by (same_proof (P n)) (argument_places (root_proof nodes)) ≡ count_by (nat_eq n) named =
-          ap (count_by (same_proof (P n))) places ∙ count_from n named 0 h (all_named order o.inside) in
+      ap (count_by (same_proof (P n))) places ∙ count_from n named 0 h (all_named order o.inside) in
       let twice : nat_le 2 (get_or uses n 0) ≡ nat_le 2 (count_by (same_proof (P n)) (argument_places (root_proof nodes))) =
       ap (nat_le 2) (u.count n h) ∙ two_of (2 ^ 32 - 1) (count_by (nat_eq n) named) (lit≤ tt) ∙ ap (nat_le 2) (sym count) in
       let many : length (below_of nodes n) ≡ length (children (P n)) = sym (ap length (children_are n h) ∙ length-map (below_of nodes n) P) in
@@ -175,8 +175,8 @@ module _ (nodes : List ProofNode) (graph : IsGraph nodes) where
 
     coded_new : (label : Name) (below : Proofs) (c : Coding) → first_number (same_proof (by label below)) c.marked ≡ None
         → coded mandatory labels places (by label below) c
-            ≡ with_label (by label below) (is_marked places (by label below)) (what_of mandatory labels label)
-                (coded_all mandatory labels places below c)
+        ≡ with_label (by label below) (is_marked places (by label below)) (what_of mandatory labels label)
+        (coded_all mandatory labels places below c)
     coded_new label below c e =
         ap (λ o. again_or o c (λ d. with_label (by label below) (is_marked places (by label below)) (what_of mandatory labels label) (coded_all mandatory labels places below d))) e
 
@@ -234,8 +234,8 @@ module _ (nodes : List ProofNode) (graph : IsGraph nodes) where
           };
           parts =
               subst (AllByRecursion (IsPart nodes)) (sym is)
-                  (all_append (IsPart nodes) rest (parts_of n (below_of nodes n)) (rest_parts nodes pending rest (part.Proof n) p a.parts)
-                      (parts_inside nodes n inside graph.earlier));
+              (all_append (IsPart nodes) rest (parts_of n (below_of nodes n)) (rest_parts nodes pending rest (part.Proof n) p a.parts)
+              (parts_inside nodes n inside graph.earlier));
           whole =
               ap (λ l. run opened ended l a.so_far) is ∙ run_parts opened ended rest n (below_of nodes n) a.so_far
               ∙ ap (run opened ended rest) (sym (coded_node n a.so_far inside new))

@@ -278,8 +278,8 @@ pub backwards_more : (nodes : List ProofNode) (pending rest now bs : List ℕ) (
 backwards_more nodes pending rest now bs labels put label n d e h k b l is more old = record {
   inside = subst (AllByRecursion (λ k. k < length nodes)) (sym (is ∙ ap (λ l. rest ++ l) b))
       (all_append (λ k. k < length nodes) rest (get_or nodes n d).below
-          (all_front (λ k. k < length nodes) rest (n ∷ []) (subst (AllByRecursion (λ k. k < length nodes)) e old.inside))
-          (below_inside nodes n d h k));
+      (all_front (λ k. k < length nodes) rest (n ∷ []) (subst (AllByRecursion (λ k. k < length nodes)) e old.inside))
+      (below_inside nodes n d h k));
   whole =
       ap (λ ns. pending_labels nodes ns ++ reverse put) (is ∙ ap (λ l. rest ++ l) b)
       ∙ ap (λ ls. pending_labels nodes (rest ++ (get_or nodes n d).below) ++ ls) (ap reverse more ∙ reverse_push labels label ∙ ap (λ x. x ∷ reverse labels) l)
@@ -297,5 +297,5 @@ backwards_begun nodes pending n h e is = record {
   inside = subst (AllByRecursion (λ k. k < length nodes)) (sym e) (omega (arith, h, is), tt);
   whole =
       ap (λ ns. pending_labels nodes ns ++ []) e ∙ append_none (pending_labels nodes (n ∷ []))
-          ∙ append_none (postorder (proof_at (node_proofs nodes) n)) ∙ ap (λ k. postorder (proof_at (node_proofs nodes) k)) is;
+      ∙ append_none (postorder (proof_at (node_proofs nodes) n)) ∙ ap (λ k. postorder (proof_at (node_proofs nodes) k)) is;
 }

@@ -78,8 +78,8 @@ earlier_of keys new k e h (inl is) = subst (NameEarlier 0) (sym (ap nodes_of_key
 earlier_of keys new k e h (inr is) =
     subst (NameEarlier 0) (sym (ap nodes_of_keys is ∙ map_push node_of_key keys k))
     (earlier_push (nodes_of_keys keys) (node_of_key k) 0 e
-        (subst (λ m. AllByRecursion (λ j. j < m) k.below.items)
-            (let s : length (nodes_of_keys keys) ≡ 0 + length (nodes_of_keys keys) = omega arith in s) h))
+    (subst (λ m. AllByRecursion (λ j. j < m) k.below.items)
+    (let s : length (nodes_of_keys keys) ≡ 0 + length (nodes_of_keys keys) = omega arith in s) h))
 
 get_of : (keys : List Key) (i : ℕ) (m : Key) → slice_get keys i ≡ Some m → (i < length (nodes_of_keys keys)) × (get_or (nodes_of_keys keys) i no_node ≡ node_of_key m)
 get_of [] i m e = absurd cc

@@ -38,7 +38,7 @@ first_push p (y ∷ xs) x = by (p y) (first_push p xs x)
 
     by : (b : Bool) → first_number p (xs ++ x ∷ []) ≡ sooner (first_number p xs) (cond (p x) (Some (length xs)) None)
         → cond {A = Option ℕ} b (Some 0) (option_map suc (first_number p (xs ++ x ∷ [])))
-            ≡ sooner (cond {A = Option ℕ} b (Some 0) (option_map suc (first_number p xs))) (cond (p x) (Some (suc (length xs))) None)
+        ≡ sooner (cond {A = Option ℕ} b (Some 0) (option_map suc (first_number p xs))) (cond (p x) (Some (suc (length xs))) None)
     by true e = refl
     by false e = ap (option_map suc) e ∙ later (first_number p xs) (p x) (length xs)
 
@@ -67,7 +67,7 @@ position_is p (x ∷ xs) = by (p x) (position_is p xs)
     less : (m n : ℕ) → nat_lt (1 + m) (suc n) ≡ nat_lt m n
     less m n =
         iff_same (nat_lt (1 + m) (suc n)) (nat_lt m n) (λ e. lt-ltb m n (let l = ltb-true (1 + m) (suc n) e in omega (arith, l)))
-            (λ e. lt-ltb (1 + m) (suc n) (let l = ltb-true m n e in omega (arith, l)))
+        (λ e. lt-ltb (1 + m) (suc n) (let l = ltb-true m n e in omega (arith, l)))
 
     moved : (b : Bool) (m : ℕ) → cond {A = Option ℕ} b (Some (1 + m)) None ≡ option_map suc (cond b (Some m) None)
     moved true m = ap (λ (k : ℕ). Some k) (let s : 1 + m ≡ suc m = omega arith in s)
@@ -75,8 +75,8 @@ position_is p (x ∷ xs) = by (p x) (position_is p xs)
 
     by : (b : Bool) → position p xs ≡ first_number p xs
         → cond {A = Option ℕ} (nat_lt (cond (not b) (1 + prefix_len (λ y. not (p y)) xs) 0) (suc (length xs)))
-            (Some (cond (not b) (1 + prefix_len (λ y. not (p y)) xs) 0)) None
-            ≡ cond {A = Option ℕ} b (Some 0) (option_map suc (first_number p xs))
+        (Some (cond (not b) (1 + prefix_len (λ y. not (p y)) xs) 0)) None
+        ≡ cond {A = Option ℕ} b (Some 0) (option_map suc (first_number p xs))
     by true e = ap (λ c. cond {A = Option ℕ} c (Some 0) None) (lt-ltb 0 (suc (length xs)) (omega arith))
     by false e =
         let m = prefix_len (λ y. not (p y)) xs in
@@ -147,7 +147,7 @@ places_new list names now places after name place more put here p = record {
   even = (let a = ap length more ∙ longer names name in let b = ap length put ∙ longer places place in let m = p.even in omega (arith, a, b, m));
   each = λ n.
       at_first now after n ∙ ap (λ ps. option_and_then (slice_get ps) (first_number (bytes_eq n) now)) put
-          ∙ ap (λ ns. option_and_then (slice_get (places ++ place ∷ [])) (first_number (bytes_eq n) ns)) more
+      ∙ ap (λ ns. option_and_then (slice_get (places ++ place ∷ [])) (first_number (bytes_eq n) ns)) more
       ∙ ap (option_and_then (slice_get (places ++ place ∷ []))) (first_push (bytes_eq n) names name)
       ∙ looked_up places (first_number (bytes_eq n) names) (bytes_eq n name) (length names) place (inside_places list names places n p) (sym p.even)
       ∙ ap (λ o. sooner o (cond (bytes_eq n name) (Some place) None)) (sym (at_first names places n) ∙ p.each n)
@@ -199,7 +199,7 @@ repeats_push seen (n ∷ ns) x = by (contains seen n) (repeats_push seen ns x) (
         → without_repeats (n ∷ seen) (ns ++ x ∷ []) ≡ without_repeats (n ∷ seen) ns ++ cond (contains (n ∷ seen) x || contains (without_repeats (n ∷ seen) ns) x) [] (x ∷ [])
         → cond b (without_repeats seen (ns ++ x ∷ [])) (n ∷ without_repeats (n ∷ seen) (ns ++ x ∷ []))
         ≡ cond b (without_repeats seen ns) (n ∷ without_repeats (n ∷ seen) ns)
-            ++ cond (contains seen x || contains (cond b (without_repeats seen ns) (n ∷ without_repeats (n ∷ seen) ns)) x) [] (x ∷ [])
+        ++ cond (contains seen x || contains (cond b (without_repeats seen ns) (n ∷ without_repeats (n ∷ seen) ns)) x) [] (x ∷ [])
     by true e f = e
     by false e f =
         ap (λ l. n ∷ l) f
@@ -255,7 +255,7 @@ mutual
   all_labels_are none = refl
   all_labels_are (next p ps) =
       ap (λ l. l ++ postorders ps) (labels_are p) ∙ ap (λ l. map last_label (subproofs p) ++ l) (all_labels_are ps)
-          ∙ sym (map_append last_label (subproofs p) (subproofs_in ps))
+      ∙ sym (map_append last_label (subproofs p) (subproofs_in ps))
 
 any_label : (p : Proof) (seen : List Proof) → list_any (same_proof p) seen ≡ true → contains (map last_label seen) (last_label p) ≡ true
 any_label p [] e = absurd cc
@@ -282,7 +282,7 @@ repeats_seen list (p ∷ ps) seen = repeats_seen list ps (see seen p) ∙ by (li
         → without_repeats list (map last_label (cond b seen (seen ++ p ∷ [])) ++ map last_label ps) ≡ without_repeats list (map last_label seen ++ last_label p ∷ map last_label ps)
     by true e =
         sym (repeats_skip list (map last_label seen) (map last_label ps) (last_label p)
-            (or_right (contains list (last_label p)) (contains (map last_label seen) (last_label p)) (any_label p seen e)))
+        (or_right (contains list (last_label p)) (contains (map last_label seen) (last_label p)) (any_label p seen e)))
     by false e =
         ap (λ l. without_repeats list (l ++ map last_label ps)) (map_append last_label seen (p ∷ []))
         ∙ ap (without_repeats list) (append_twice (map last_label seen) (last_label p ∷ []) (map last_label ps))
@@ -296,19 +296,19 @@ listed_is list p = ap (without_repeats list) (labels_are p) ∙ sym (repeats_see
 pub other_at : (list names labels now : List Name) (places : List ℕ) (nodes : List ProofNode) (order : List ℕ) (i : ℕ) (d : ProofNode) (label : Name)
     → i < length order → AllByRecursion (λ k. k < length nodes) order
     → label ≡ (get_or nodes (get_or order i 0) d).label → ArePlaces list names places
-        → labels ≡ without_repeats list (map (label_of nodes) (take i order)) → now ≡ put_other (is_some (place_in names places label)) labels label
+    → labels ≡ without_repeats list (map (label_of nodes) (take i order)) → now ≡ put_other (is_some (place_in names places label)) labels label
     → now ≡ without_repeats list (map (label_of nodes) (take (i + 1) order))
 other_at list names labels now places nodes order i d label inside all e p is put =
     let k = get_or order i 0 in
     let same : label ≡ label_of nodes k = e ∙ ap (λ (n : ProofNode). n.label) (get_or_default nodes k d no_node (all_at (λ j. j < length nodes) order i 0 all inside)) in
     other_more list names labels now (map (label_of nodes) (take i order)) places label p is put
     ∙ ap (without_repeats list)
-        (ap (λ l. map (label_of nodes) (take i order) ++ l ∷ []) same ∙ sym (map_push (label_of nodes) (take i order) k)
-            ∙ ap (map (label_of nodes)) (sym (take_more order i 0 inside)))
+    (ap (λ l. map (label_of nodes) (take i order) ++ l ∷ []) same ∙ sym (map_push (label_of nodes) (take i order) k)
+    ∙ ap (map (label_of nodes)) (sym (take_more order i 0 inside)))
 
 pub places_next : (list : List Name) (i : ℕ) (d name : Name) (names now : List Name) (places after : List ℕ) → i < length list → name ≡ get_or list i d
     → ((before : List Name) → ArePlaces before names places → i ≡ length before → ArePlaces (before ++ name ∷ []) now after)
-        → ArePlaces (take i list) names places → ArePlaces (take (i + 1) list) now after
+    → ArePlaces (take i list) names places → ArePlaces (take (i + 1) list) now after
 places_next list i d name names now places after inside e put p =
     subst (λ l. ArePlaces l now after) (ap (λ n. take i list ++ n ∷ []) e ∙ sym (take_more list i d inside)) (put (take i list) p (sym (length-take-le i list (omega (arith, inside)))))
 

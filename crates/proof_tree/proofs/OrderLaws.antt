@@ -59,8 +59,8 @@ module _ (nodes : List ProofNode) where
         record {
           parts =
               subst (AllByRecursion (IsPart nodes)) (sym is)
-                  (all_append (IsPart nodes) rest (parts_of n (below_of nodes n)) (rest_parts nodes pending rest (part.Proof n) p v.parts)
-                      (parts_inside nodes n inside graph.earlier));
+              (all_append (IsPart nodes) rest (parts_of n (below_of nodes n)) (rest_parts nodes pending rest (part.Proof n) p v.parts)
+              (parts_inside nodes n inside graph.earlier));
           inside = v.inside;
           whole =
               ap (λ l. run opened closed l (map P order)) is ∙ run_parts opened closed rest n (below_of nodes n) (map P order)
@@ -90,8 +90,8 @@ module _ (nodes : List ProofNode) where
           whole =
               ap (λ l. run opened closed rest (map P l)) is
               ∙ ap (run opened closed rest)
-                  (put_proofs n order (list_any (nat_eq n) order)
-                      ∙ ap (λ b. cond b (map P order) (map P order ++ P n ∷ [])) (sym (any_nodes nodes graph n order inside v.inside)))
+              (put_proofs n order (list_any (nat_eq n) order)
+              ∙ ap (λ b. cond b (map P order) (map P order ++ P n ∷ [])) (sym (any_nodes nodes graph n order inside v.inside)))
               ∙ sym (ap (λ l. run opened closed l (map P order)) p ∙ run_last opened closed rest (part.Label n) (map P order)) ∙ v.whole;
         }
 

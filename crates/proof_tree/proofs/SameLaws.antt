@@ -77,8 +77,8 @@ module _ (nodes : List ProofNode) (graph : IsGraph nodes) where
       let belows : proofs (map P a.below) ≡ proofs (map P b.below) = cc in
       let below : a.below ≡ b.below =
       lists_same P (λ x. x < i) (λ y. y < j)
-          (λ x y less more same. one_below m x y (omega (arith, less, h)) (omega (arith, less, k)) (omega (arith, more, l)) same) a.below b.below
-          (below_inside i k) (below_inside j l) belows in
+      (λ x y less more same. one_below m x y (omega (arith, less, h)) (omega (arith, less, k)) (omega (arith, more, l)) same) a.below b.below
+      (below_inside i k) (below_inside j l) belows in
       graph.differ i j k l (ap (λ x. node x a.below) label ∙ ap (node b.label) below)
 
   pub one_node : (i j : ℕ) → i < length nodes → j < length nodes → P i ≡ P j → i ≡ j

@@ -74,7 +74,7 @@ weave_is value (h ∷ hs) vs (p ∷ ps) v n = with_places value h hs h.floating 
 
 at_float : (value : Sym → Proof) (f : List Sym) (fs : List (List Sym)) (vs : List TypedVariable) (ws : List Proof) (rest : List Proof → Type 0) → f ∷ fs ≡ map float_formula (typed_by f ++ vs)
     → map (λ (v : TypedVariable). value v.sym) (typed_by f ++ vs) ≡ ws
-        → (fs ≡ map float_formula vs → rest (map (λ (v : TypedVariable). value v.sym) vs)) → ValuedHere value true (get_or f 1 (symbol 0)) rest ws
+    → (fs ≡ map float_formula vs → rest (map (λ (v : TypedVariable). value v.sym) vs)) → ValuedHere value true (get_or f 1 (symbol 0)) rest ws
 at_float value [] fs [] ws rest e m r = absurd cc
 at_float value [] fs (v ∷ vs) ws rest e m r = absurd (let wrong : [] ≡ float_formula v = cc in cc)
 at_float value (c ∷ []) fs [] ws rest e m r = absurd cc
@@ -90,7 +90,7 @@ float_case : (value : Sym → Proof) (h : Hyp) (hs : List Hyp) (b : Bool) (ws : 
 float_case value h hs true ws rest e m =
     at_float value h.formula (map (λ (g : Hyp). g.formula) (floats hs)) (typed_variables hs) ws (Valued value hs)
     (e ∙ ap (map float_formula) (flat_map-cons (λ (g : Hyp). typed_by g.formula) h (floats hs)))
-        (ap (map (λ (v : TypedVariable). value v.sym)) (sym (flat_map-cons (λ (g : Hyp). typed_by g.formula) h (floats hs))) ∙ m)
+    (ap (map (λ (v : TypedVariable). value v.sym)) (sym (flat_map-cons (λ (g : Hyp). typed_by g.formula) h (floats hs))) ∙ m)
     (λ same. rest (map (λ (v : TypedVariable). value v.sym) (typed_variables hs)) same refl)
 float_case value h hs false ws rest e m = rest ws e m
 
@@ -129,8 +129,8 @@ values_in [] (t ∷ ts) n d = absurd (omega (arith, n))
 values_in (v ∷ vars) [] n d = absurd (omega (arith, n))
 values_in (v ∷ vars) (t ∷ ts) n d =
     ap (λ y. y ∷ map (λ (w : TypedVariable). value_in (v ∷ vars) (t ∷ ts) w.sym) vars)
-        (found_first (v.sym.0 == v.sym.0) (v, t) (find (λ (p : TypedVariable × Tree). p.0.sym.0 == v.sym.0) (zip vars ts))
-            (eq-eqb v.sym.0 v.sym.0 refl))
+    (found_first (v.sym.0 == v.sym.0) (v, t) (find (λ (p : TypedVariable × Tree). p.0.sym.0 == v.sym.0) (zip vars ts))
+    (eq-eqb v.sym.0 v.sym.0 refl))
     ∙ ap (λ l. t ∷ l) (map_at (λ (w : TypedVariable). value_in (v ∷ vars) (t ∷ ts) w.sym) (λ (w : TypedVariable). value_in vars ts w.sym) vars
     (λ k w e. found_later (v.sym.0 == w.sym.0) (v, t) (find (λ (p : TypedVariable × Tree). p.0.sym.0 == w.sym.0) (zip vars ts))
     (differs v w (v.sym.0 == w.sym.0) refl (λ (same : v.sym ≡ w.sym). let wrong : 0 ≡ suc k = d 0 (suc k) v w refl e same in omega (arith, wrong))))
@@ -229,8 +229,8 @@ module _ (db : Database) (c : Contents) (fits : Fits db c) (hyps : List Hyp) (na
       let value : Sym → Tree = value_of follows.used in
       let value_is : (s : Sym) → value_in vars values s ≡ value s = λ s. ap (λ vs. value_in vs values s) (sym usable.vars) ∙ ap (λ ts. value_in a.vars ts s) (sym follows.values_are) in
       let trees : map (λ (v : TypedVariable). value v.sym) vars ≡ values =
-          map_at (λ (v : TypedVariable). value v.sym) (λ (v : TypedVariable). value_in vars values v.sym) vars (λ k v f. sym (value_is v.sym))
-              ∙ each in
+      map_at (λ (v : TypedVariable). value v.sym) (λ (v : TypedVariable). value_in vars values v.sym) vars (λ k v f. sym (value_is v.sym))
+      ∙ each in
       let proofs_are : map (λ (v : TypedVariable). syntax_proof db hyps (value v.sym)) vars ≡ map (syntax_proof db hyps) values =
       map_map (syntax_proof db hyps) (λ (v : TypedVariable). value v.sym) vars ∙ ap (map (syntax_proof db hyps)) trees in
       let count_places : length qs ≡ length (essentials a.frame.hyps) = n ∙ follows.place_count ∙ sym (all_zip_length _ (essentials a.frame.hyps) a.hyps usable.hyps) in
@@ -238,7 +238,7 @@ module _ (db : Database) (c : Contents) (fits : Fits db c) (hyps : List Hyp) (na
       ∙ ap (λ ls. weave a.frame.hyps (map (tree_proof ls names) values) qs) (sym fits.labels)
       ∙ ap (λ f. weave a.frame.hyps (map f values) qs) (tree_is db hyps names are)
       ∙ weave_is (λ s. syntax_proof db hyps (value s)) a.frame.hyps (map (syntax_proof db hyps) values) qs
-          (valued (λ s. syntax_proof db hyps (value s)) a.frame.hyps (map (syntax_proof db hyps) values) frame.floats proofs_are) count_places
+      (valued (λ s. syntax_proof db hyps (value s)) a.frame.hyps (map (syntax_proof db hyps) values) frame.floats proofs_are) count_places
     where
       map_map : {X Y Z : Type 0} (f : Y → Z) (g : X → Y) (xs : List X) → map (λ x. f (g x)) xs ≡ map f (map g xs)
       map_map f g [] = refl
@@ -252,13 +252,13 @@ module _ (db : Database) (c : Contents) (fits : Fits db c) (hyps : List Hyp) (na
       let qs = map (place_proof ps) (map place.Step places) in
       let many : length qs ≡ length places = length-map (map place.Step places) (place_proof ps) ∙ length-map places place.Step in
       ap (λ n. by n (proofs (weave (hyps_of (frame_at c l)) (map (tree_proof c.labels names) values) (filter_map (item_at gs) places))))
-          (ap (λ ls. get_or ls l.0 []) (sym fits.labels) ∙ sym follows.reference)
+      (ap (λ ls. get_or ls l.0 []) (sym fits.labels) ∙ sym follows.reference)
       ∙ ap (λ rs. by (unwrap_or e.reference []) (proofs (weave (hyps_of (frame_at c l)) (map (tree_proof c.labels names) values) rs))) (placed_are ss gs ps places a u)
       ∙ ap (λ rs. by (unwrap_or e.reference []) (proofs rs)) (arguments_are e l values places follows qs many)
       ∙ ap
-          (λ gs. by (unwrap_or e.reference [])
-              (proofs (hyp_proofs (λ s. syntax_proof db hyps (value_of follows.used s)) follows.used.assertion.frame.hyps (map (place_proof ps) gs))))
-          (sym follows.places_are)
+      (λ gs. by (unwrap_or e.reference [])
+      (proofs (hyp_proofs (λ s. syntax_proof db hyps (value_of follows.used s)) follows.used.assertion.frame.hyps (map (place_proof ps) gs))))
+      (sym follows.places_are)
       ∙ ap (use_proof db hyps ps e.places (unwrap_or e.reference [])) (sym follows.is_by)
 
   step_is : (e : WrittenStep) (s : ProofStep) (ss : List ProofStep) (gs : List (Option Proof)) (ps : List Proof) → IsProofStep db e s → Agree ss gs ps
@@ -277,9 +277,9 @@ module _ (db : Database) (c : Contents) (fits : Fits db c) (hyps : List Hyp) (na
   agree_folded (s ∷ steps) [] ss gs ps z f a = absurd z
   agree_folded (s ∷ steps) (e ∷ es) ss gs ps z f a =
       subst
-          (λ l. Agree l (fold (λ earlier s. earlier ++ given_proof c names earlier s ∷ []) gs (s ∷ steps))
-              (fold (λ earlier e. earlier ++ step_proof db hyps earlier e ∷ []) ps (e ∷ es)))
-          (append_twice ss (s ∷ []) steps)
+      (λ l. Agree l (fold (λ earlier s. earlier ++ given_proof c names earlier s ∷ []) gs (s ∷ steps))
+      (fold (λ earlier e. earlier ++ step_proof db hyps earlier e ∷ []) ps (e ∷ es)))
+      (append_twice ss (s ∷ []) steps)
       (agree_folded steps es (ss ++ s ∷ []) (gs ++ given_proof c names gs s ∷ []) (ps ++ step_proof db hyps ps e ∷ []) z.1 f.1
       (agree_push ss gs ps s (given_proof c names gs s) (step_proof db hyps ps e) a (step_is e s ss gs ps z.0 a f.0)))
 
@@ -305,4 +305,4 @@ pub proves : HasDatabaseFacts
     → Some (root_proof nodes) ≡ item_at (given_proofs c names steps) root → Proves d hyps steps root nodes
 proves facts d c hyps names steps root nodes same are used is kinds text es opened stand =
     root_is (book kinds text d) d.contents (fits_of facts kinds text d opened) hyps names are steps es root (root_proof nodes) stand used
-        (is ∙ ap (λ k. item_at (given_proofs k names steps) root) same)
+    (is ∙ ap (λ k. item_at (given_proofs k names steps) root) same)

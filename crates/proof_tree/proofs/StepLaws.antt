@@ -63,7 +63,7 @@ pub steps_begin : (nodes : List ProofNode) (uses : List ℕ) (names : List Name)
 steps_begin nodes uses names numbers labels pending rest now n d e graph p s a = record {
   parts =
       parts_case nodes rest now n (is_some (item_at d.marks.items n)) graph (last_part nodes pending rest (part.Proof n) p a.parts)
-          (rest_parts nodes pending rest (part.Proof n) p a.parts) s.parts;
+      (rest_parts nodes pending rest (part.Proof n) p a.parts) s.parts;
   many = ap length s.marks ∙ a.many;
   codes = λ g list order about. coding_begins nodes g list labels (argument_places (root_proof nodes)) pending rest now n d e p s (a.codes g list order about);
 }
@@ -80,7 +80,7 @@ pub steps_end : (nodes : List ProofNode) (uses : List ℕ) (names : List Name) (
     (n : ℕ) (d e : Coder)
     → IsGraph nodes → pending ≡ rest ++ part.Label n ∷ []
     → Ends n (what_by (place_in names numbers (label_of nodes n)) (position (bytes_eq (label_of nodes n)) labels)) (is_shared nodes uses n) d e
-        → CodesSoFar nodes uses names numbers labels pending d → CodesSoFar nodes uses names numbers labels rest e
+    → CodesSoFar nodes uses names numbers labels pending d → CodesSoFar nodes uses names numbers labels rest e
 steps_end nodes uses names numbers labels pending rest n d e graph p s a =
     let inside : n < length nodes = last_part nodes pending rest (part.Label n) p a.parts in
     record {
@@ -88,7 +88,7 @@ steps_end nodes uses names numbers labels pending rest n d e graph p s a =
       many = ap length s.marks ∙ marks_case (is_shared nodes uses n) d.marks.items n d.count ∙ a.many;
       codes = λ g list order about.
           coding_ends nodes g list labels (argument_places (root_proof nodes)) pending rest n
-              (what_by (place_in names numbers (label_of nodes n)) (position (bytes_eq (label_of nodes n)) labels)) (is_shared nodes uses n) d e p
+          (what_by (place_in names numbers (label_of nodes n)) (position (bytes_eq (label_of nodes n)) labels)) (is_shared nodes uses n) d e p
           (shared_is nodes g order uses n inside about.order_is about.uses_are) (what_is list names labels numbers (label_of nodes n) about.mandatory) s (a.codes g list order about);
     }
 
@@ -96,7 +96,7 @@ pub steps_done : (nodes : List ProofNode) (uses : List ℕ) (names : List Name) 
     (d : Coder)
     → IsGraph nodes → pending ≡ [] → CodesSoFar nodes uses names numbers labels pending d
     → (list : List Name) (order : List ℕ) → ArePlaces list names numbers → IsOrder nodes order → AreUses nodes order uses
-        → labels ≡ listed_labels list (root_proof nodes) → d.steps.items ≡ (code_of_proof list (root_proof nodes)).steps
+    → labels ≡ listed_labels list (root_proof nodes) → d.steps.items ≡ (code_of_proof list (root_proof nodes)).steps
 steps_done nodes uses names numbers labels pending d graph p a list order m o u l =
     coding_done nodes graph list labels (argument_places (root_proof nodes)) pending d p (a.codes graph list order (record { mandatory = m; order_is = o; uses_are = u; labels_are = l }))
     ∙ ap (λ ls. (coded list ls (argument_places (root_proof nodes)) (root_proof nodes) (record { steps = []; marked = [] })).steps) l

@@ -39,11 +39,11 @@ uses_more below i x first old new inside is less same set u = record {
         let here : n ≡ x = eqb-true n x e in
         let inside' : x < length old = (let m = u.many in omega (arith, m, less)) in
         let now : get_or new n 0 ≡ min (2 ^ 32 - 1) (get_or old x 0 + 1) =
-            ap (λ k. get_or new k 0) here ∙ ap (λ l. get_or l x 0) set ∙ get_or-set_same old x (min (2 ^ 32 - 1) (get_or old x 0 + 1)) 0 inside' in
+        ap (λ k. get_or new k 0) here ∙ ap (λ l. get_or l x 0) set ∙ get_or-set_same old x (min (2 ^ 32 - 1) (get_or old x 0 + 1)) 0 inside' in
         let before : get_or old x 0 ≡ capped (get_or first n 0 + count_by (nat_eq n) (take i below)) = ap (λ k. get_or old k 0) (sym here) ∙ u.each n h in
         let count : count_by (nat_eq n) (take (i + 1) below) ≡ count_by (nat_eq n) (take i below) + 1 =
-            counted n below i inside ∙ ap (λ k. count_by (nat_eq n) (take i below) + one_if (nat_eq n k)) (sym is)
-                ∙ ap (λ b. count_by (nat_eq n) (take i below) + one_if b) e in
+        counted n below i inside ∙ ap (λ k. count_by (nat_eq n) (take i below) + one_if (nat_eq n k)) (sym is)
+        ∙ ap (λ b. count_by (nat_eq n) (take i below) + one_if b) e in
         added (2 ^ 32 - 1) (get_or new n 0) (get_or old x 0) (get_or first n 0) (count_by (nat_eq n) (take i below)) (count_by (nat_eq n) (take (i + 1) below)) now before count
       where
         added : (top g o f c d : ℕ) → g ≡ min top (o + 1) → o ≡ min top (f + c) → d ≡ c + 1 → g ≡ min top (f + d)
@@ -52,8 +52,8 @@ uses_more below i x first old new inside is less same set u = record {
         let other : n ≢ x = λ (s : n ≡ x). true≢false (sym (eq-eqb n x s) ∙ e) in
         let now : get_or new n 0 ≡ get_or old n 0 = ap (λ l. get_or l n 0) set ∙ get_or-set_other old x n (min (2 ^ 32 - 1) (get_or old x 0 + 1)) 0 other in
         let count : count_by (nat_eq n) (take (i + 1) below) ≡ count_by (nat_eq n) (take i below) + 0 =
-            counted n below i inside ∙ ap (λ k. count_by (nat_eq n) (take i below) + one_if (nat_eq n k)) (sym is)
-                ∙ ap (λ b. count_by (nat_eq n) (take i below) + one_if b) e in
+        counted n below i inside ∙ ap (λ k. count_by (nat_eq n) (take i below) + one_if (nat_eq n k)) (sym is)
+        ∙ ap (λ b. count_by (nat_eq n) (take i below) + one_if b) e in
         now ∙ u.each n h ∙ ap (λ k. capped (get_or first n 0 + k)) (let s : count_by (nat_eq n) (take i below) ≡ count_by (nat_eq n) (take (i + 1) below) = omega (arith, count) in s)
 
 pub uses_done : (below : List ℕ) (i : ℕ) (first now : List ℕ) → length below ≤ i → UsesAfter first now (take i below) → AddUses first now below
@@ -89,11 +89,11 @@ all_uses_more nodes order i k bs old new inside e b same u more = record {
       let before : get_or old n 0 ≡ capped (count_by (nat_eq n) (flat_map (below_of nodes) (take i order))) = u.count n h in
       let list : flat_map (below_of nodes) (take (i + 1) order) ≡ flat_map (below_of nodes) (take i order) ++ bs =
       ap (flat_map (below_of nodes)) (take_more order i 0 inside) ∙ flat_push (below_of nodes) (take i order) (get_or order i 0)
-          ∙ ap (λ l. flat_map (below_of nodes) (take i order) ++ l) (ap (below_of nodes) (sym e) ∙ sym b) in
+      ∙ ap (λ l. flat_map (below_of nodes) (take i order) ++ l) (ap (below_of nodes) (sym e) ∙ sym b) in
       let total : count_by (nat_eq n) (flat_map (below_of nodes) (take (i + 1) order)) ≡ count_by (nat_eq n) (flat_map (below_of nodes) (take i order)) + count_by (nat_eq n) bs =
       ap (count_by (nat_eq n)) list ∙ count_append n (flat_map (below_of nodes) (take i order)) bs in
       added (2 ^ 32 - 1) (get_or new n 0) (get_or old n 0) (count_by (nat_eq n) (flat_map (below_of nodes) (take i order))) (count_by (nat_eq n) bs)
-          (count_by (nat_eq n) (flat_map (below_of nodes) (take (i + 1) order))) now before total;
+      (count_by (nat_eq n) (flat_map (below_of nodes) (take (i + 1) order))) now before total;
 }
   where
     added : (top g o a b t : ℕ) → g ≡ min top (o + b) → o ≡ min top a → t ≡ a + b → g ≡ min top t

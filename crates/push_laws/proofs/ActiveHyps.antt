@@ -52,7 +52,7 @@ labels_apart [] h = tt
 labels_apart (s ∷ e) h = (
   all_with _ (LabelsApart s)
       (λ t m n c d. both_ways (contains (labels e) n) (new_label e (labels_in s) n (label_is_new e s h.0) c)
-          (labels_any e n ∙ m (λ x. contains (label_names x) n) d)) e
+      (labels_any e n ∙ m (λ x. contains (label_names x) n) d)) e
       (members [] e),
   labels_apart e h.1,
 )
@@ -260,7 +260,7 @@ module _ (e : List Statement) (all : EachBefore IsChecked e) (place : ℕ) (each
 
   owned_by : (xs : List Statement)
       → ((t : Statement) (n : Name) → Contains ss t → contains (label_names t) n ≡ true
-          → AllByRecursion (λ s. contains (label_names s) n ≡ true → s ≡ t) xs)
+      → AllByRecursion (λ s. contains (label_names s) n ≡ true → s ≡ t) xs)
       → AllByRecursion Owned xs
   owned_by [] h = tt
   owned_by (x ∷ xs) h = ((λ n t c d o. (h t n c o).0 d), owned_by xs (λ t n c o. (h t n c o).1))

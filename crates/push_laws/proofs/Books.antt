@@ -190,17 +190,17 @@ module _ (names mandatory : List Name) where
           → AllByRecursion (Contains (at_place (x ∷ xs))) (map (hypothesis_of names) (filter (counts mandatory) (x ∷ xs)))
       counted_by d here rest =
           subst
-              (λ (b : Bool). AllByRecursion (Contains (at_place (x ∷ xs)))
-                  (map (hypothesis_of names) (cond b (x ∷ filter (counts mandatory) xs) (filter (counts mandatory) xs))))
-              (sym d) (here, rest)
+          (λ (b : Bool). AllByRecursion (Contains (at_place (x ∷ xs)))
+          (map (hypothesis_of names) (cond b (x ∷ filter (counts mandatory) xs) (filter (counts mandatory) xs))))
+          (sym d) (here, rest)
 
       other_by : counts mandatory x ≡ false → AllByRecursion (Contains (at_place (x ∷ xs))) (map (hypothesis_of names) (filter (counts mandatory) xs))
           → AllByRecursion (Contains (at_place (x ∷ xs))) (map (hypothesis_of names) (filter (counts mandatory) (x ∷ xs)))
       other_by d rest =
           subst
-              (λ (b : Bool). AllByRecursion (Contains (at_place (x ∷ xs)))
-                  (map (hypothesis_of names) (cond b (x ∷ filter (counts mandatory) xs) (filter (counts mandatory) xs))))
-              (sym d) rest
+          (λ (b : Bool). AllByRecursion (Contains (at_place (x ∷ xs)))
+          (map (hypothesis_of names) (cond b (x ∷ filter (counts mandatory) xs) (filter (counts mandatory) xs))))
+          (sym d) rest
 
 module _ (kinds : Kinds) (text : List ℕ) (db : Database) (is : IsDatabaseOf kinds text db) (sound : database_fault text ≡ None) where
   abbrev ss : List Statement
@@ -243,7 +243,7 @@ module _ (kinds : Kinds) (text : List ℕ) (db : Database) (is : IsDatabaseOf ki
       let same : own.frame ≡ f = cc in
       let by = row_by provable own.frame r own.row_is in
       row_apart db f (frame_is_apart l f frame) r f.formula (frame_is_apart l f frame).begins (frame_is_own l f frame).formula.leaves
-          (subst (λ (x : Frame). row_with x x.formula ≡ Some r) same by.row)
+      (subst (λ (x : Frame). row_with x x.formula ≡ Some r) same by.row)
 
   frames_same : (name : Name) → frames_of db name ≡ option_and_then (frame_of ss) (label_named (labels ss) name)
   frames_same name = ap (λ ls. option_and_then db.frame (label_named ls name)) is.labels ∙ go (label_named (labels ss) name)
@@ -268,9 +268,9 @@ module _ (kinds : Kinds) (text : List ℕ) (db : Database) (is : IsDatabaseOf ki
         known = subst (λ a. AllByRecursion (λ (h : Hyp). IsKnownAt db place h.formula) a.hyps) same
             (all_known_at_place ss place db is.symbols (is.active_at place) (λ x. is.is_constant_at x place) hs
             (all_and (HypothesisKnown (below ss place)) (λ h. is_hypothesis h ≡ true) (λ h. FormulaKnown (below ss place) (symbols_in h))
-                (λ h k i. known_by (below ss place) h k (hypothesis_keyword h i)) hs
+            (λ h k i. known_by (below ss place) h k (hypothesis_keyword h i)) hs
             (all-filter (HypothesisKnown (below ss place)) is_hypothesis (reverse (active (below ss place)))
-                (all-reverse (HypothesisKnown (below ss place)) (active (below ss place)) (hypotheses_known (below ss place) below')))
+            (all-reverse (HypothesisKnown (below ss place)) (active (below ss place)) (hypotheses_known (below ss place) below')))
             (all_pass is_hypothesis (reverse (active (below ss place))))));
         short = subst (λ a. AllByRecursion ShortHyp a.hyps) same (are_short e each place below' short);
         labels = subst (λ a. AllByRecursion (λ (h : Hyp). Contains db.labels h.name) a.hyps) same

@@ -46,7 +46,7 @@ module _ (db : Database) (book : IsBook db) (words : List ℕ) (options : Option
   labels_named =
       labels_have (frames_of db) thm (λ l. is_label l ≡ true) (are_named db book words options w wr finished) (frame_named db book) p
       (subst (HasArities (frames_of db) thm) (sym (proof_is db book words options w wr finished))
-          (arities db book words options w wr finished (n db book words options w wr finished) (below db book words options w wr finished)))
+      (arities db book words options w wr finished (n db book words options w wr finished) (below db book words options w wr finished)))
 
   pub code_is_read : CodeIsRead db options w
   code_is_read =

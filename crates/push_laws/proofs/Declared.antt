@@ -82,7 +82,7 @@ never_both (s ∷ e) h n c v = elim (or_cases _ _ (split_names (added (codes "$c
         | inr old ↦
             both_ways (contains (variables_ever e) n)
             (all_names (λ m. contains (variables_ever e) m ≡ false) (symbols_in s) n
-                (each_symbol e s (codes "$c") h.0 one.0 refl (λ m. contains (variables_ever e) m ≡ false) (constant_new e)) one.1) old
+            (each_symbol e s (codes "$c") h.0 one.0 refl (λ m. contains (variables_ever e) m ≡ false) (constant_new e)) one.1) old
       ]
   | inr past ↦ elim (or_cases _ _ (split_names (added (codes "$v") symbols_in s) (variables_ever e) n (sym (ap (λ ns. contains ns n) (variables_ever-cons s e)) ∙ v))) [
     | inl new ↦
@@ -196,8 +196,8 @@ full_statements [] a = (tt, tt)
 full_statements (w ∷ before) a =
     let r = full_statements before a.1 in
     elim (ends_statement w) as
-        (λ t. AllByRecursion (AllByRecursion IsFull) (cond t ((unended before ++ w ∷ []) ∷ ended before) (ended before))
-            × AllByRecursion IsFull (cond t [] (unended before ++ w ∷ []))) [
+    (λ t. AllByRecursion (AllByRecursion IsFull) (cond t ((unended before ++ w ∷ []) ∷ ended before) (ended before))
+    × AllByRecursion IsFull (cond t [] (unended before ++ w ∷ []))) [
       | true ↦ ((full_push (unended before) w r.1 a.0, r.0), tt)
       | false ↦ (r.0, full_push (unended before) w r.1 a.0)
     ]

@@ -141,11 +141,11 @@ module _ (db : Database) (book : IsBook db) (bound : Bound) (judgements : List J
             ∙ solves.conclusion ∙ ap (formula bound g) acc.1;
         places =
             subst (λ ts. PlacesAre all ts e.places)
-                (sym
-                    (valued_all db book bound judgements judged g the steps bounds spelled x h c.label c.usable x.assertion.hyps
-                        (hyp_trees db book c.label x.assertion c.usable)))
+            (sym
+            (valued_all db book bound judgements judged g the steps bounds spelled x h c.label c.usable x.assertion.hyps
+            (hyp_trees db book c.label x.assertion c.usable)))
             (places_front db book bound judgements judged g the steps bounds spelled es numbers front filling
-                (more wanted) x.step x.assertion.hyps x.places (map (λ k. given.Step k) (map place wanted)) solves.places asked_known
+            (more wanted) x.step x.assertion.hyps x.places (map (λ k. given.Step k) (map place wanted)) solves.places asked_known
             (places_behind db book bound judgements judged g the steps bounds spelled all wanted place
             (wanted_found db book bound judgements judged g the steps bounds spelled es numbers front rest s filling whole wanted wanted_sound used)));
       }
@@ -154,7 +154,7 @@ module _ (db : Database) (book : IsBook db) (bound : Bound) (judgements : List J
       accepted_filled = record {
         earlier = append_before db book bound judgements judged g the steps bounds spelled (length all) (map (written_place numbers) x.places) (map (λ k. given.Step k) (map place wanted))
             (places_before db book bound judgements judged g the steps bounds spelled es numbers front filling (length all) x.places
-                (let n = length-append es (more wanted) in omega (arith, n)) asked_known)
+            (let n = length-append es (more wanted) in omega (arith, n)) asked_known)
             (behind_before db book bound judgements judged g the steps bounds spelled (length all) wanted place
             (wanted_before db book bound judgements judged g the steps bounds spelled es numbers front rest s filling whole wanted wanted_sound used));
         sound = formula_ok db book bound judgements judged g the steps bounds spelled es numbers front rest s filling whole;
@@ -174,11 +174,11 @@ module _ (db : Database) (book : IsBook db) (bound : Bound) (judgements : List J
     step_filled : (o : Judgement) → slice_index_or judgements i (stands verdict.NoRef) ≡ o → FillingOf (all_with o) (numbers_with o) (front ++ s ∷ [])
     step_filled (stands v) is =
         one_more db book bound judgements judged g the steps bounds spelled es numbers front rest s filling whole [] tt used
-            (step_with (stands v)) refl refl refl refl (stands_filled v (more []) []) used_qed
+        (step_with (stands v)) refl refl refl refl (stands_filled v (more []) []) used_qed
     step_filled (accepted x) is =
         let at = index_accepted judgements i x is in
         one_more db book bound judgements judged g the steps bounds spelled es numbers front rest s filling whole (wanted x at)
-            (wanted_sound x at) used (step_with (accepted x)) refl refl refl refl (accepted_filled x at) used_qed
+        (wanted_sound x at) used (step_with (accepted x)) refl refl refl refl (accepted_filled x at) used_qed
 
   -- all items
   module _ (names : List Name) (has_qed : contains names (codes "qed") ≡ true) where
@@ -197,8 +197,8 @@ module _ (db : Database) (book : IsBook db) (bound : Bound) (judgements : List J
         items_filled rest (fill_item names bound g judgements f (item.Step s)) (front ++ s ∷ []) (whole ∙ sym (append_assoc front (s ∷ []) (filter_map step_of_item rest)))
         (subst (λ xs. FillingOf xs (numbers_with es f.numbers front (filter_map step_of_item rest) s filling whole used used_qed o) (front ++ s ∷ []))
         (sym
-            (items_steps f.items (more es f.numbers front (filter_map step_of_item rest) s filling whole used used_qed (wanted_by g o))
-                (step_with es f.numbers front (filter_map step_of_item rest) s filling whole used used_qed o))) next)
+        (items_steps f.items (more es f.numbers front (filter_map step_of_item rest) s filling whole used used_qed (wanted_by g o))
+        (step_with es f.numbers front (filter_map step_of_item rest) s filling whole used used_qed o))) next)
 
     no_steps : FillingOf [] [] []
     no_steps = record { each = λ j e at. absurd cc; own = λ k l. let bad : ⊥ = omega (arith, l) in absurd bad; count = refl; hyps = tt; shape = empty }

@@ -122,7 +122,7 @@ module _ (db : Database) (book : IsBook db) (bound : Bound) (judgements : List J
     pub valued_is : (t : Tree) → IsAssertionTree db book l x.assertion usable t → valued (use_of g x) t ≡ instance g x.step t
     valued_is t is =
         replace_alike db book x.assertion.frame.at (λ s c. value_of (use_of g x) s) (λ s c. g (copy x.step s c)) leaf_tree leaf_tree t is.typed
-            (λ s c k. value_is s c (is.vars s c k)) (λ y o. refl)
+        (λ s c k. value_is s c (is.vars s c k)) (λ y o. refl)
 
     pub valued_all : (ts : List Tree) → AllByRecursion (IsAssertionTree db book l x.assertion usable) ts → map (valued (use_of g x)) ts ≡ map (instance g x.step) ts
     valued_all [] a = refl
@@ -218,10 +218,10 @@ module _ (db : Database) (book : IsBook db) (bound : Bound) (judgements : List J
       → AllZip IsHypOf (filter (λ (x : WrittenStep). x.hyp) (e ∷ [])) (filter (λ (x : SheetStep). x.hyp) (s ∷ []))
   one_hyp e s true p q h =
       subst (λ (b : Bool). AllZip IsHypOf (cond b (e ∷ []) []) (filter (λ (x : SheetStep). x.hyp) (s ∷ []))) (sym p)
-          (subst (λ (b : Bool). AllZip IsHypOf (e ∷ []) (cond b (s ∷ []) [])) (sym q) (h, tt))
+      (subst (λ (b : Bool). AllZip IsHypOf (e ∷ []) (cond b (s ∷ []) [])) (sym q) (h, tt))
   one_hyp e s false p q h =
       subst (λ (b : Bool). AllZip IsHypOf (cond b (e ∷ []) []) (filter (λ (x : SheetStep). x.hyp) (s ∷ []))) (sym p)
-          (subst (λ (b : Bool). AllZip IsHypOf [] (cond b (s ∷ []) [])) (sym q) tt)
+      (subst (λ (b : Bool). AllZip IsHypOf [] (cond b (s ∷ []) [])) (sym q) tt)
 
   module _ (es : List WrittenStep) (numbers : List ℕ) (front rest : List SheetStep) (s : SheetStep) (filling : IsFilling es numbers front) (whole : steps ≡ front ++ (s ∷ rest)) where
     abbrev pub i : ℕ
@@ -298,7 +298,7 @@ module _ (db : Database) (book : IsBook db) (bound : Bound) (judgements : List J
                 let same : e ≡ y = cc in
                 subst (λ z. IsFilledStep all (length (es ++ made) + 0) z) same
                 (subst (λ (m : ℕ). IsFilledStep all m e) (let q : length (es ++ made) ≡ length (es ++ made) + 0 = omega arith in q)
-                    (more_steps (es ++ made) (e ∷ []) (length (es ++ made)) e e_filled))
+                (more_steps (es ++ made) (e ∷ []) (length (es ++ made)) e e_filled))
             last (suc k) y p = absurd cc
 
         own_tree : slice_get (trees all) (length es + length filled.made) ≡ Some (formula bound g i)
@@ -327,7 +327,7 @@ module _ (db : Database) (book : IsBook db) (bound : Bound) (judgements : List J
               subst (λ xs. AllZip IsHypOf xs (filter (λ (x : SheetStep). x.hyp) (front ++ s ∷ []))) (sym hyps_split)
               (subst (AllZip IsHypOf (filter (λ (x : WrittenStep). x.hyp) es ++ filter (λ (x : WrittenStep). x.hyp) (e ∷ []))) (sym (filter-append (λ (x : SheetStep). x.hyp) front (s ∷ [])))
               (zip-append IsHypOf (filter (λ (x : WrittenStep). x.hyp) es) (filter (λ (x : WrittenStep). x.hyp) (e ∷ []))
-                  (filter (λ (x : SheetStep). x.hyp) front) (filter (λ (x : SheetStep). x.hyp) (s ∷ []))
+              (filter (λ (x : SheetStep). x.hyp) front) (filter (λ (x : SheetStep). x.hyp) (s ∷ []))
               filling.hyps (one_hyp e s s.hyp e_hyp refl (record { name = e_name; reference = e_reference; place = i; stands = step_stands; tree = e_tree }))));
           shape = ends (es ++ made) e front s e_name (λ h.
               ap (λ ns. contains ns (codes "qed")) (map-append (λ (x : WrittenStep). x.name) es made)

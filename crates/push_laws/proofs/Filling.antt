@@ -139,8 +139,8 @@ one_quiet used h = by_find (map (λ n. codes "d" ++ decimal n) (range_with_len 1
     by_name : (n : Name) → not (contains used n) ≡ true → bytes_eq (codes "qed") n ≡ false
     by_name n i =
         false_from_ne_true (bytes_eq (codes "qed") n)
-            (λ e. both_ways (contains used n) (not-true (contains used n) i)
-                (subst (λ m. contains used m ≡ true) ((bytes_eq-Decides (codes "qed") n).0 e) h))
+        (λ e. both_ways (contains used n) (not-true (contains used n) i)
+        (subst (λ m. contains used m ≡ true) ((bytes_eq-Decides (codes "qed") n).0 e) h))
 
     by_test : (n : Name) (b : Bool) (o : Option Name) → not (contains used n) ≡ b → bytes_eq (codes "qed") (unwrap_or o []) ≡ false → bytes_eq (codes "qed") (unwrap_or (cond b (Some n) o) []) ≡ false
     by_test n true o i k = by_name n i

@@ -237,8 +237,8 @@ module _ (ss : List Statement) (at : ℕ) (each : EachBefore IsChecked (below ss
           let some = any-filter (λ x. contains (drop 1 (symbols_in x)) n) (has_keyword (codes "$e")) (active b) tails in
           let turned = any-back (λ x. has_keyword (codes "$e") x && contains (drop 1 (symbols_in x)) n) (active b) some in
           let marked =
-              any-with (λ x. has_keyword (codes "$e") x && contains (drop 1 (symbols_in x)) n)
-                  (λ x. counts mandatory x && (not (is_float x) && stands_in (symbol_in names n) (formula_of names x)))
+          any-with (λ x. has_keyword (codes "$e") x && contains (drop 1 (symbols_in x)) n)
+          (λ x. counts mandatory x && (not (is_float x) && stands_in (symbol_in names n) (formula_of names x)))
           (λ x d.
           let two = and_parts (has_keyword (codes "$e") x) (contains (drop 1 (symbols_in x)) n) d in
           and_from (counts mandatory x) _ (or_left (has_keyword (codes "$e") x) _ two.0)
@@ -281,6 +281,6 @@ module _ (ss : List Statement) (at : ℕ) (each : EachBefore IsChecked (below ss
         pairs = pairs_by (with_keyword (codes "$d") (active b)) mandatory own_names;
         used =
             all_used (typed_variables f.hyps)
-                (λ k v e. typed_from names mandatory (floats_of mandatory b) (floats_mandatory mandatory b each) k v
-                    (subst (λ vs. slice_get vs k ≡ Some v) (typed_at ss l at s) e));
+            (λ k v e. typed_from names mandatory (floats_of mandatory b) (floats_mandatory mandatory b each) k v
+            (subst (λ vs. slice_get vs k ≡ Some v) (typed_at ss l at s) e));
       }

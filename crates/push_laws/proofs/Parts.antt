@@ -157,8 +157,8 @@ module _ (db : Database) where
         let frame = book.facts.rows l r here.1 in
         let gap = book.rows_apart l r frame.0 here.1 frame.1 in
         elim
-            (item_cases (ItemIsApart db frame.0) (map (text db.rows) ts) x r.items gap.items
-                (subst (λ xs. Contains xs x) (text-Node db.rows l c ts ∙ ap (row_text (map (text db.rows) ts)) here.1) h)) [
+        (item_cases (ItemIsApart db frame.0) (map (text db.rows) ts) x r.items gap.items
+        (subst (λ xs. Contains xs x) (text-Node db.rows l c ts ∙ ap (row_text (map (text db.rows) ts)) here.1) h)) [
           | inl d ↦
               let earlier : frame.0.at ≤ thm.at = (let at = frame.2.at in let before = here.2 in omega (arith, at, before)) in
               subst (IsFine (Node l c ts)) (sym d.1) (book.constants_stay d.0 frame.0.at thm.at earlier d.2.0)

@@ -62,7 +62,7 @@ module _ (db : Database) (hyps : List Hyp) where
   -- the last proof is that of the last step
   last_proof : (pre : List WrittenStep) (e : WrittenStep)
       → unwrap_or (last_or None (step_proofs db hyps (pre ++ e ∷ []))) no_proof
-          ≡ slice_index_or (step_proofs db hyps (pre ++ e ∷ [])) (length pre) no_proof
+      ≡ slice_index_or (step_proofs db hyps (pre ++ e ∷ [])) (length pre) no_proof
   last_proof pre e =
       let xs = from [] pre in
       let y = step_proof db hyps xs e in
@@ -108,7 +108,7 @@ record Shape (xs : List WrittenStep) (ts : List SheetStep) : Type 0 where
 module _ (db : Database) (book : IsBook db) (words : List ℕ) (options : Options) (w : Writing) (wr : Writes db words options w) where
   shape_of : (xs : List WrittenStep) (ts : List SheetStep)
       → HasShape db book w.bound w.judgements wr.judged w.value wr.most_general (steps w.read) (bounds db book words options w wr)
-          (spelled db book words options w wr) xs ts
+      (spelled db book words options w wr) xs ts
       → contains (map (λ (t : SheetStep). t.name) ts) (codes "qed") ≡ true → Shape xs ts
   shape_of [] [] empty h = absurd cc
   shape_of xs ts (ends pre e before s named f) h = record { pre = pre; last = e; before = before; step = s; whole = refl; read = refl; named = named; quiet = f }

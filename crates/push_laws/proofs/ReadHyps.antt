@@ -199,7 +199,7 @@ module _ (db : Database) (book : IsBook db) (s : Sheet) (sound : (line code : �
       let given : given_hyps db s ≡ essentials (db.active_at (place_of db s)).hyps = ap (λ o. option_map_or (λ (f : Frame). essentials f.hyps) o (essentials (db.active_at (place_of db s)).hyps)) e in
       subst (AllByRecursion (Contains (db.active_at (place_of db s)).hyps)) (sym given)
       (all_in (Contains (db.active_at (place_of db s)).hyps) (essentials (db.active_at (place_of db s)).hyps)
-          (λ h c. (filter_from (λ (x : Hyp). not x.floating) (db.active_at (place_of db s)).hyps h c).0))
+      (λ h c. (filter_from (λ (x : Hyp). not x.floating) (db.active_at (place_of db s)).hyps h c).0))
   given_by (Some f) e =
       let given : given_hyps db s ≡ essentials f.hyps = ap (λ o. option_map_or (λ (f : Frame). essentials f.hyps) o (essentials (db.active_at (place_of db s)).hyps)) e in
       let place : place_of db s ≡ f.at = ap (λ o. option_map_or (λ (f : Frame). f.at) o (new_place db s.loc)) e in

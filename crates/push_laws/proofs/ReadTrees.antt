@@ -65,9 +65,9 @@ declared_from db place s c e =
 pub declared_to : (db : Database) (place : ℕ) (s : Sym) (c : Typecode) → IsDeclared db place s c → is_declared db place s c ≡ true
 declared_to db place s c d =
     and_from _ _
-        (ap (λ o. option_map_or (same_var s c) o false) d.leaf_is
-            ∙ and_from (s.0 == s.0) (c.0.0 == c.0.0) (eq-eqb s.0 s.0 refl) (eq-eqb c.0.0 c.0.0 refl))
-        (lt-ltb s.0 (length db.symbols) d.named)
+    (ap (λ o. option_map_or (same_var s c) o false) d.leaf_is
+    ∙ and_from (s.0 == s.0) (c.0.0 == c.0.0) (eq-eqb s.0 s.0 refl) (eq-eqb c.0.0 c.0.0 refl))
+    (lt-ltb s.0 (length db.symbols) d.named)
 
 module _ {X Y : Type 0} (h : X → Option Y) where
   from_option : (x : X) (o : Option Y) (ys : List Y) (y : Y) → h x ≡ o → Contains (cons_option o ys) y → (Contains ys y → (z : X) × (h z ≡ Some y)) → (z : X) × (h z ≡ Some y)

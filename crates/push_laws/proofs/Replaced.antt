@@ -77,7 +77,7 @@ module _ (db : Database) (book : IsBook db) (before : ℕ) where
     abbrev Kept : Tree → Type 0
     Kept t =
         Typed t → before ≤ place → ((s : Sym) (c : Typecode) → HasVar t s c → IsTypedAs db.rows place c (at_var s c))
-            → ((x : Open) → Occurs x t → IsTypedAs db.rows place (open_code x) (at_open x))
+        → ((x : Open) → Occurs x t → IsTypedAs db.rows place (open_code x) (at_open x))
         → IsTypedAs db.rows place (code_of t) (replace at_var at_open t)
 
     typed_as : (c d : Typecode) (t u : Tree) → c ≡ d → t ≡ u → IsTypedAs db.rows place d u → IsTypedAs db.rows place c t

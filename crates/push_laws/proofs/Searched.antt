@@ -102,8 +102,8 @@ module _ (db : Database) (book : IsBook db) (bound : Bound) (judgements : List J
     pub named_sound : (t : Tree) → Sound t → Sound (name t)
     named_sound t h =
         let kept =
-            typed_on db book bound.place bound.place (λ v c. Var v c) (name_leaf names) t h.typed (omega arith)
-                (λ v c k. record { code = code-Var v c; typed = typed-Var db.rows bound.place v c }) (λ x o. leaf_typed x) in
+        typed_on db book bound.place bound.place (λ v c. Var v c) (name_leaf names) t h.typed (omega arith)
+        (λ v c k. record { code = code-Var v c; typed = typed-Var db.rows bound.place v c }) (λ x o. leaf_typed x) in
         record {
           code = kept.code ∙ h.code;
           typed = kept.typed;
@@ -150,8 +150,8 @@ module _ (db : Database) (book : IsBook db) (bound : Bound) (judgements : List J
             → beside (zip (v ∷ vs) (map name (t ∷ ts))) s ≡ name (beside (zip (v ∷ vs) (t ∷ ts)) s)
         by_test b e h =
             subst
-                (λ (x : Bool). option_map_or (λ (p : TypedVariable × Tree). p.1)
-                    (cond x (Some (v, name t)) (find (λ (p : TypedVariable × Tree). p.0.sym.0 == s.0) (zip vs (map name ts)))) no_tree
+            (λ (x : Bool). option_map_or (λ (p : TypedVariable × Tree). p.1)
+            (cond x (Some (v, name t)) (find (λ (p : TypedVariable × Tree). p.0.sym.0 == s.0) (zip vs (map name ts)))) no_tree
             ≡ name (option_map_or (λ (p : TypedVariable × Tree). p.1) (cond x (Some (v, t)) (find (λ (p : TypedVariable × Tree). p.0.sym.0 == s.0) (zip vs ts))) no_tree)) (sym e) h
 
     -- a tree without open leaves, valued by the named values
@@ -159,7 +159,7 @@ module _ (db : Database) (book : IsBook db) (bound : Bound) (judgements : List J
     named_valued u t closed =
         sym (replace-replace (λ v d. Var v d) (λ s c. value_of u s) (name_leaf names) leaf_tree t
         ∙ replace-agree (λ s c. name (value_of u s)) (λ s c. value_of (named_use u) s) (λ x. name (leaf_tree x)) leaf_tree
-            (λ s c. sym (beside_named u.assertion.vars u.values s)) t (λ x o. absurd (closed x o)))
+        (λ s c. sym (beside_named u.assertion.vars u.values s)) t (λ x o. absurd (closed x o)))
 
     named_all : (u : Use) (ts : List Tree) → AllByRecursion IsClosedTree ts → map (valued (named_use u)) ts ≡ map name (map (valued u) ts)
     named_all u [] a = refl
@@ -181,10 +181,10 @@ module _ (db : Database) (book : IsBook db) (bound : Bound) (judgements : List J
     named_has : (es : List WrittenStep) (e : WrittenStep) (u : Use) → HasUse es db bound.place e u → HasUse (map (name_step names) es) db bound.place (name_step names e) (named_use u)
     named_has es e u h =
         let closed =
-            all_in IsClosedTree u.assertion.hyps
-                (λ t c.
-                    (all_of (IsAssertionTree db book h.label u.assertion h.usable) u.assertion.hyps t
-                        (hyp_trees db book h.label u.assertion h.usable) c).closed) in
+        all_in IsClosedTree u.assertion.hyps
+        (λ t c.
+        (all_of (IsAssertionTree db book h.label u.assertion h.usable) u.assertion.hyps t
+        (hyp_trees db book h.label u.assertion h.usable) c).closed) in
         record {
           label = h.label;
           named = h.named;

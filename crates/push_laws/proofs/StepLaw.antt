@@ -239,14 +239,14 @@ module _ (db : Database) (book : IsBook db) (words : List ℕ) (options : Option
     by_tree : (e : WrittenStep) (h : Hyp) (x : SheetStep) (read : IsHypRead db book words options w wr e x) (b : BoundStep) (o : Option Tree)
         → b.tree ≡ o → slice_get w.bound.steps read.place ≡ Some b
         → HasTree db w.bound.place (names_of db h.formula) o → IsKnownAt db w.bound.place h.formula
-            → begins_with_token db.provable (names_of db h.formula) ≡ true → h.formula ≡ p ∷ tree_symbols db e.tree
+        → begins_with_token db.provable (names_of db h.formula) ≡ true → h.formula ≡ p ∷ tree_symbols db e.tree
     by_tree e h x read b None is at none known begins = absurd (let bad : false ≡ true = ap (begins_with_token db.provable) (sym none) ∙ begins in cc)
     by_tree e h x read b (Some t) is at the known begins =
         let g = given_tree db book w.bound.place p h.formula t provable known begins the in
         let tree : (slice_index_or w.bound.steps read.place no_step).tree ≡ Some t = ap (λ (y : BoundStep). y.tree) (index_get w.bound.steps read.place no_step b at) ∙ is in
         let same : e.tree ≡ t =
         read.tree ∙ ap (λ o. name_tree w.names (formula_value w.value read.place o)) tree
-            ∙ ap (name_tree w.names) (stays_closed (open_value w.value) t g.closed) ∙ stays_closed (name_leaf w.names) t g.closed in
+        ∙ ap (name_tree w.names) (stays_closed (open_value w.value) t g.closed) ∙ stays_closed (name_leaf w.names) t g.closed in
         g.formula ∙ ap (λ y. p ∷ tree_symbols db y) (sym same)
 
     -- the formula of a given hypothesis is that of its step
@@ -262,9 +262,9 @@ module _ (db : Database) (book : IsBook db) (words : List ℕ) (options : Option
         let tokens : x.formula ≡ names_of db h.formula = ap (λ (y : SheetStep). y.formula) r.2.2 ∙ ap (λ (y : SheetStep). y.formula) same ∙ is in
         let b = zip_get (IsBoundStep db w.bound.place) (steps w.read) w.bound.steps read.place x (bounds db book words options w wr) read.stands in
         let known =
-            subst (λ (n : ℕ). IsKnownAt db n h.formula) (sym wr.binds.place)
-                (all_of (λ (y : Hyp). IsKnownAt db (place_of db s) y.formula) (db.active_at (place_of db s)).hyps h
-                    (book.hyps_apart (place_of db s)).known active) in
+        subst (λ (n : ℕ). IsKnownAt db n h.formula) (sym wr.binds.place)
+        (all_of (λ (y : Hyp). IsKnownAt db (place_of db s) y.formula) (db.active_at (place_of db s)).hyps h
+        (book.hyps_apart (place_of db s)).known active) in
         let begins : begins_with_token db.provable (names_of db h.formula) ≡ true = subst (λ f. begins_with_token db.provable f ≡ true) is (hyp_begins db book s wr.binds.sound m t stands) in
         by_tree e h x read b.0 b.0.tree refl b.1 (subst (λ f. HasTree db w.bound.place f b.0.tree) tokens b.2.tree) known begins
 

@@ -109,10 +109,10 @@ float_by h hs s c (a ∷ v ∷ []) fl is short e f = elim (cases_Bool (v.0 == s.
   | inl d ↦
       let same : v ≡ s = same_symbol v s d in
       let one : Some (typecode a) ≡ Some c =
-          subst
-              (λ (b : Bool). option_map (λ (x : TypedVariable). x.code)
-                  (cond b (Some (record { sym = v; code = typecode a })) (find (λ (x : TypedVariable). x.sym.0 == s.0) (typed_variables hs)))
-                  ≡ Some c) d e in
+      subst
+      (λ (b : Bool). option_map (λ (x : TypedVariable). x.code)
+      (cond b (Some (record { sym = v; code = typecode a })) (find (λ (x : TypedVariable). x.sym.0 == s.0) (typed_variables hs)))
+      ≡ Some c) d e in
       let code : typecode a ≡ c = cc in
       let test : is_float_of s h ≡ true = and_from h.floating _ fl (ap (λ g. list_any (λ (x : Sym). x.0 == s.0) (drop 1 g)) is ∙ or_left (v.0 == s.0) false d) in
       record {
@@ -124,9 +124,9 @@ float_by h hs s c (a ∷ v ∷ []) fl is short e f = elim (cases_Bool (v.0 == s.
   | inr d ↦
       let rest : code_in s (typed_variables hs) ≡ Some c =
       subst
-          (λ (b : Bool). option_map (λ (x : TypedVariable). x.code)
-              (cond b (Some (record { sym = v; code = typecode a })) (find (λ (x : TypedVariable). x.sym.0 == s.0) (typed_variables hs)))
-              ≡ Some c) d e in
+      (λ (b : Bool). option_map (λ (x : TypedVariable). x.code)
+      (cond b (Some (record { sym = v; code = typecode a })) (find (λ (x : TypedVariable). x.sym.0 == s.0) (typed_variables hs)))
+      ≡ Some c) d e in
       let test : list_any (λ (x : Sym). x.0 == s.0) (drop 1 h.formula) ≡ false = ap (λ g. list_any (λ (x : Sym). x.0 == s.0) (drop 1 g)) is ∙ ap (λ (b : Bool). b || false) d in
       skip h hs s c (and_false h.floating _ test) (f rest)
 ]
@@ -141,7 +141,7 @@ float_found [] s c a e = absurd cc
 float_found (h ∷ hs) s c a e = elim (cases_Bool h.floating) [
   | inl d ↦
       let split : code_in s (typed_by h.formula ++ typed_variables hs) ≡ Some c =
-          subst (λ (b : Bool). code_in s (flat_map (λ (x : Hyp). typed_by x.formula) (cond b (h ∷ floats hs) (floats hs))) ≡ Some c) d e in
+      subst (λ (b : Bool). code_in s (flat_map (λ (x : Hyp). typed_by x.formula) (cond b (h ∷ floats hs) (floats hs))) ≡ Some c) d e in
       float_by h hs s c h.formula d refl (a.0 d) split (λ i. float_found hs s c a.1 i)
   | inr d ↦
       let rest : float_of s hs ≡ Some c = subst (λ (b : Bool). code_in s (flat_map (λ (x : Hyp). typed_by x.formula) (cond b (h ∷ floats hs) (floats hs))) ≡ Some c) d e in
@@ -271,7 +271,7 @@ module _ (db : Database) (book : IsBook db) (s : Sheet) (sound : (line code : �
       pub plain : IsNoGap (unwrap_or e.reference [])
       pub source : (hyp ≡ new_of e)
           ⊎ ((t : SheetStep) × (m : ℕ) × Contains active hyp × (slice_get (hyp_steps db book s sound) m ≡ Some t) × (slice_get written m ≡ Some e)
-              × (t.formula ≡ names_of db hyp.formula))
+          × (t.formula ≡ names_of db hyp.formula))
 
     given_found : (m : ℕ) (e : WrittenStep) (t : SheetStep) (h : Hyp) → slice_get written m ≡ Some e
         → slice_get (hyp_steps db book s sound) m ≡ Some t → IsRead e t → slice_get (given_hyps db s) m ≡ Some h → HypFound e

@@ -65,8 +65,8 @@ module _ (db : Database) (book : IsBook db) (before : ℕ) where
       let symbols' = subst (AllByRecursion (λ (x : Sym). x.0 < length db.symbols)) frame.2.formula symbols in
       let named = items_named (typed_variables frame.0.hyps) r.items symbols'.1 in
       elim
-          (item_cases IsNamed (map (text db.rows) ts) (leaf.Const s) r.items named
-              (subst (λ xs. Contains xs (leaf.Const s)) (text-Node db.rows l c ts ∙ ap (row_text (map (text db.rows) ts)) here.1) h)) [
+      (item_cases IsNamed (map (text db.rows) ts) (leaf.Const s) r.items named
+      (subst (λ xs. Contains xs (leaf.Const s)) (text-Node db.rows l c ts ∙ ap (row_text (map (text db.rows) ts)) here.1) h)) [
         | inl d ↦ subst (λ (x : Sym). x.0 < length db.symbols) (same_const s d.0 d.1) d.2
         | inr d ↦
             let t = child_at (text db.rows) ts d.0 (leaf.Const s) d.1 in

@@ -195,8 +195,8 @@ module _ (db : Database) (book : IsBook db) (thm : Theorem) (apart : AreApart db
       let h = floats s c (subst (λ xs. Contains xs (leaf.Var s c)) (sym (text-Var db.rows s c)) (first (leaf.Var s c) (leaf.Var s c) [] refl)) in
       let label : float_label thm.hyps s ≡ h.hyp.name = ap (λ (o : Option Hyp). option_map_or (λ (x : Hyp). x.name) o []) h.is_float in
       let formula : h.hyp.formula ≡ tree_formula db (Var s c) =
-          h.formula ∙ ap (λ (d : Typecode). d.0 ∷ s ∷ []) (sym (code-Var s c))
-              ∙ ap (λ xs. (code_of (Var s c)).0 ∷ flat_map leaf_symbols xs) (sym (text-Var db.rows s c)) in
+      h.formula ∙ ap (λ (d : Typecode). d.0 ∷ s ∷ []) (sym (code-Var s c))
+      ∙ ap (λ xs. (code_of (Var s c)).0 ∷ flat_map leaf_symbols xs) (sym (text-Var db.rows s c)) in
       subst (λ p. The p (tree_formula db (Var s c))) (sym (syntax-Var db thm.hyps s c ∙ ap (λ (n : Name). by n none) label))
       (subst (The (by h.hyp.name none)) formula (hyp_proof (frames_of db) thm h.hyp.name h.hyp h.named h.no_gap))
 

@@ -184,21 +184,21 @@ module _ (db : Database) (book : IsBook db) (thm : Theorem) (apart : AreApart db
   value_good : (k : ℕ) (v : TypedVariable) → slice_get vars k ≡ Some v → IsGood db book thm apart (value v.sym)
   value_good k v e =
       elim
-          (or_cases (stands_in v.sym f.formula) (list_any (λ (h : Hyp). not h.floating && stands_in v.sym h.formula) f.hyps)
-              (all_of (IsUsed f) vars v frame_is_apart.used (get_contains vars k v e))) [
-    | inl d ↦
-        let own = (book.own use'.label f frame).formula in
-        let c = stands_in_text f.formula a.tree v.sym (read_text f.formula a.tree is_usable.conclusion own) own.leaves (float_any k v e) d in
-        good_part db book thm apart value a.tree v.sym c.0 c.1 use'.conclusion
-    | inr d ↦
-        let h = any_contains (λ (h : Hyp). not h.floating && stands_in v.sym h.formula) f.hyps d in
-        let two = and_parts (not h.0.floating) (stands_in v.sym h.0.formula) h.2 in
-        let at = contains_get (essentials f.hyps) h.0 (filter_contains (λ (x : Hyp). not x.floating) f.hyps h.0 h.1 two.0) in
-        let t = zip_get (λ (x : Hyp) y. IsRead db f.at x.formula y) (essentials f.hyps) a.hyps at.0 h.0 is_usable.hyps at.1 in
-        let own = all_of (λ (x : Hyp). IsOwnFormula db f x.formula) (essentials f.hyps) h.0 (book.own use'.label f frame).hyps (get_contains (essentials f.hyps) at.0 h.0 at.1) in
-        let c = stands_in_text h.0.formula t.0 v.sym (read_text h.0.formula t.0 t.2 own) own.leaves (float_any k v e) two.1 in
-        good_part db book thm apart value t.0 v.sym c.0 c.1 (all_of (λ x. IsGood db book thm apart (valued u x)) a.hyps t.0 use'.hyps (get_contains a.hyps at.0 t.0 t.1))
-  ]
+      (or_cases (stands_in v.sym f.formula) (list_any (λ (h : Hyp). not h.floating && stands_in v.sym h.formula) f.hyps)
+      (all_of (IsUsed f) vars v frame_is_apart.used (get_contains vars k v e))) [
+        | inl d ↦
+            let own = (book.own use'.label f frame).formula in
+            let c = stands_in_text f.formula a.tree v.sym (read_text f.formula a.tree is_usable.conclusion own) own.leaves (float_any k v e) d in
+            good_part db book thm apart value a.tree v.sym c.0 c.1 use'.conclusion
+        | inr d ↦
+            let h = any_contains (λ (h : Hyp). not h.floating && stands_in v.sym h.formula) f.hyps d in
+            let two = and_parts (not h.0.floating) (stands_in v.sym h.0.formula) h.2 in
+            let at = contains_get (essentials f.hyps) h.0 (filter_contains (λ (x : Hyp). not x.floating) f.hyps h.0 h.1 two.0) in
+            let t = zip_get (λ (x : Hyp) y. IsRead db f.at x.formula y) (essentials f.hyps) a.hyps at.0 h.0 is_usable.hyps at.1 in
+            let own = all_of (λ (x : Hyp). IsOwnFormula db f x.formula) (essentials f.hyps) h.0 (book.own use'.label f frame).hyps (get_contains (essentials f.hyps) at.0 h.0 at.1) in
+            let c = stands_in_text h.0.formula t.0 v.sym (read_text h.0.formula t.0 t.2 own) own.leaves (float_any k v e) two.1 in
+            good_part db book thm apart value t.0 v.sym c.0 c.1 (all_of (λ x. IsGood db book thm apart (valued u x)) a.hyps t.0 use'.hyps (get_contains a.hyps at.0 t.0 t.1))
+      ]
 
   -- ---- the `$f` of the frame
 
@@ -257,10 +257,10 @@ module _ (db : Database) (book : IsBook db) (thm : Theorem) (apart : AreApart db
     taken : AllZip (IsTaken values) f.hyps taken_formulas
     taken =
         hyps_taken (IsTaken values) float_formula_of f.hyps (map hyp_formula a.hyps)
-            (all_in (λ (h : Hyp). h.floating ≡ true → IsTaken values h (float_formula_of h)) f.hyps (λ h c e i. float_taken h c e))
+        (all_in (λ (h : Hyp). h.floating ≡ true → IsTaken values h (float_formula_of h)) f.hyps (λ h c e i. float_taken h c e))
         (zip_mapped (IsTaken values) hyp_formula (essentials f.hyps) a.hyps
         (zip_left (λ (h : Hyp) t. IsRead db f.at h.formula t) (λ h t. IsTaken values h (hyp_formula t)) (λ (h : Hyp). not h.floating ≡ true)
-            (λ h t n r i. absurd (both_ways h.floating (not-true h.floating n) i))
+        (λ h t n r i. absurd (both_ways h.floating (not-true h.floating n) i))
         (essentials f.hyps) a.hyps (all_pass (λ (h : Hyp). not h.floating) f.hyps) is_usable.hyps))
 
     begins_provable : (g : Formula) (t : Tree) → IsRead db f.at g t → Begins db f.at g → (rest : Formula) × (g ≡ p ∷ rest) × (db.is_constant_at p f.at ≡ true)

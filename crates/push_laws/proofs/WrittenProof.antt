@@ -240,7 +240,7 @@ spellable_proof_is_accepted db text options w opened writes spellable finished =
     let book = is_book options.kinds opened.text db opened.is_database opened.sound in
     proves db options w spellable
     (proof_is_text db options w (labels_named db book text options w writes finished) (accepted db book text options w writes finished)
-        (code_is_read db book text options w writes finished) options.style)
+    (code_is_read db book text options w writes finished) options.style)
     finished
 
 module _ (reads_back : (db : Database) (text : List ℕ) (options : Options) (w : Writing) → WrittenReadsBack db text options w) where

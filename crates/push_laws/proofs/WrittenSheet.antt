@@ -56,7 +56,7 @@ bare_filter (t ∷ ts) = go t.hyp refl (bare_filter ts)
   where
     go : (b : Bool) → t.hyp ≡ b → map bare (filter (λ (x : SheetStep). x.hyp) ts) ≡ filter (λ (x : SheetStep). x.hyp) (map bare ts)
         → map bare (cond b (t ∷ filter (λ (x : SheetStep). x.hyp) ts) (filter (λ (x : SheetStep). x.hyp) ts))
-            ≡ cond b (bare t ∷ filter (λ (x : SheetStep). x.hyp) (map bare ts)) (filter (λ (x : SheetStep). x.hyp) (map bare ts))
+        ≡ cond b (bare t ∷ filter (λ (x : SheetStep). x.hyp) (map bare ts)) (filter (λ (x : SheetStep). x.hyp) (map bare ts))
     go true e h = ap (λ xs. bare t ∷ xs) h
     go false e h = h
 
@@ -118,10 +118,10 @@ module _ (n : ℕ) (t : SheetStep) (e : is_step_spellable n t ≡ true) where
   spelled_parts : (list_all (is_place_below n) t.places ≡ true) × (option_map_or is_label t.reference (not t.hyp) ≡ true)
   spelled_parts =
       let a =
-          and_parts
-              (is_label t.name && (t.hyp || not (marked_name t.name).0) && list_all (is_place_below n) t.places
-                  && option_map_or is_label t.reference (not t.hyp))
-              (list_all is_token t.formula) e in
+      and_parts
+      (is_label t.name && (t.hyp || not (marked_name t.name).0) && list_all (is_place_below n) t.places
+      && option_map_or is_label t.reference (not t.hyp))
+      (list_all is_token t.formula) e in
       let b = and_parts (is_label t.name && (t.hyp || not (marked_name t.name).0) && list_all (is_place_below n) t.places) (option_map_or is_label t.reference (not t.hyp)) a.0 in
       let c = and_parts (is_label t.name && (t.hyp || not (marked_name t.name).0)) (list_all (is_place_below n) t.places) b.0 in
       (c.1, b.1)
@@ -183,8 +183,8 @@ module _ (db : Database) (book : IsBook db) (text : List ℕ) (options : Options
   spelled i t at =
       let u = bare_at i t at in
       let here : is_step_spellable i u.0 ≡ true =
-          subst (λ (n : ℕ). is_step_spellable n u.0 ≡ true) (let e : 0 + i ≡ i = omega arith in e)
-              (spellable_at 0 (steps sheet) i u.0 spellable.each_step u.1) in
+      subst (λ (n : ℕ). is_step_spellable n u.0 ≡ true) (let e : 0 + i ≡ i = omega arith in e)
+      (spellable_at 0 (steps sheet) i u.0 spellable.each_step u.1) in
       subst (AllByRecursion (IsBefore i)) (ap (λ (x : SheetStep). x.places) u.2) (places_before i u.0.places (spelled_parts i u.0 here).0)
 
   abbrev pub es0 : List WrittenStep
@@ -231,8 +231,8 @@ module _ (db : Database) (book : IsBook db) (text : List ℕ) (options : Options
       let one = named_step db book bound w.judgements wr.judged w.value wr.most_general (steps w.read) bounds spelled w.names es0 i o.0 (filled.1.each i o.0 o.1) in
       let two = subst (λ x. StepOf db book bound w.judgements wr.judged w.value wr.most_general (steps w.read) bounds spelled (map (name_step w.names) es0) i x) o.2 one in
       let three =
-          subst (λ xs. StepOf db book bound w.judgements wr.judged w.value wr.most_general (steps w.read) bounds spelled xs i f.0)
-              (sym (steps_named w.names (after_filling db options w))) two in
+      subst (λ xs. StepOf db book bound w.judgements wr.judged w.value wr.most_general (steps w.read) bounds spelled xs i f.0)
+      (sym (steps_named w.names (after_filling db options w))) two in
       searched_step db book bound w.judgements wr.judged w.value wr.most_general (steps w.read) bounds spelled options.dv bound.pairs es1 es
       (searched_trees db book bound w.judgements wr.judged w.value wr.most_general (steps w.read) bounds spelled options.dv bound.pairs es1 es1 es zipped) i f.0 e f.2 three
 
@@ -281,7 +281,7 @@ module _ (db : Database) (book : IsBook db) (text : List ℕ) (options : Options
       zip_bare IsHypRead written_hyps (filter (λ (t : SheetStep). t.hyp) (steps w.read)) (filter (λ (t : SheetStep). t.hyp) (steps sheet))
       (bare_filter (steps w.read) ∙ ap (filter (λ (t : SheetStep). t.hyp)) (sym same_steps) ∙ sym (bare_filter (steps sheet)))
       (subst (λ xs. AllZip IsHypRead xs (filter (λ (t : SheetStep). t.hyp) (steps w.read))) (sym hyps_are)
-          (named_zip (filter (λ (e : WrittenStep). e.hyp) es0) (filter (λ (t : SheetStep). t.hyp) (steps w.read)) filled.1.hyps))
+      (named_zip (filter (λ (e : WrittenStep). e.hyp) es0) (filter (λ (t : SheetStep). t.hyp) (steps w.read)) filled.1.hyps))
 
   labelled : (t : SheetStep) → Contains (hyp_steps db book sheet wr.binds.sound) t → HasLabel t
   labelled t c =
@@ -296,8 +296,13 @@ module _ (db : Database) (book : IsBook db) (text : List ℕ) (options : Options
   zip_with (x ∷ xs) (t ∷ ts) f a =
       let l = f t (first t t ts refl) in
       let r = a.0.1 in (
-        record { name = r.name ∙ ap (λ (y : SheetStep). y.name) a.0.2; reference = r.reference ∙ ap (λ (y : SheetStep). y.reference) a.0.2;
-            label = l.label; label_is = l.label_is; spelled = l.spelled },
+        record {
+          name = r.name ∙ ap (λ (y : SheetStep). y.name) a.0.2;
+          reference = r.reference ∙ ap (λ (y : SheetStep). y.reference) a.0.2;
+          label = l.label;
+          label_is = l.label_is;
+          spelled = l.spelled;
+        },
         zip_with xs ts (λ y c. f y (later y t ts c)) a.1,
       )
 

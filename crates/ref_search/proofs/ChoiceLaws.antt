@@ -87,7 +87,7 @@ orders_same e = by (nat_le 2 (length e.places)) (nat_le (length e.places) 6) ref
 
     by : (b c : Bool) → nat_le 2 (length e.places) ≡ b → nat_le (length e.places) 6 ≡ c
         → (if b && c then orders (length e.places) e.places else e.places ∷ [])
-            ≡ map (places_at e) (if c then orders (length e.places) (range_with_len 0 (length e.places)) else range_with_len 0 (length e.places) ∷ [])
+        ≡ map (places_at e) (if c then orders (length e.places) (range_with_len 0 (length e.places)) else range_with_len 0 (length e.places) ∷ [])
     by true true x y =
         ap (orders (length e.places)) (sym whole) ∙ orders_map (λ k. slice_index_or e.places k given.Gap) (length e.places) (range_with_len 0 (length e.places))
     by true false x y = alone
@@ -246,7 +246,7 @@ module _ (db : Database) (place : ℕ) (mode : DvMode) (pairs : List Pair) (es :
                 a.0,
                 to_use f.label f.order
                     (first_is_one (FitsLabel db allowed w f.label) (IsOrder (length w.hyps) (length w.hyps)) (orders_of (length w.hyps)) f.order
-                        (all_orders (length w.hyps)) h.found.fits.first) there a.0 f.trees a.1,
+                    (all_orders (length w.hyps)) h.found.fits.first) there a.0 f.trees a.1,
               );
         }
 
@@ -264,9 +264,10 @@ answer_of d place bound w allowed count first (Ok o) h = λ kinds text mode pair
     omega (arith, count, less, many, labels) in
     answered (book kinds text d) place mode pairs es e w allowed is_allowed wanted bound most
     (λ l k.
-    let both = first l (omega (arith, k, labels)) in
-    (λ x. subst (λ (c : Contents). slice_index_or c.positions l 0 < place) opened.contents (both.0 x),
-        λ x. both.1 (subst (λ (c : Contents). slice_index_or c.positions l 0 < place) (sym opened.contents) x)))
+    let both = first l (omega (arith, k, labels)) in (
+      λ x. subst (λ (c : Contents). slice_index_or c.positions l 0 < place) opened.contents (both.0 x),
+      λ x. both.1 (subst (λ (c : Contents). slice_index_or c.positions l 0 < place) (sym opened.contents) x),
+    ))
     o (h kinds text opened)
 
 -- ---- what is found is sound

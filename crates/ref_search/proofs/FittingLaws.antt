@@ -273,7 +273,7 @@ module _ (kinds : Kinds) (text : List ℕ) (d : Opened) (given : Option (List Pa
           rise = labels_rise late (fold put_label [] early) (labels_rise early [] tt);
           each = labels_all (FitsBelow (book kinds text d) given w bound) late (fold put_label [] early) each
               (labels_all (FitsBelow (book kinds text d) given w bound) early []
-                  (all_with (FitsBelow (book kinds text d) given w bound) (by_head d.parsed None (length w.hyps)) early are_early.those) tt);
+              (all_with (FitsBelow (book kinds text d) given w bound) (by_head d.parsed None (length w.hyps)) early are_early.those) tt);
           none_left_out = λ n p. no_longer_in (label n) (all_in (label n)) p;
         })
 
@@ -385,7 +385,8 @@ answer_of_all d place bound w allowed count before numbers h ls is = subst (AreA
     omega (arith, count, less, many, labels) in
     all_answered (book kinds text d) place mode pairs es e w allowed is_allowed wanted bound most
     (λ l k.
-    let both = before l (omega (arith, k, labels)) in
-    (λ x. subst (λ (c : Contents). slice_index_or c.positions l 0 < place) opened.contents (both.0 x),
-        λ x. both.1 (subst (λ (c : Contents). slice_index_or c.positions l 0 < place) (sym opened.contents) x)))
+    let both = before l (omega (arith, k, labels)) in (
+      λ x. subst (λ (c : Contents). slice_index_or c.positions l 0 < place) opened.contents (both.0 x),
+      λ x. both.1 (subst (λ (c : Contents). slice_index_or c.positions l 0 < place) (sym opened.contents) x),
+    ))
     numbers (h kinds text opened))

@@ -90,10 +90,11 @@ module _ (kinds : Kinds) (text : List ℕ) (d : Opened) (opened : IsOpened kinds
     label_fit o h = record {
       first = first_same (CanFit (assertion_of l f p) given w) (FitsLabel (book kinds text d) given w l)
           (λ order c. (assertion_of l f p, c.0, record { usable = the_usable; fits = c.1 }))
-          (λ order c.
-              (c.1,
-                  subst (λ a. FitsWanted a given w order c.1)
-                      (some_is_some (usable_with d.parsed l (frame_of (statements text) l)) c.0 (assertion_of l f p) c.2.usable the_usable) c.2.fits))
+          (λ order c. (
+            c.1,
+            subst (λ a. FitsWanted a given w order c.1)
+                (some_is_some (usable_with d.parsed l (frame_of (statements text) l)) c.0 (assertion_of l f p) c.2.usable the_usable) c.2.fits,
+          ))
           (orders_of (length w.hyps)) (option_map (λ (fit : Fit). fit.order) o) h.first;
       values = by o h.values;
     }
@@ -215,7 +216,7 @@ frame_none kinds text d opened given w l f none told = no_frame kinds text d ope
 pub frame_some : FramesAreWhole → (d : Opened) (given : Option (List Pair)) (w : Wanted) (l : Label) (p : Parsed) → parsed_at d.parsed l ≡ Some p
     → (f : Option (Bor Frame)) (g : Bor Frame) → f ≡ Some g
     → ((text : List ℕ) → d.contents ≡ contents_of text → option_copied f ≡ frame_of (statements text) l)
-        → (vars : List Sym) (tree : Tree) (hyps : List Tree) → vars ≡ p.vars → tree ≡ p.tree → hyps ≡ p.hyps
+    → (vars : List Sym) (tree : Tree) (hyps : List Tree) → vars ≡ p.vars → tree ≡ p.tree → hyps ≡ p.hyps
     → (r : Result (Option Fit) Memory) → IfOk r (λ o. (a : Assertion) → IsRule a g.now vars → a.tree ≡ tree → a.hyps ≡ hyps → IsFitOf a given w o)
     → IfOk r (λ o. ForEachText d (λ b. IsLabelFit b given w l o))
 frame_some whole d given w l p kept f g some told vars tree hyps v t h (Err m) k = k

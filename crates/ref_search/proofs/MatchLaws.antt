@@ -272,8 +272,8 @@ ground_parts : (ts : List Tree) → (length (flatten (map open_leaves ts)) == 0)
 ground_parts [] h = tt
 ground_parts (t ∷ ts) h =
     let both : length (open_leaves t) + length (flatten (map open_leaves ts)) ≡ 0 =
-        sym (length-append (open_leaves t) (flatten (map open_leaves ts)))
-            ∙ same_number (length (open_leaves t ++ flatten (map open_leaves ts))) 0 h in
+    sym (length-append (open_leaves t) (flatten (map open_leaves ts)))
+    ∙ same_number (length (open_leaves t ++ flatten (map open_leaves ts))) 0 h in
     let one : length (open_leaves t) ≡ 0 = omega (arith, both) in
     let rest : length (flatten (map open_leaves ts)) ≡ 0 = omega (arith, both) in
     (rw one refl, ground_parts ts (rw rest refl))

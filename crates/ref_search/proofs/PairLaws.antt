@@ -128,4 +128,4 @@ module _ (a : Assertion) (fewer more : List Tree) (same : (s : Sym) → IsSameOr
   lack_none holds None h = refl
   lack_none holds (Some given) h =
       all_pass (λ p. not (is_pair_in given p)) (needed (use_of a fewer))
-          (λ x k. none_passes (λ p. not (is_pair_in given p)) (needed (use_of a more)) h x (needed_more holds x k))
+      (λ x k. none_passes (λ p. not (is_pair_in given p)) (needed (use_of a more)) h x (needed_more holds x k))

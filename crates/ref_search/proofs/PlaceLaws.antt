@@ -143,10 +143,10 @@ module _ (frame : Frame) (vars : List Sym) (old now : List Binding) (h : Tree) (
     none_begun : IsMatched vars (Becomes h t) old new false → IsFirstOrNone (CanComplete a given old (h ∷ hs) wanted) (begun_with (length hs) (at, remove places i)) None
     none_begun m =
         first_map (CanComplete a given old (h ∷ hs) wanted) (λ order. CanComplete a given old (h ∷ hs) wanted (at ∷ order)) (λ order. at ∷ order)
-            (λ order c. c) (λ order c. c) (orders (length hs) (remove places i)) None
+        (λ order c. c) (λ order c. c) (orders (length hs) (remove places i)) None
         (all_none (λ order. CanComplete a given old (h ∷ hs) wanted (at ∷ order))
-            (λ order c. other_fails a given frame vars rule old new h hs t (trees_at wanted order) m c.0 (from_tree order c.0 c.1))
-            (orders (length hs) (remove places i)))
+        (λ order c. other_fails a given frame vars rule old new h hs t (trees_at wanted order) m c.0 (from_tree order c.0 c.1))
+        (orders (length hs) (remove places i)))
 
     first_begun : IsMatched vars (Becomes h t) old new true → (o : Option (List ℕ)) → IsFirstOrNone (CanComplete a given new hs wanted) (orders (length hs) (remove places i)) o
         → IsFirstOrNone (CanComplete a given old (h ∷ hs) wanted) (begun_with (length hs) (at, remove places i)) (option_map (λ order. at ∷ order) o)
@@ -166,7 +166,7 @@ module _ (frame : Frame) (vars : List Sym) (old now : List Binding) (h : Tree) (
         → IsFirstOrNone (CanComplete a given old (h ∷ hs) wanted) (flat_map (begun_with (length hs)) (picks places)) (Some order)
     found_here bound order some =
         reached (CanComplete a given old (h ∷ hs) wanted) (begun_with (length hs)) (picks places) (flat_map (begun_with (length hs)) (picks places)) i
-            (at, places) order within (so_far.first a rule bound)
+        (at, places) order within (so_far.first a rule bound)
         (subst (λ p. IsFirstOrNone (CanComplete a given old (h ∷ hs) wanted) (begun_with (length hs) p) (Some order)) (sym the_pick) some)
 
   pub place_differs : (new cut : List Binding) → IsMatched vars (Becomes h t) old new false → cut ≡ old → IsPlacedTo frame vars old cut h hs wanted places given (i + 1)
@@ -191,7 +191,7 @@ pub place_none : (frame : Frame) (vars : List Sym) (old now : List Binding) (h :
 place_none frame vars old now h hs wanted places given i le so_far a rule bound = record {
   first =
       passed (CanComplete a given old (h ∷ hs) wanted) (begun_with (length hs)) (picks places) (flat_map (begun_with (length hs)) (picks places)) i
-          (rw length-picks le) (so_far.first a rule bound);
+      (rw length-picks le) (so_far.first a rule bound);
   values = tt;
 }
 
@@ -213,7 +213,7 @@ pub of_parts : (a : Assertion) (given : Option (List Pair)) (bs : List Binding) 
     → IsFirstFit a given bs hs wanted (orders (length hs) places) o → IsFirstFit a given bs hs wanted (orders (length hs) left) p
 of_parts a given bs hs wanted places left o p e f x =
     subst (λ q. IsFirstFit a given bs hs wanted (orders (length hs) left) q) f
-        (subst (λ ps. IsFirstFit a given bs hs wanted (orders (length hs) ps) o) e x)
+    (subst (λ ps. IsFirstFit a given bs hs wanted (orders (length hs) ps) o) e x)
 
 no_elements : {X : Type 0} (xs : List X) → length xs ≡ 0 → xs ≡ []
 no_elements [] e = refl

@@ -106,7 +106,7 @@ pub stands_there : (N : Label → Type 0) (parsed : List (Option Parsed)) (head 
 stands_there N parsed head n l p h e t c =
     let below = within parsed l.0 p e in
     filter_has N (λ (l : Label). stands_by head n (parsed_at parsed l)) 0 (length parsed) l.0 h (omega arith) (omega (arith, below))
-        (ap (stands_by head n) e ∙ passes (has_head head p.tree) (length p.hyps) t c)
+    (ap (stands_by head n) e ∙ passes (has_head head p.tree) (length p.hyps) t c)
   where
     passes : (b : Bool) (k : ℕ) → b ≡ true → k ≡ n → (b && k == n) ≡ true
     passes true k x y = grind (arith, nat_tests, y)

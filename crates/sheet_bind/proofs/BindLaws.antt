@@ -54,7 +54,7 @@ module _ (kinds : Kinds) (facts : PlaceFacts) (d : Opened) (s : Sheet)
   unfolding tests
   header_same =
       ap (λ (n : Bool). tests (n && option_map_or (λ l. not (is_label d.contents l)) s.loc false) (n && is_label d.contents s.theorem))
-          (none_mapped (λ (f : Frame). f.formula) (frame kinds facts d s))
+      (none_mapped (λ (f : Frame). f.formula) (frame kinds facts d s))
       ∙ ap (λ (f : Name → Bool). tests (not (is_some (frame kinds facts d s)) && option_map_or f s.loc false) (not (is_some (frame kinds facts d s)) && is_label d.contents s.theorem))
       (fun_ext (λ l. none_or_not (label_named d.contents.labels l)))
 
@@ -92,7 +92,7 @@ module _ (kinds : Kinds) (facts : PlaceFacts) (d : Opened) (s : Sheet)
   pairs_first [] a = none_more a (λ l c. ⊥) (λ l c h. h)
   pairs_first (p ∷ ps) a =
       both_more (PairAt p) (InPairs ps) a (with_pair d.contents x a p) (fold (with_pair d.contents x) (with_pair d.contents x a p) ps)
-          (pair_first a p) (pairs_first ps (with_pair d.contents x a p))
+      (pair_first a p) (pairs_first ps (with_pair d.contents x a p))
 
   pair_in : (ps : List PairLine) (i : ℕ) (p : PairLine) → slice_get ps i ≡ Some p → not_variable_at db s p ≡ true → InPairs ps p.line 70
   pair_in [] i p e h = absurd (cc)
@@ -152,20 +152,20 @@ module _ (kinds : Kinds) (facts : PlaceFacts) (d : Opened) (s : Sheet)
     taken_in : AreTaken kinds facts d s says within 0 (steps s) (start_of (option_map (fault s.line) (first_true (header_tests d.contents x s)))) j.state
     taken_in =
         items_taken kinds facts d s says within s.items []
-            (start_of (option_map (fault s.line) (first_true (header_tests d.contents x s)))) j.state refl
-            (record { count = refl; labels = λ l. refl }) j.runs
+        (start_of (option_map (fault s.line) (first_true (header_tests d.contents x s)))) j.state refl
+        (record { count = refl; labels = λ l. refl }) j.runs
 
     header_and_steps : IsFirstWith None (λ l c. Header l c ⊎ Among kinds facts d s says within 0 (steps s) l c) j.state.first
     header_and_steps =
         both_more Header (Among kinds facts d s says within 0 (steps s)) None
-            (option_map (fault s.line) (first_true (header_tests d.contents x s))) j.state.first header_first taken_in.first
+        (option_map (fault s.line) (first_true (header_tests d.contents x s))) j.state.first header_first taken_in.first
 
     all_first : IsFirstWith None All first
     unfolding All
     all_first =
         subst (IsFirstWith None (λ l c. (Header l c ⊎ Among kinds facts d s says within 0 (steps s) l c) ⊎ InPairs s.pairs l c)) (sym j.first_is)
         (both_more (λ l c. Header l c ⊎ Among kinds facts d s says within 0 (steps s) l c) (InPairs s.pairs) None j.state.first
-            (fold (with_pair d.contents x) j.state.first s.pairs) header_and_steps (pairs_first s.pairs j.state.first))
+        (fold (with_pair d.contents x) j.state.first s.pairs) header_and_steps (pairs_first s.pairs j.state.first))
 
     -- the first fault is the first of the definitions, or there is none
     pub first_fault : IsFirstOf (BindFaultAt db s) first

@@ -42,7 +42,7 @@ module _ (symbols : List Name) where
   same_leaves token o h [] = refl
   same_leaves token o h (c ∷ cs) =
       ap (λ (m : Option ℕ). cons_option (option_map (λ n. leaf.Work c n) m)
-          (filter_map (λ (c : Typecode). option_map (λ n. leaf.Work c n) (work_number (name_in symbols c.0) token)) cs)) (h (name_in symbols c.0))
+      (filter_map (λ (c : Typecode). option_map (λ n. leaf.Work c n) (work_number (name_in symbols c.0) token)) cs)) (h (name_in symbols c.0))
       ∙ ap (cons_option (option_map (λ n. leaf.Work c n) (number_by (name_in symbols c.0) o))) (same_leaves token o h cs)
 
   -- the first typecode by which the token is a work variable's name is the first that has the name that it tells

@@ -92,8 +92,8 @@ module _ (kinds : Kinds) (facts : PlaceFacts) (d : Opened) (s : Sheet) where
   abbrev pub StepAt : ℕ → SheetStep → ℕ → ℕ → Type 0
   StepAt i t l c =
       (l ≡ t.line)
-          × (HoldsIn (tested (λ (rule : ℕ → SheetStep → Bool). rule i t) (step_rules base s)) c
-              ⊎ ((asks_for_tree base s t ≡ true) × TreeFault (IsTreeOf base place t.formula) c))
+      × (HoldsIn (tested (λ (rule : ℕ → SheetStep → Bool). rule i t) (step_rules base s)) c
+      ⊎ ((asks_for_tree base s t ≡ true) × TreeFault (IsTreeOf base place t.formula) c))
 
   module _ (says : SaysConstants kinds facts d place frame) (within : place ≤ length d.contents.entries) where
     pub asks_same : (t : SheetStep) → asks kinds.provable (are_known d.contents (kept kinds facts d place frame) t.formula) t ≡ asks_for_tree base s t

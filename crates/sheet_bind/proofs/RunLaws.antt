@@ -167,14 +167,14 @@ module _ (kinds : Kinds) (facts : PlaceFacts) (d : Opened) (s : Sheet)
   read_tree hyps t None no_fault h =
       let provable = not_true (not_provable kinds.provable t) (λ e. no_fault t.line 65 (refl, inl (3, ap (λ (b : Bool). let p : ℕ × Bool = (65, b) in Some p) e))) in
       let known =
-          is_true (are_known d.contents (kept kinds facts d (place kinds facts d s) (frame kinds facts d s)) t.formula)
-              (λ e. no_fault t.line 66 (refl, inl (4, ap (λ (b : Bool). let p : ℕ × Bool = (66, b) in Some p) e))) in
+      is_true (are_known d.contents (kept kinds facts d (place kinds facts d s) (frame kinds facts d s)) t.formula)
+      (λ e. no_fault t.line 66 (refl, inl (4, ap (λ (b : Bool). let p : ℕ × Bool = (66, b) in Some p) e))) in
       let short = not_true (formula_long t) (λ e. no_fault t.line 71 (refl, inl (6, ap (λ (b : Bool). let p : ℕ × Bool = (71, b) in Some p) e))) in
       blank_nil t.formula
-          (flip (is_blank t)
-              (all_asked (not (is_blank t)) (not (not_provable kinds.provable t))
-                  (are_known d.contents (kept kinds facts d (place kinds facts d s) (frame kinds facts d s)) t.formula)
-                  (not (formula_long t)) h provable known short))
+      (flip (is_blank t)
+      (all_asked (not (is_blank t)) (not (not_provable kinds.provable t))
+      (are_known d.contents (kept kinds facts d (place kinds facts d s) (frame kinds facts d s)) t.formula)
+      (not (formula_long t)) h provable known short))
   read_tree hyps t (Some u) no_fault h =
       let P = λ (e : List Leaf) (v : Tree). Parses d.rows (place kinds facts d s) e (logic_code (base kinds facts d s)) v in
       let same = expression_is kinds facts d (place kinds facts d s) (frame kinds facts d s) says within t.formula in
@@ -198,20 +198,26 @@ module _ (kinds : Kinds) (facts : PlaceFacts) (d : Opened) (s : Sheet)
       let first_is : m.first ≡ step.after = ap (λ (x : State). x.first) step.new_is in
       let steps_is : m.steps ≡ a.steps ++ bound_of t step.tree ∷ [] = ap (λ (x : State). x.steps) step.new_is in
       let judged : IsFirstWith a.first (StepStands (here kinds facts d s) a.hyps t) m.first =
-          subst (IsFirstWith a.first (StepStands (here kinds facts d s) a.hyps t)) (sym first_is) step.judged.first in
+      subst (IsFirstWith a.first (StepStands (here kinds facts d s) a.hyps t)) (sym first_is) step.judged.first in
       let one =
-          same_more (StepStands (here kinds facts d s) a.hyps t) (StepAt kinds facts d s n t) a.first m.first
-              (step_there kinds facts d s says within n t a.hyps are) (step_back kinds facts d s says within n t a.hyps are) judged in
+      same_more (StepStands (here kinds facts d s) a.hyps t) (StepAt kinds facts d s n t) a.first m.first
+      (step_there kinds facts d s says within n t a.hyps are) (step_back kinds facts d s says within n t a.hyps are) judged in
       record {
         first = both_more (StepAt kinds facts d s n t) (Among (suc n) ts) a.first m.first b.first one rest.first;
         added = bound_of t step.tree ∷ rest.added;
         steps_are = rest.steps_are ∙ ap (λ (xs : List BoundStep). xs ++ rest.added) steps_is ∙ append_assoc a.steps (bound_of t step.tree ∷ []) rest.added;
         read = λ z.
             let none = none_before m.first (Among (suc n) ts) b.first rest.first z in
-            let tree = step.judged.tree_is (sym first_is ∙ none) in
-            (record { hyp = refl; name = refl; places = refl; reference = refl;
-                tree = read_tree a.hyps t step.tree (none_stands a.first (StepStands (here kinds facts d s) a.hyps t) m.first judged none) tree },
-                rest.read z);
+            let tree = step.judged.tree_is (sym first_is ∙ none) in (
+              record {
+                hyp = refl;
+                name = refl;
+                places = refl;
+                reference = refl;
+                tree = read_tree a.hyps t step.tree (none_stands a.first (StepStands (here kinds facts d s) a.hyps t) m.first judged none) tree;
+              },
+              rest.read z,
+            );
       }
 
   -- the steps of the items, one by one

@@ -23,8 +23,12 @@ use Rattle.sheet_bind.proofs.SizeLaws.{size_is}
 
 abbrev pub facts_of : List ℕ → PlaceFacts
 facts_of text =
-    record { active_at = active_at (statements text); is_constant_at = is_constant_at (statements text); place_after = place_after (statements text);
-        float_codes = float_codes (statements text) }
+    record {
+      active_at = active_at (statements text);
+      is_constant_at = is_constant_at (statements text);
+      place_after = place_after (statements text);
+      float_codes = float_codes (statements text);
+    }
 
 module _ (kinds : Kinds) (text : List ℕ) (d : Opened) (opened : IsOpened kinds text d) where
   build : List Name → List Name → List ℕ → ℕ → (Label → Option Frame) → Database

@@ -51,7 +51,7 @@ module _ (kinds : Kinds) (facts : PlaceFacts) (d : Opened)
 
     picked : (t : Bool)
         → option_map_or (λ (m : Label). size_at d m (length b.places)) (cond t (Some l) None) 0
-            ≡ option_map_or (λ (m : Label). parsed_size (length b.places) (parsed_at d.parsed l)) (cond t (Some l) None) 0
+        ≡ option_map_or (λ (m : Label). parsed_size (length b.places) (parsed_at d.parsed l)) (cond t (Some l) None) 0
     picked true = refl
     picked false = refl
 
@@ -71,7 +71,7 @@ module _ (kinds : Kinds) (facts : PlaceFacts) (d : Opened)
 
   by_kind : (t : Bool)
       → option_map_or (λ (m : Label). size_at d m (length b.places)) (cond t None (candidate_of d place b.reference)) 0
-          ≡ standing_size (cond t (settled verdict.Hyp) (standing_of_reference db place b b.reference))
+      ≡ standing_size (cond t (settled verdict.Hyp) (standing_of_reference db place b b.reference))
   by_kind true = refl
   by_kind false = by_reference b.reference
 

@@ -202,7 +202,7 @@ module _ (formula : List Sym) (hs : List Hyp) where
   -- some variable of the `$f` stands in the formulas
   vars_needed : (vars : List Sym)
       → list_any (has_number (used_in formula hs)) vars
-          ≡ list_any (λ (f : List Sym). list_any (λ (v : Sym). list_any (λ (w : Sym). w.0 == v.0) vars) f) (formula ∷ formulas_of hs)
+      ≡ list_any (λ (f : List Sym). list_any (λ (v : Sym). list_any (λ (w : Sym). w.0 == v.0) vars) f) (formula ∷ formulas_of hs)
   vars_needed vars =
       ap (λ (p : Sym → Bool). list_any p vars) (fun_ext needed_var)
       ∙ any_swapped (λ (w : Sym) (f : List Sym). stands w.0 f) vars (formula ∷ formulas_of hs)

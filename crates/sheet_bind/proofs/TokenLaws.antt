@@ -51,19 +51,19 @@ module _ (kinds : Kinds) (facts : PlaceFacts) (d : Opened) (place : ℕ) (frame 
     symbol_is : (s : Sym) → s.0 < length d.contents.symbols → symbol_leaf d.contents.constants kept s ≡ declared_leaf (shown kinds facts d) place s
     symbol_is s l =
         ap (λ (b : Bool). cond b (Some (leaf.Const s))
-            (cond (slice_index_or kept.variables s.0 false) (option_map (λ (c : Typecode). leaf.Var s c) (slice_index_or kept.codes s.0 None)) None))
-                (says s place within)
+        (cond (slice_index_or kept.variables s.0 false) (option_map (λ (c : Typecode). leaf.Var s c) (slice_index_or kept.codes s.0 None)) None))
+        (says s place within)
         ∙ ap (λ (b : Bool). cond (facts.is_constant_at s place) (Some (leaf.Const s)) (cond b (option_map (λ (c : Typecode). leaf.Var s c) (slice_index_or kept.codes s.0 None)) None))
         (marks_say (length d.contents.symbols) (facts.active_at place).variables s l)
         ∙ ap
-            (λ (o : Option Typecode). cond (facts.is_constant_at s place) (Some (leaf.Const s))
-                (cond (list_any (λ (v : Sym). v.0 == s.0) (facts.active_at place).variables) (option_map (λ (c : Typecode). leaf.Var s c) o) None))
+        (λ (o : Option Typecode). cond (facts.is_constant_at s place) (Some (leaf.Const s))
+        (cond (list_any (λ (v : Sym). v.0 == s.0) (facts.active_at place).variables) (option_map (λ (c : Typecode). leaf.Var s c) o) None))
         (codes_say (length d.contents.symbols) (facts.active_at place).hyps s l)
 
     work_is : (token : Name) → work_leaf d.contents.symbols kept.work token ≡ slice_get (filter_map (work_of (shown kinds facts d) token) (work_codes (shown kinds facts d) place)) 0
     work_is token = first_once (λ (c : Typecode). option_map (λ n. leaf.Work c n) (work_number (name_in d.contents.symbols c.0) token))
         (is_declared d.contents) (λ (c : Typecode). facts.is_constant_at c.0 (length d.contents.entries))
-            (λ c. says c.0 (length d.contents.entries) (omega arith)) (work_codes (shown kinds facts d) place)
+        (λ c. says c.0 (length d.contents.entries) (omega arith)) (work_codes (shown kinds facts d) place)
 
     by_symbol : (token : Name) (o : Option Sym) → symbol_named d.contents.symbols token ≡ o → leaf_by d.contents kept token o ≡ leaf_by_symbol (shown kinds facts d) place token o
     by_symbol token None e = work_is token

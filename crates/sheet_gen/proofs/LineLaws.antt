@@ -30,7 +30,7 @@ flat-append (x ∷ xs) ys = ap (λ (bs : List ℕ). ended x ++ bs) (flat-append 
 -- the lines of `( F -> F )`: the four first, the last one's name, and what stands behind it
 pub identity_is : (k : ℕ) (last : Name) (f : List Name)
     → flat_map ended (first_lines k f) ++ (last ++ behind_name (in_block (codes "a") k) (in_block (codes "e") k) (provable (implies f f)))
-        ≡ flat_map ended (identity_lines k last f)
+    ≡ flat_map ended (identity_lines k last f)
 identity_is k last f =
     ap (λ (bs : List ℕ). flat_map ended (first_lines k f) ++ bs) (sym (two_places last (in_block (codes "a") k) (in_block (codes "e") k) (provable (implies f f))) ∙ sym (append-nil _))
     ∙ sym (flat-append (first_lines k f) (step_line last (in_block (codes "a") k ∷ in_block (codes "e") k ∷ []) (codes "ax-mp") (provable (implies f f)) ∷ []))
@@ -51,14 +51,14 @@ later k h = grind (arith, nat_tests)
 
 pub later_block : (count k : ℕ) → k ≢ 1
     → flat_map ended (identity_lines k (in_block (codes "f") k) (trial_formula (k - 1))) ++ flat_map ended (joining_lines k (end_name count k))
-        ≡ flat_map ended (block_lines count k)
+    ≡ flat_map ended (block_lines count k)
 later_block count k h =
     sym (flat-append (identity_lines k (in_block (codes "f") k) (trial_formula (k - 1))) (joining_lines k (end_name count k)))
     ∙ ap
-        (λ (b : Bool). flat_map ended
-            (cond b (identity_lines k (end_name count k) (trial_formula (k - 1)))
-                (identity_lines k (in_block (codes "f") k) (trial_formula (k - 1)) ++ joining_lines k (end_name count k))))
-        (sym (later k h))
+    (λ (b : Bool). flat_map ended
+    (cond b (identity_lines k (end_name count k) (trial_formula (k - 1)))
+    (identity_lines k (in_block (codes "f") k) (trial_formula (k - 1)) ++ joining_lines k (end_name count k))))
+    (sym (later k h))
 
 -- ---- worksheets
 

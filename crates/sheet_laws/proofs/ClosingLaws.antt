@@ -41,9 +41,9 @@ module _ (past : ℕ) where
   over_plain front p ps h k n e =
       cond_else (is_footer (statement_at n p)) _ _ (h n).0
       ∙ ap
-          (λ b. cond (b && not (list_any ends_proof (lines_from n (plain_from 1 (front ++ lines_in (p ∷ ps)))))) (Some (fault n 48))
-              (closing_fault past (plain_from 1 (front ++ lines_in (p ∷ ps))) (numbered (suc n + length p.more) ps)))
-          (h n).1
+      (λ b. cond (b && not (list_any ends_proof (lines_from n (plain_from 1 (front ++ lines_in (p ∷ ps)))))) (Some (fault n 48))
+      (closing_fault past (plain_from 1 (front ++ lines_in (p ∷ ps))) (numbered (suc n + length p.more) ps)))
+      (h n).1
       ∙ after front p ps n e k
 
   any_first : (p : Line → Bool) (l : Line) (ls : List Line) → p l ≡ true → list_any p (l ∷ ls) ≡ true
@@ -59,7 +59,7 @@ module _ (past : ℕ) where
       let p = proof_piece proof in
       let found : list_any ends_proof (lines_from n (plain_from 1 (front ++ lines_in (proof_piece proof ∷ ps)))) ≡ true =
       ap (list_any ends_proof) (lines_from-plain 1 n front (lines_in (proof_piece proof ∷ ps)) e)
-          ∙ any_first ends_proof (line n (proof_piece proof).opening) (plain_from (suc n) (lines_in ps)) is.ends in
+      ∙ any_first ends_proof (line n (proof_piece proof).opening) (plain_from (suc n) (lines_in ps)) is.ends in
       cond_else (is_footer (statement_at n p)) _ _ is.footer
       ∙ cond_else (is_proof (statement_at n p) && not (list_any ends_proof (lines_from n (plain_from 1 (front ++ lines_in (p ∷ ps)))))) _ _ (and_not _ _ found)
       ∙ after front p ps n e k
@@ -109,13 +109,13 @@ layout_sound s proof r q =
     let past = line_past_end (layout s proof) in
     ap (λ (ls : List Line). or_else (no_header past ls) (earlier (statement_fault (statements (layout s proof))) (closing_fault past ls (statements (layout s proof))))) (layout_lines s proof r)
     ∙ ap
-        (λ (ss : List Statement). or_else (no_header past (plain_from 1 (lines_in (pieces s proof))))
-            (earlier (statement_fault ss) (closing_fault past (plain_from 1 (lines_in (pieces s proof))) ss)))
-        (layout_statements s proof r)
+    (λ (ss : List Statement). or_else (no_header past (plain_from 1 (lines_in (pieces s proof))))
+    (earlier (statement_fault ss) (closing_fault past (plain_from 1 (lines_in (pieces s proof))) ss)))
+    (layout_statements s proof r)
     ∙ ap
-        (λ (o : Option Fault). or_else o
-            (earlier (statement_fault (numbered 1 (pieces s proof)))
-                (closing_fault past (plain_from 1 (lines_in (pieces s proof))) (numbered 1 (pieces s proof)))))
-        (header_begins past s proof r)
+    (λ (o : Option Fault). or_else o
+    (earlier (statement_fault (numbered 1 (pieces s proof)))
+    (closing_fault past (plain_from 1 (lines_in (pieces s proof))) (numbered 1 (pieces s proof)))))
+    (header_begins past s proof r)
     ∙ ap (λ (o : Option Fault). earlier o (closing_fault past (plain_from 1 (lines_in (pieces s proof))) (numbered 1 (pieces s proof)))) (statements_pass s proof r q)
     ∙ header_closes past s proof r 1 refl

@@ -112,10 +112,13 @@ kept_where false (l ∷ ls) h =
           (record { lines = both_true _ _ (and_left _ _ h) refl; more = refl }, kept_where (not (ends_proof l)) ls (and_right _ _ h))
       | inr e ↦ subst (AllByRecursion IsKept) (sym (cond_else (opens_proof l) proof other e))
           (elim (cases_Bool (begins l)) [
-            | inl f ↦ subst (AllByRecursion IsKept) (sym (cond_then (begins l) plain (statements_where false ls) f))
-                (record { lines = both_true _ _ (and_left _ _ h) (taken_all is_good (λ m. not (begins m)) ls (and_right _ _ h));
-                    more = taken_pass (λ m. not (begins m)) ls },
-                    kept_where false ls (and_right _ _ h))
+            | inl f ↦ subst (AllByRecursion IsKept) (sym (cond_then (begins l) plain (statements_where false ls) f)) (
+              record {
+                lines = both_true _ _ (and_left _ _ h) (taken_all is_good (λ m. not (begins m)) ls (and_right _ _ h));
+                more = taken_pass (λ m. not (begins m)) ls;
+              },
+              kept_where false ls (and_right _ _ h),
+            )
             | inr f ↦ subst (AllByRecursion IsKept) (sym (cond_else (begins l) plain (statements_where false ls) f)) (kept_where false ls (and_right _ _ h))
           ])
     ]

@@ -165,7 +165,7 @@ proof_tokens proof =
 proof_ends : (n : ℕ) (proof : List ℕ) → ends_proof (line n (spaced (codes "$=" ∷ proof ∷ codes "$." ∷ []))) ≡ true
 proof_ends n proof =
     ap (λ (l : List (List ℕ)). is_word (codes "$.") (last_or None l)) (proof_tokens proof)
-        ∙ ap (is_word (codes "$.")) (last_or-append (Some (codes "$=")) (tokens_at 3 proof) (codes "$.") [])
+    ∙ ap (is_word (codes "$.")) (last_or-append (Some (codes "$=")) (tokens_at 3 proof) (codes "$.") [])
 
 pub proof_in : (n : ℕ) (proof : List ℕ) → tokens_in (statement_at n (proof_piece proof)) ≡ codes "$=" ∷ (tokens_at 3 proof ++ codes "$." ∷ [])
 proof_in n proof = append-nil (tokens (line n (spaced (codes "$=" ∷ proof ∷ codes "$." ∷ [])))) ∙ proof_tokens proof

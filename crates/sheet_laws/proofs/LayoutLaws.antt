@@ -128,4 +128,4 @@ layout_lines s proof r =
 pub layout_statements : (s : Sheet) (proof : Option (List ℕ)) → IsReady s proof → statements (layout s proof) ≡ numbered 1 (pieces s proof)
 layout_statements s proof r =
     ap (statements_where false) (layout_lines s proof r ∙ sym (lines-numbered 1 (pieces s proof)))
-        ∙ statements-whole (numbered 1 (pieces s proof)) (laid_whole 1 (pieces s proof) (pieces_laid s proof r))
+    ∙ statements-whole (numbered 1 (pieces s proof)) (laid_whole 1 (pieces s proof) (pieces_laid s proof r))

@@ -145,7 +145,7 @@ places_read done later (g ∷ gs) h t b =
       entries = both_true _ _ one.entry more.entries;
       known =
           any_cons (λ e. not (contains done e)) (entry_of (place_text (done ++ later) g))
-              (filter_map (λ (e : Option (List ℕ)). e) (map entry_of (map (place_text (done ++ later)) gs))) one.known more.known;
+          (filter_map (λ (e : Option (List ℕ)). e) (map entry_of (map (place_text (done ++ later)) gs))) one.known more.known;
       given = cons_same _ _ _ _ one.given more.given;
     }
 

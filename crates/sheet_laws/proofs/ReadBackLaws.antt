@@ -140,15 +140,15 @@ tail_pairs : (n : ℕ) (proof : Option (List ℕ)) (ps : List PairLine) → list
 tail_pairs n None ps h = pairs_read n ps h
 tail_pairs n (Some proof) ps h =
     ap (map unnumbered_pairs) (no_pair (statement_at n (proof_piece proof)) (numbered (suc n + 0) (pair_pieces ps)) (proof-is n proof).distinct)
-        ∙ pairs_read (suc n + 0) ps h
+    ∙ pairs_read (suc n + 0) ps h
 
 items_pairs : (full done : List (List ℕ)) (n : ℕ) (items : List SheetItem) (rest : List Piece) (pairs : List PairLine) → AreItemsAt full done items
     → ((m : ℕ) → map unnumbered_pairs (pairs_of (numbered m rest)) ≡ pairs) → map unnumbered_pairs (pairs_of (numbered n (item_pieces full items ++ rest))) ≡ pairs
 items_pairs full done n [] rest pairs a k = k n
 items_pairs full done n (item.Comment lines ∷ items) rest pairs a k =
     ap (map unnumbered_pairs)
-        (no_pair (statement_at n (comment_piece lines)) (numbered (suc n + length (comment_piece lines).more) (item_pieces full items ++ rest))
-            (comment-is n lines a.0).distinct)
+    (no_pair (statement_at n (comment_piece lines)) (numbered (suc n + length (comment_piece lines).more) (item_pieces full items ++ rest))
+    (comment-is n lines a.0).distinct)
     ∙ items_pairs full done (suc n + length (comment_piece lines).more) items rest pairs a.1 k
 items_pairs full done n (item.Step t ∷ items) rest pairs a k =
     ap (map unnumbered_pairs) (no_pair (statement_at n (step_piece full t)) (numbered (suc n + 0) (item_pieces full items ++ rest)) (step-is full t n a.0.writable).distinct)

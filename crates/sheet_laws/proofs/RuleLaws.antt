@@ -31,7 +31,7 @@ Rule = ℕ × (List Statement → Statement → Bool)
 no_code : (before : List Statement) (s : Statement) → IsSound before s → first_code statement_rules before s ≡ None
 no_code before s h = ap (option_map (λ (r : Rule). r.0))
     (cond_else (bad_step before s) _ _ h.form ∙ cond_else (name_twice before s) _ _ h.fresh ∙ cond_else (hyp_unknown before s) _ _ h.known
-        ∙ cond_else (qed_place before s) _ _ h.qed ∙ cond_else (bad_distinct before s) _ _ h.distinct)
+    ∙ cond_else (qed_place before s) _ _ h.qed ∙ cond_else (bad_distinct before s) _ _ h.distinct)
 
 pub pass_one : (before : List Statement) (s : Statement) (ss : List Statement) → IsSound before s → Passes (s ∷ before) ss → Passes before (s ∷ ss)
 pass_one before s ss h k =

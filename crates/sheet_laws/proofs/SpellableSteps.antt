@@ -141,7 +141,7 @@ more_fine done line f steps h k none =
             | inl e ↦
                 let empty = none e in
                 let named : contains (f.name ∷ []) (codes "qed") ≡ true =
-                    ap (λ b. b || contains (f.name ∷ []) (codes "qed")) (sym n) ∙ sym (any_append (bytes_eq (codes "qed")) done (f.name ∷ [])) ∙ e in
+                ap (λ b. b || contains (f.name ∷ []) (codes "qed")) (sym n) ∙ sym (any_append (bytes_eq (codes "qed")) done (f.name ∷ [])) ∙ e in
                 let is : codes "qed" ≡ f.name = same_bytes (codes "qed") f.name (only _ named) in
                 let qed : is_qed f ≡ true = ap (λ (t : List ℕ). bytes_eq t (codes "qed")) (sym is) in
                 let hyp : f.hyp ≡ false = ap (λ b. b && f.hyp) (sym qed) ∙ h.qed in (

@@ -38,7 +38,7 @@ taken : (ms : List Line) (ss : List Statement) → list_all (λ m. not (begins m
 taken [] [] h w = refl
 taken [] (s ∷ ss) h w =
     take_while-cons (λ m. not (begins m)) s.opening (s.more ++ lines_with ss)
-        ∙ ap (λ b. cond (not b) (s.opening ∷ take_while (λ m. not (begins m)) (s.more ++ lines_with ss)) []) w.0.opening
+    ∙ ap (λ b. cond (not b) (s.opening ∷ take_while (λ m. not (begins m)) (s.more ++ lines_with ss)) []) w.0.opening
 taken (m ∷ ms) ss h w =
     take_while-cons (λ m. not (begins m)) m (ms ++ lines_with ss) ∙ cond_then (not (begins m)) _ _ (and_left _ _ h) ∙ ap (λ t. m ∷ t) (taken ms ss (and_right _ _ h) w)
 

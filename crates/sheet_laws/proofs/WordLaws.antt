@@ -14,8 +14,8 @@ put_before-front : (at b : ℕ) (ws vs : List Word) → StandsPast (suc at) vs �
 put_before-front at b [] vs h = put_before-apart at b vs h
 put_before-front at b (w ∷ ws) vs h =
     elim (eqb w.start (suc at)) as
-        (λ t. cond t (word at (b ∷ w.bytes) ∷ ws ++ vs) (word at (b ∷ []) ∷ w ∷ ws ++ vs)
-            ≡ cond t (word at (b ∷ w.bytes) ∷ ws) (word at (b ∷ []) ∷ w ∷ ws) ++ vs) [ true ↦ refl | false ↦ refl ]
+    (λ t. cond t (word at (b ∷ w.bytes) ∷ ws ++ vs) (word at (b ∷ []) ∷ w ∷ ws ++ vs)
+    ≡ cond t (word at (b ∷ w.bytes) ∷ ws) (word at (b ∷ []) ∷ w ∷ ws) ++ vs) [ true ↦ refl | false ↦ refl ]
 
 -- bytes without white space are one word
 pub words_from-token : (at b : ℕ) (bs : List ℕ) → list_all (λ c. not (is_white c)) (b ∷ bs) ≡ true → words_from at (b ∷ bs) ≡ word at (b ∷ bs) ∷ []

@@ -20,7 +20,7 @@ more f xs i x o t m h e g k =
     both o (length (flat_map f (take i xs))) (length (f x)) t m g k
     ∙ ap (λ n. counted (o + n)) (sym (ap (λ y. length (flat_map f y)) (take_more xs i x h) ∙ ap length (flat_map-append f (take i xs) (get_or xs i x ∷ []))
     ∙ length-append (flat_map f (take i xs)) (f (get_or xs i x) ++ [])
-        ∙ ap (λ n. length (flat_map f (take i xs)) + n) (length-append (f (get_or xs i x)) [] ∙ omega (arith, ap (λ y. length (f y)) e))))
+    ∙ ap (λ n. length (flat_map f (take i xs)) + n) (length-append (f (get_or xs i x)) [] ∙ omega (arith, ap (λ y. length (f y)) e))))
 
 pub three_counts : (o a b d n t u v : ℕ) → t ≡ counted (o + a) → u ≡ counted (t + b) → v ≡ counted (u + d) → n ≡ a + b + d → v ≡ counted (o + n)
 three_counts o a b d n t u v e f g h = both o (a + b) d u v (both o a b t u e f) g ∙ ap (λ k. counted (o + k)) (sym h)
@@ -42,7 +42,7 @@ pub places_len : {X : Type 0} (f : X → List ℕ) (first : X) (more_places plac
     → length (join_with_byte 44 (map f places)) ≡ length (f first) + length (behind_commas (map f more_places))
 places_len f first more_places places e =
     ap (λ t. length (join_with_byte 44 (map f t))) e ∙ ap length (joined 44 (f first) (map f more_places))
-        ∙ length-append (f first) (behind_commas (map f more_places))
+    ∙ length-append (f first) (behind_commas (map f more_places))
 
 -- the parts of a layout
 pub layout_count : (s : Sheet) (proof : Option (List ℕ)) (t u v w x : ℕ) → t ≡ counted (length (ended (header_line s))) → u ≡ counted (t + length (flat_map (item_text (names_of s.items)) s.items))

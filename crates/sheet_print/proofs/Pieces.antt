@@ -69,8 +69,8 @@ layout_parts s proof =
     flat_map-append ended (((header_line s ∷ items) ++ tail) ++ pairs) (codes "$)" ∷ [])
     ∙ ap (λ t. t ++ 36 ∷ 41 ∷ 10 ∷ []) (flat_map-append ended ((header_line s ∷ items) ++ tail) pairs
     ∙ ap (λ t. t ++ flat_map ended pairs)
-        (flat_map-append ended (header_line s ∷ items) tail
-            ∙ ap (λ t. (ended (header_line s) ++ t) ++ flat_map ended tail) (flat_map-flat_map ended (item_lines (step_names s)) s.items))
+    (flat_map-append ended (header_line s ∷ items) tail
+    ∙ ap (λ t. (ended (header_line s) ++ t) ++ flat_map ended tail) (flat_map-flat_map ended (item_lines (step_names s)) s.items))
     ∙ ap (λ t. ((ended (header_line s) ++ flat_map (item_text (step_names s)) s.items) ++ flat_map ended tail) ++ t) (flat_map-map ended pair_line s.pairs))
 
 -- the layout, where each part is put behind the others

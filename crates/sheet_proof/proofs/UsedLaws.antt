@@ -200,8 +200,8 @@ module _ (d : Opened) where
     all_done (s ∷ ss) before pre e n sound done =
         let p = proof_step d before s in
         let at : slice_get es (length before) ≡ Some (step_in d s) =
-            ap (λ xs. slice_get xs (length before)) e ∙ ap (slice_get (pre ++ step_in d s ∷ map (step_in d) ss)) (sym n)
-                ∙ get_mid pre (step_in d s) (map (step_in d) ss) in
+        ap (λ xs. slice_get xs (length before)) e ∙ ap (slice_get (pre ++ step_in d s ∷ map (step_in d) ss)) (sym n)
+        ∙ get_mid pre (step_in d s) (map (step_in d) ss) in
         let rest = all_done ss (before ++ p ∷ []) (pre ++ step_in d s ∷ []) (e ∙ sym (append_assoc pre (step_in d s ∷ []) (map (step_in d) ss)))
         (length-append pre (step_in d s ∷ []) ∙ ap (λ m. m + 1) n ∙ sym (length-append before (p ∷ []))) sound.1 (done_more before s sound.0 done at) in
         subst Done (append_assoc before (p ∷ []) (steps_from (before ++ p ∷ []) ss)) rest
@@ -238,8 +238,8 @@ module _ (d : Opened) where
         let same : root ≡ length provable.front = omega (arith, e, count) in
         let at : slice_get es root ≡ Some provable.last = ap (slice_get es) same ∙ ap (λ xs. slice_get xs (length provable.front)) provable.whole ∙ get_mid provable.front provable.last [] in
         let done =
-            all_done provable.mode provable.allowed es provable.finished provable.steps (drafts_in items) [] [] (steps_are items) refl
-                (sound_drafts items sound) (λ k l b. absurd (omega (arith, l))) in
+        all_done provable.mode provable.allowed es provable.finished provable.steps (drafts_in items) [] [] (steps_are items) refl
+        (sound_drafts items sound) (λ k l b. absurd (omega (arith, l))) in
         (same, ap (λ ps. used_at ps root) all_steps ∙ done root (subst (λ n. root < n) (ap length all_steps) (omega (arith, e))) (at_qed root at provable.named))
 
     pub not_empty : 1 ≤ length (proof_steps d items)

@@ -71,7 +71,7 @@ code_unless c false r = refl
 
 step_rules : (a b c : Bool) (p q r : Rule)
     → option_map (λ (x : ℕ × Rule). x.0) (cond a (Some (45, p)) (cond b (Some (46, q)) (cond (c || false) (Some (47, r)) None)))
-        ≡ cond a (Some 45) (cond b (Some 46) (cond c (Some 47) None))
+    ≡ cond a (Some 45) (cond b (Some 46) (cond c (Some 47) None))
 step_rules true b c p q r = refl
 step_rules false true c p q r = refl
 step_rules false false true p q r = refl
@@ -79,10 +79,10 @@ step_rules false false false p q r = refl
 
 step_table : (names : List (List ℕ)) (st : Option StepForm) (o p q r : Rule)
     → option_map (λ (x : ℕ × Rule). x.0)
-        (cond (is_none st && true && true && true) (Some (44, o))
-            (cond (option_map_or (λ (f : StepForm). contains names f.name) st false) (Some (45, p))
-                (cond (option_map_or (λ (f : StepForm). is_unknown names f.entries) st false) (Some (46, q))
-                    (cond (option_map_or (λ (f : StepForm). is_misplaced names f) st false || false) (Some (47, r)) None))))
+    (cond (is_none st && true && true && true) (Some (44, o))
+    (cond (option_map_or (λ (f : StepForm). contains names f.name) st false) (Some (45, p))
+    (cond (option_map_or (λ (f : StepForm). is_unknown names f.entries) st false) (Some (46, q))
+    (cond (option_map_or (λ (f : StepForm). is_misplaced names f) st false || false) (Some (47, r)) None))))
     ≡ step_code names st
 step_table names None o p q r = refl
 step_table names (Some f) o p q r = step_rules (contains names f.name) (is_unknown names f.entries) (is_misplaced names f) p q r
@@ -110,8 +110,8 @@ step_code-same before names None h = refl
 step_code-same before names (Some f) h =
     let twice : contains (names_in before) f.name ≡ contains names f.name = h.same f.name in
     let unknown : is_unknown (names_in before) f.entries ≡ is_unknown names f.entries =
-        any_same (λ e. not (contains (names_in before) e)) (λ e. not (contains names e)) (filter_map (λ (e : Option (List ℕ)). e) f.entries)
-            (λ x. ap not (h.same x)) in
+    any_same (λ e. not (contains (names_in before) e)) (λ e. not (contains names e)) (filter_map (λ (e : Option (List ℕ)). e) f.entries)
+    (λ x. ap not (h.same x)) in
     let placed : is_misplaced (names_in before) f ≡ is_misplaced names f = ap (λ (b : Bool). b || (is_qed f && f.hyp)) (h.same (codes "qed")) in
     ap (λ (b : Bool). cond b (Some 45) (cond (is_unknown (names_in before) f.entries) (Some 46) (cond (is_misplaced (names_in before) f) (Some 47) None))) twice
     ∙ ap (λ (b : Bool). cond (contains names f.name) (Some 45) (cond b (Some 46) (cond (is_misplaced (names_in before) f) (Some 47) None))) unknown

@@ -56,7 +56,7 @@ reading names items pairs proof = record { names = names; items = items; pairs =
 abbrev pub Right : ℕ → List Line → List Statement → Reading → List Line → Type 0
 Right past all before r ls =
     Agrees (read_lines past r ls) (due past all before r.proof ls) (r.items ++ items_from (kept (statements_for r.proof ls)) r.names)
-        (r.pairs ++ filter_map pairs_at (kept (statements_for r.proof ls)))
+    (r.pairs ++ filter_map pairs_at (kept (statements_for r.proof ls)))
 
 -- ---- a statement that does not close the sheet
 
@@ -110,12 +110,12 @@ onto xs y ys zs e = ap (λ l. xs ++ l) e ∙ sym (append_assoc xs (y ∷ []) ys)
 abbrev Claim : ℕ → List Line → List Statement → Reading → Result Reading Fault → Statement → List Statement → Type 0
 Claim past all before r read s ss =
     Agrees read (earlier (faults before (s ∷ ss)) (closing_fault past all (s ∷ ss))) (r.items ++ items_from (kept (s ∷ ss)) r.names)
-        (r.pairs ++ filter_map pairs_at (kept (s ∷ ss)))
+    (r.pairs ++ filter_map pairs_at (kept (s ∷ ss)))
 
 abbrev Rest : ℕ → List Line → List Line → Type 0
 Rest past all ls =
     (before : List Statement) (names : List (List ℕ)) (items : List SheetItem) (pairs : List PairLine) (proof : Option ℕ) → Same before names
-        → Right past all before (reading names items pairs proof) ls
+    → Right past all before (reading names items pairs proof) ls
 
 due-later : (past : ℕ) (all : List Line) (before : List Statement) (s : Statement) (ss : List Statement) → is_footer s ≡ false → is_proof s ≡ false → first_code statement_rules before s ≡ None
     → earlier (faults before (s ∷ ss)) (closing_fault past all (s ∷ ss)) ≡ earlier (faults (s ∷ before) ss) (closing_fault past all ss)
@@ -132,12 +132,12 @@ comment-claim past all before names items pairs l ls h same rest =
     let ss = statements_where false ls in
     let r = reading names items pairs None in
     agrees-same (read_lines past (with_kind kind.Comment r l ls) ls) (earlier (faults (s ∷ before) ss) (closing_fault past all ss))
-        (earlier (faults before (s ∷ ss)) (closing_fault past all (s ∷ ss)))
+    (earlier (faults before (s ∷ ss)) (closing_fault past all (s ∷ ss)))
     ((items ++ comment_of s ∷ []) ++ items_from (kept ss) names) (items ++ items_from (kept (s ∷ ss)) names)
     (pairs ++ filter_map pairs_at (kept ss)) (pairs ++ filter_map pairs_at (kept (s ∷ ss)))
     (due-later past all before s ss h.footer h.proof (code_by kind.Comment before s h))
     (onto items (comment_of s) (items_from (kept ss) names) (items_from (kept (s ∷ ss)) names)
-        (ap (λ (ts : List Statement). items_from ts names) (kept-more s ss h.footer) ∙ items-none names s (kept ss) true h.step h.comment))
+    (ap (λ (ts : List Statement). items_from ts names) (kept-more s ss h.footer) ∙ items-none names s (kept ss) true h.step h.comment))
     (ap (λ (ts : List Statement). pairs ++ filter_map pairs_at ts) (kept-more s ss h.footer) ∙ ap (λ (qs : List PairLine). pairs ++ qs) (pairs-none s (kept ss) h.distinct))
     (rest (s ∷ before) names (items ++ comment_of s ∷ []) pairs None (same-kept s before names h.step same))
 
@@ -156,8 +156,8 @@ distinct-claim : (past : ℕ) (all : List Line) (before : List Statement) (names
     (l : Line) (ls : List Line)
     → l.number < past → Rising (suc l.number) past ls → Placed all ls → Facts kind.Distinct (statement_at l ls) → Same before names → Rest past all ls
     → let r = reading names items pairs None in
-        Claim past all before r (go_on (fault_with kind.Distinct r l ls) false r (read_lines past (with_kind kind.Distinct r l ls) ls))
-            (statement_at l ls) (statements_where false ls)
+    Claim past all before r (go_on (fault_with kind.Distinct r l ls) false r (read_lines past (with_kind kind.Distinct r l ls) ls))
+    (statement_at l ls) (statements_where false ls)
 distinct-claim past all before names items pairs l ls lt rising p h same rest =
     let s = statement_at l ls in
     let ss = statements_where false ls in
@@ -165,15 +165,15 @@ distinct-claim past all before names items pairs l ls lt rising p h same rest =
     let pair : PairLine = record { line = l.number; names = symbols_of (tokens_in s) } in
     let code = code_by kind.Distinct before s h in
     code-claim past all before r l ls (take_while (λ m. not (begins m)) ls) (distinct_code (symbols_of (tokens_in s)))
-        (read_lines past (with_kind kind.Distinct r l ls) ls) lt rising p h.footer h.proof code
+    (read_lines past (with_kind kind.Distinct r l ls) ls) lt rising p h.footer h.proof code
     (λ none. agrees-same (read_lines past (with_kind kind.Distinct r l ls) ls) (earlier (faults (s ∷ before) ss) (closing_fault past all ss))
-        (earlier (faults before (s ∷ ss)) (closing_fault past all (s ∷ ss)))
+    (earlier (faults before (s ∷ ss)) (closing_fault past all (s ∷ ss)))
     (items ++ items_from (kept ss) names) (items ++ items_from (kept (s ∷ ss)) names)
     ((pairs ++ pair ∷ []) ++ filter_map pairs_at (kept ss)) (pairs ++ filter_map pairs_at (kept (s ∷ ss)))
     (due-later past all before s ss h.footer h.proof (code ∙ none))
     (ap (λ l. items ++ l) (ap (λ (ts : List Statement). items_from ts names) (kept-more s ss h.footer) ∙ items-none names s (kept ss) false h.step h.comment))
     (onto pairs pair (filter_map pairs_at (kept ss)) (filter_map pairs_at (kept (s ∷ ss)))
-        (ap (λ (ts : List Statement). filter_map pairs_at ts) (kept-more s ss h.footer) ∙ pairs-some s (kept ss) h.distinct))
+    (ap (λ (ts : List Statement). filter_map pairs_at ts) (kept-more s ss h.footer) ∙ pairs-some s (kept ss) h.distinct))
     (rest (s ∷ before) names items (pairs ++ pair ∷ []) None (same-kept s before names h.step same)))
 
 step-next : (past : ℕ) (all : List Line) (before : List Statement) (names : List (List ℕ)) (items : List SheetItem) (pairs : List PairLine) (l : Line)
@@ -188,12 +188,12 @@ step-next past all before names items pairs l ls (Some f) h e none code same res
     let r = reading names items pairs None in
     let made = item.Step (step_at l.number names f) in
     agrees-same (read_lines past (with_step r l.number (Some f)) ls) (earlier (faults (s ∷ before) ss) (closing_fault past all ss))
-        (earlier (faults before (s ∷ ss)) (closing_fault past all (s ∷ ss)))
+    (earlier (faults before (s ∷ ss)) (closing_fault past all (s ∷ ss)))
     ((items ++ made ∷ []) ++ items_from (kept ss) (names ++ f.name ∷ [])) (items ++ items_from (kept (s ∷ ss)) names)
     (pairs ++ filter_map pairs_at (kept ss)) (pairs ++ filter_map pairs_at (kept (s ∷ ss)))
     (due-later past all before s ss h.footer h.proof none)
     (onto items made (items_from (kept ss) (names ++ f.name ∷ [])) (items_from (kept (s ∷ ss)) names)
-        (ap (λ (ts : List Statement). items_from ts names) (kept-more s ss h.footer) ∙ items-some names s (kept ss) f e))
+    (ap (λ (ts : List Statement). items_from ts names) (kept-more s ss h.footer) ∙ items-some names s (kept ss) f e))
     (ap (λ (qs : List PairLine). pairs ++ qs) (ap (λ (ts : List Statement). filter_map pairs_at ts) (kept-more s ss h.footer) ∙ pairs-none s (kept ss) h.distinct))
     (rest (s ∷ before) (names ++ f.name ∷ []) (items ++ made ∷ []) pairs None (same-more s before names f e same))
 
@@ -201,8 +201,8 @@ step-claim : (past : ℕ) (all : List Line) (before : List Statement) (names : L
     (l : Line) (ls : List Line)
     → l.number < past → Rising (suc l.number) past ls → Placed all ls → Facts kind.Step (statement_at l ls) → Same before names → Rest past all ls
     → let r = reading names items pairs None in
-        Claim past all before r (go_on (fault_with kind.Step r l ls) false r (read_lines past (with_kind kind.Step r l ls) ls)) (statement_at l ls)
-            (statements_where false ls)
+    Claim past all before r (go_on (fault_with kind.Step r l ls) false r (read_lines past (with_kind kind.Step r l ls) ls)) (statement_at l ls)
+    (statements_where false ls)
 step-claim past all before names items pairs l ls lt rising p h same rest =
     let s = statement_at l ls in
     let r = reading names items pairs None in
@@ -217,7 +217,7 @@ faults-from-line : (past : ℕ) (before : List Statement) (l : Line) (ls more : 
     → IsFrom l.number (faults before (statement l more ∷ statements_where false ls))
 faults-from-line past before l ls more h =
     or_from l.number l.number (first_code statement_rules before (statement l more)) (faults (statement l more ∷ before) (statements_where false ls))
-        (omega arith) (faults_from l.number past false (statement l more ∷ before) ls (rising-weaker l.number (suc l.number) past ls (omega arith) h))
+    (omega arith) (faults_from l.number past false (statement l more ∷ before) ls (rising-weaker l.number (suc l.number) past ls (omega arith) h))
 
 closing-foot : (past : ℕ) (all : List Line) (l : Line) (ls more : List Line) (ss : List Statement) → is_footer (statement l more) ≡ true
     → lines_from l.number all ≡ l ∷ ls → closing_fault past all (statement l more ∷ ss) ≡ past_footer (l ∷ ls)
@@ -240,7 +240,7 @@ behind-first : (past : ℕ) (before : List Statement) (ls : List Line) (n : ℕ)
 behind-first past before [] n h = refl
 behind-first past before (m ∷ ms) n h =
     earlier-43 m.number (faults before (statements_where false (m ∷ ms))) (faults_from m.number past false before (m ∷ ms) (omega arith, h.1, h.2))
-        (faults_late before (statements_where false (m ∷ ms)))
+    (faults_late before (statements_where false (m ∷ ms)))
 
 footer-due : (past : ℕ) (all : List Line) (before : List Statement) (names : List (List ℕ)) (l : Line) (ls more : List Line)
     → Rising (suc l.number) past ls → lines_from l.number all ≡ l ∷ ls → Facts kind.Footer (statement l more) → Same before names
@@ -250,9 +250,9 @@ footer-due past all before names l ls more h e f same =
     let ss = statements_where false ls in
     let test = nat_lt 1 (length (tokens l)) in
     let code : first_code statement_rules before s ≡ cond (contains names (codes "qed")) None (Some 47) =
-        code_by kind.Footer before s f ∙ ap (λ (b : Bool). cond b None (Some 47)) (same.same (codes "qed")) in
+    code_by kind.Footer before s f ∙ ap (λ (b : Bool). cond b None (Some 47)) (same.same (codes "qed")) in
     let start : earlier (faults before (s ∷ ss)) (closing_fault past all (s ∷ ss)) ≡ earlier (faults before (s ∷ ss)) (past_footer (l ∷ ls)) =
-        ap (λ (o : Option Fault). earlier (faults before (s ∷ ss)) o) (closing-foot past all l ls more ss f.footer e) in
+    ap (λ (o : Option Fault). earlier (faults before (s ∷ ss)) o) (closing-foot past all l ls more ss f.footer e) in
     let answer = cond (contains names (codes "qed")) (behind_footer ls) (Some (fault l.number 47)) in
     elim (cases_Bool test) [
       | inl t ↦
@@ -261,7 +261,7 @@ footer-due past all before names l ls more h e f same =
           ∙ sym (cond_then test (Some (fault l.number 43)) answer t)
       | inr t ↦
           let behind : earlier (faults before (s ∷ ss)) (closing_fault past all (s ∷ ss)) ≡ earlier (faults before (s ∷ ss)) (behind_footer ls) =
-              start ∙ ap (λ (o : Option Fault). earlier (faults before (s ∷ ss)) o) (past-later l ls t) in
+          start ∙ ap (λ (o : Option Fault). earlier (faults before (s ∷ ss)) o) (past-later l ls t) in
           elim (cases_Bool (contains names (codes "qed"))) [
             | inl q ↦
                 behind ∙ ap (λ (o : Option Fault). earlier o (behind_footer ls)) (faults-later before s ss (code ∙ cond_then (contains names (codes "qed")) None (Some 47) q))
@@ -288,7 +288,7 @@ footer-claim past all before names items pairs l ls read rising e h same =
     let ss = statements_where false ls in
     let r = reading names items pairs None in
     foot-agrees (footer_fault names l ls) r read (earlier (faults before (s ∷ ss)) (closing_fault past all (s ∷ ss)))
-        (items ++ items_from (kept (s ∷ ss)) names) (pairs ++ filter_map pairs_at (kept (s ∷ ss)))
+    (items ++ items_from (kept (s ∷ ss)) names) (pairs ++ filter_map pairs_at (kept (s ∷ ss)))
     (footer-due past all before names l ls (take_while (λ m. not (begins m)) ls) rising e h same)
     (ap (λ (ts : List Statement). items ++ items_from ts names) (kept-foot s ss h.footer) ∙ append-nil items)
     (ap (λ (ts : List Statement). pairs ++ filter_map pairs_at ts) (kept-foot s ss h.footer) ∙ append-nil pairs)
@@ -314,17 +314,17 @@ proof-claim past all before names items pairs l ls place h same rest =
     let s = statement l [] in
     let r = reading names items pairs None in
     let Q : Bool → Option ℕ → Type 0 =
-        λ b proof.
-            (closing_fault past all (s ∷ statements_where (not b) ls)
-                ≡ cond (not (b || list_any ends_proof ls)) (Some (fault l.number 48)) (closing_fault past all (statements_where (not b) ls)))
-            → Claim past all before r (read_lines past (reading names items pairs proof) ls) s (statements_where (not b) ls) in
+    λ b proof.
+    (closing_fault past all (s ∷ statements_where (not b) ls)
+    ≡ cond (not (b || list_any ends_proof ls)) (Some (fault l.number 48)) (closing_fault past all (statements_where (not b) ls)))
+    → Claim past all before r (read_lines past (reading names items pairs proof) ls) s (statements_where (not b) ls) in
     let none = code_by kind.Proof before s h in
     let same' = same-kept s before names h.step same in
     let wanted : Q (ends_proof l) (proof_from l) = elim (ends_proof l) as (λ b. Q b (cond b None (Some l.number))) [
       | true ↦ λ closing.
           let ss = statements_where false ls in
           agrees-same (read_lines past (reading names items pairs None) ls) (earlier (faults (s ∷ before) ss) (closing_fault past all ss))
-              (earlier (faults before (s ∷ ss)) (closing_fault past all (s ∷ ss)))
+          (earlier (faults before (s ∷ ss)) (closing_fault past all (s ∷ ss)))
           (items ++ items_from (kept ss) names) (items ++ items_from (kept (s ∷ ss)) names) (pairs ++ filter_map pairs_at (kept ss)) (pairs ++ filter_map pairs_at (kept (s ∷ ss)))
           (ap (λ (o : Option Fault). earlier o (closing_fault past all (s ∷ ss))) (faults-later before s ss none) ∙ ap (λ (o : Option Fault). earlier (faults (s ∷ before) ss) o) closing)
           (ap (λ l. items ++ l) (ap (λ (ts : List Statement). items_from ts names) (kept-more s ss h.footer) ∙ items-none names s (kept ss) false h.step h.comment))
@@ -333,12 +333,12 @@ proof-claim past all before names items pairs l ls place h same rest =
       | false ↦ λ closing.
           let ss = statements_where true ls in
           agrees-same (read_lines past (reading names items pairs (Some l.number)) ls)
-              (earlier (faults (s ∷ before) ss) (cond (list_any ends_proof ls) (closing_fault past all ss) (Some (fault l.number 48))))
-              (earlier (faults before (s ∷ ss)) (closing_fault past all (s ∷ ss)))
+          (earlier (faults (s ∷ before) ss) (cond (list_any ends_proof ls) (closing_fault past all ss) (Some (fault l.number 48))))
+          (earlier (faults before (s ∷ ss)) (closing_fault past all (s ∷ ss)))
           (items ++ items_from (kept ss) names) (items ++ items_from (kept (s ∷ ss)) names) (pairs ++ filter_map pairs_at (kept ss)) (pairs ++ filter_map pairs_at (kept (s ∷ ss)))
           (ap (λ (o : Option Fault). earlier o (closing_fault past all (s ∷ ss))) (faults-later before s ss none)
-              ∙ ap (λ (o : Option Fault). earlier (faults (s ∷ before) ss) o)
-                  (closing ∙ unless (list_any ends_proof ls) (Some (fault l.number 48)) (closing_fault past all ss)))
+          ∙ ap (λ (o : Option Fault). earlier (faults (s ∷ before) ss) o)
+          (closing ∙ unless (list_any ends_proof ls) (Some (fault l.number 48)) (closing_fault past all ss)))
           (ap (λ l. items ++ l) (ap (λ (ts : List Statement). items_from ts names) (kept-more s ss h.footer) ∙ items-none names s (kept ss) false h.step h.comment))
           (ap (λ (qs : List PairLine). pairs ++ qs) (ap (λ (ts : List Statement). filter_map pairs_at ts) (kept-more s ss h.footer) ∙ pairs-none s (kept ss) h.distinct))
           (rest (s ∷ before) names items pairs (Some l.number) same')
@@ -350,30 +350,30 @@ proof-claim past all before names items pairs l ls place h same rest =
 abbrev LineClaim : ℕ → List Line → List Statement → LineKind → Reading → Line → List Line → Type 0
 LineClaim past all before k r l ls =
     Agrees (go_on (fault_with k r l ls) (is_footer_kind k) r (read_lines past (with_kind k r l ls) ls)) (due past all before None (l ∷ ls))
-        (r.items ++ items_from (kept (statements_where false (l ∷ ls))) r.names)
-        (r.pairs ++ filter_map pairs_at (kept (statements_where false (l ∷ ls))))
+    (r.items ++ items_from (kept (statements_where false (l ∷ ls))) r.names)
+    (r.pairs ++ filter_map pairs_at (kept (statements_where false (l ∷ ls))))
 
 begun_statements : (l : Line) (ls : List Line) → opens_proof l ≡ false → begins l ≡ true → statements_where false (l ∷ ls) ≡ statement_at l ls ∷ statements_where false ls
 begun_statements l ls o b =
     cond_else (opens_proof l) (statement l [] ∷ statements_where (not (ends_proof l)) ls)
-        (cond (begins l) (statement_at l ls ∷ statements_where false ls) (statements_where false ls)) o
-        ∙ cond_then (begins l) (statement_at l ls ∷ statements_where false ls) (statements_where false ls) b
+    (cond (begins l) (statement_at l ls ∷ statements_where false ls) (statements_where false ls)) o
+    ∙ cond_then (begins l) (statement_at l ls ∷ statements_where false ls) (statements_where false ls) b
 
 proof_statements : (l : Line) (ls : List Line) → opens_proof l ≡ true → statements_where false (l ∷ ls) ≡ statement l [] ∷ statements_where (not (ends_proof l)) ls
 proof_statements l ls o =
     cond_then (opens_proof l) (statement l [] ∷ statements_where (not (ends_proof l)) ls)
-        (cond (begins l) (statement_at l ls ∷ statements_where false ls) (statements_where false ls)) o
+    (cond (begins l) (statement_at l ls ∷ statements_where false ls) (statements_where false ls)) o
 
 from-claim : (past : ℕ) (all : List Line) (before : List Statement) (r : Reading) (read : Result Reading Fault) (l : Line) (ls : List Line)
     (s : Statement) (ss : List Statement)
     → statements_where false (l ∷ ls) ≡ s ∷ ss → Claim past all before r read s ss
     → Agrees read (due past all before None (l ∷ ls)) (r.items ++ items_from (kept (statements_where false (l ∷ ls))) r.names)
-        (r.pairs ++ filter_map pairs_at (kept (statements_where false (l ∷ ls))))
+    (r.pairs ++ filter_map pairs_at (kept (statements_where false (l ∷ ls))))
 from-claim past all before r read l ls s ss e h =
     subst
-        (λ (ts : List Statement). Agrees read (earlier (faults before ts) (closing_fault past all ts)) (r.items ++ items_from (kept ts) r.names)
-            (r.pairs ++ filter_map pairs_at (kept ts)))
-        (sym e) h
+    (λ (ts : List Statement). Agrees read (earlier (faults before ts) (closing_fault past all ts)) (r.items ++ items_from (kept ts) r.names)
+    (r.pairs ++ filter_map pairs_at (kept ts)))
+    (sym e) h
 
 begun-line : (past : ℕ) (all : List Line) (before : List Statement) (names : List (List ℕ)) (items : List SheetItem) (pairs : List PairLine)
     (l : Line) (ls : List Line) (k : LineKind)
@@ -384,26 +384,26 @@ begun-line past all before names items pairs l ls kind.Indented b lt rising p h 
 begun-line past all before names items pairs l ls kind.Comment b lt rising p h g same rest =
     let r = reading names items pairs None in
     from-claim past all before r (read_lines past (with_kind kind.Comment r l ls) ls) l ls (statement_at l ls) (statements_where false ls)
-        (begun_statements l ls h.opens b) (comment-claim past all before names items pairs l ls h same rest)
+    (begun_statements l ls h.opens b) (comment-claim past all before names items pairs l ls h same rest)
 begun-line past all before names items pairs l ls kind.Distinct b lt rising p h g same rest =
     let r = reading names items pairs None in
     from-claim past all before r (go_on (fault_with kind.Distinct r l ls) false r (read_lines past (with_kind kind.Distinct r l ls) ls)) l ls
-        (statement_at l ls) (statements_where false ls) (begun_statements l ls h.opens b)
-        (distinct-claim past all before names items pairs l ls lt rising p.1 h same rest)
+    (statement_at l ls) (statements_where false ls) (begun_statements l ls h.opens b)
+    (distinct-claim past all before names items pairs l ls lt rising p.1 h same rest)
 begun-line past all before names items pairs l ls kind.Proof b lt rising p h g same rest =
     let r = reading names items pairs None in
     from-claim past all before r (read_lines past (with_kind kind.Proof r l ls) ls) l ls (statement l []) (statements_where (not (ends_proof l)) ls)
-        (proof_statements l ls h.opens) (proof-claim past all before names items pairs l ls p.0 g same rest)
+    (proof_statements l ls h.opens) (proof-claim past all before names items pairs l ls p.0 g same rest)
 begun-line past all before names items pairs l ls kind.Footer b lt rising p h g same rest =
     let r = reading names items pairs None in
     from-claim past all before r (go_on (fault_with kind.Footer r l ls) true r (read_lines past r ls)) l ls (statement_at l ls)
-        (statements_where false ls) (begun_statements l ls h.opens b)
-        (footer-claim past all before names items pairs l ls (read_lines past r ls) rising p.0 h same)
+    (statements_where false ls) (begun_statements l ls h.opens b)
+    (footer-claim past all before names items pairs l ls (read_lines past r ls) rising p.0 h same)
 begun-line past all before names items pairs l ls kind.Step b lt rising p h g same rest =
     let r = reading names items pairs None in
     from-claim past all before r (go_on (fault_with kind.Step r l ls) false r (read_lines past (with_kind kind.Step r l ls) ls)) l ls
-        (statement_at l ls) (statements_where false ls) (begun_statements l ls h.opens b)
-        (step-claim past all before names items pairs l ls lt rising p.1 h same rest)
+    (statement_at l ls) (statements_where false ls) (begun_statements l ls h.opens b)
+    (step-claim past all before names items pairs l ls lt rising p.1 h same rest)
 
 -- a line that belongs to the statement before it
 indented_statements : (l : Line) (ls : List Line) → begins l ≡ false → statements_where false (l ∷ ls) ≡ statements_where false ls
@@ -416,9 +416,9 @@ indented-line : (past : ℕ) (all : List Line) (before : List Statement) (names 
 indented-line past all before names items pairs l ls b h =
     let r = reading names items pairs None in
     subst
-        (λ (ts : List Statement). Agrees (read_lines past r ls) (earlier (faults before ts) (closing_fault past all ts))
-            (items ++ items_from (kept ts) names) (pairs ++ filter_map pairs_at (kept ts)))
-        (sym (indented_statements l ls b)) h
+    (λ (ts : List Statement). Agrees (read_lines past r ls) (earlier (faults before ts) (closing_fault past all ts))
+    (items ++ items_from (kept ts) names) (pairs ++ filter_map pairs_at (kept ts)))
+    (sym (indented_statements l ls b)) h
 
 open-line : (past : ℕ) (all : List Line) (before : List Statement) (names : List (List ℕ)) (items : List SheetItem) (pairs : List PairLine) (l : Line)
     (ls : List Line)
@@ -441,10 +441,10 @@ proof-line : (past n : ℕ) (all : List Line) (before : List Statement) (names :
     → Same before names → Rest past all ls → Right past all before (reading names items pairs (Some n)) (l ∷ ls)
 proof-line past n all before names items pairs l ls same rest =
     elim (ends_proof l) as
-        (λ b. Agrees (read_lines past (reading names items pairs (cond b None (Some n))) ls)
-            (earlier (faults before (statements_where (not b) ls))
-                (cond (b || list_any ends_proof ls) (closing_fault past all (statements_where (not b) ls)) (Some (fault n 48))))
-            (items ++ items_from (kept (statements_where (not b) ls)) names) (pairs ++ filter_map pairs_at (kept (statements_where (not b) ls)))) [
+    (λ b. Agrees (read_lines past (reading names items pairs (cond b None (Some n))) ls)
+    (earlier (faults before (statements_where (not b) ls))
+    (cond (b || list_any ends_proof ls) (closing_fault past all (statements_where (not b) ls)) (Some (fault n 48))))
+    (items ++ items_from (kept (statements_where (not b) ls)) names) (pairs ++ filter_map pairs_at (kept (statements_where (not b) ls)))) [
       | true ↦ rest before names items pairs None same
       | false ↦ rest before names items pairs (Some n) same
     ]
@@ -456,6 +456,6 @@ right n past all before names items pairs None [] rising p same = refl
 right n past all before names items pairs (Some m) [] rising p same = refl
 right n past all before names items pairs None (l ∷ ls) rising p same =
     open-line past all before names items pairs l ls rising.1 rising.2 p same
-        (λ b ns is ps o s. right (suc l.number) past all b ns is ps o ls rising.2 p.1 s)
+    (λ b ns is ps o s. right (suc l.number) past all b ns is ps o ls rising.2 p.1 s)
 right n past all before names items pairs (Some m) (l ∷ ls) rising p same =
     proof-line past m all before names items pairs l ls same (λ b ns is ps o s. right (suc l.number) past all b ns is ps o ls rising.2 p.1 s)

@@ -223,8 +223,8 @@ set-more ts keys new i d r lt e f k h =
     let unseen : contains (targets keys) name ≡ false = sym (any-map (bytes_eq name) (λ k. k.now) keys) ∙ none in
     let here : Sees (targets keys) (name ∷ targets (drop (i + 1) ts)) (targets ts) = subst (λ (l : List (List ℕ)). Sees (targets keys) l (targets ts)) (rest-cons ts i d lt) h in
     let put : targets new ≡ targets keys ++ name ∷ [] =
-        ap targets (k ∙ cond_else (list_any (seen_test (get_or ts i d)) keys) keys (keys ++ get_or ts i d ∷ []) none)
-            ∙ map-append (λ k. k.now) keys (get_or ts i d ∷ []) in
+    ap targets (k ∙ cond_else (list_any (seen_test (get_or ts i d)) keys) keys (keys ++ get_or ts i d ∷ []) none)
+    ∙ map-append (λ k. k.now) keys (get_or ts i d ∷ []) in
     subst (λ (l : List (List ℕ)). Sees l (targets (drop (i + 1) ts)) (targets ts)) (sym put) (sees-more (targets keys) name (targets (drop (i + 1) ts)) (targets ts) unseen here)
 
 pub set-start : (ts keys : List (Bor (List ℕ))) → keys ≡ [] → Sees (targets keys) (targets ts) (targets ts)

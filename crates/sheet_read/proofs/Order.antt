@@ -73,9 +73,9 @@ place before s = line_of s
 
 rule_code : (n : ℕ) (a b c d e : Bool) (p q r s t : List Statement → Statement → Bool)
     → IsLate
-        (option_map (λ code. fault n code)
-            (option_map (λ (x : ℕ × (List Statement → Statement → Bool)). x.0)
-                (cond a (Some (44, p)) (cond b (Some (45, q)) (cond c (Some (46, r)) (cond d (Some (47, s)) (cond e (Some (49, t)) None)))))))
+    (option_map (λ code. fault n code)
+    (option_map (λ (x : ℕ × (List Statement → Statement → Bool)). x.0)
+    (cond a (Some (44, p)) (cond b (Some (45, q)) (cond c (Some (46, r)) (cond d (Some (47, s)) (cond e (Some (49, t)) None)))))))
 rule_code n true b c d e p q r s t = omega arith
 rule_code n false true c d e p q r s t = omega arith
 rule_code n false false true d e p q r s t = omega arith
@@ -98,7 +98,7 @@ pub faults_late : (before ss : List Statement) → IsLate (first_fault (λ b s. 
 faults_late before [] = tt
 faults_late before (s ∷ ss) =
     or_late (option_map (λ code. fault (line_of s) code) (first_code statement_rules before s))
-        (first_fault (λ b s. line_of s) statement_rules (s ∷ before) ss) (code_late (line_of s) before s) (faults_late (s ∷ before) ss)
+    (first_fault (λ b s. line_of s) statement_rules (s ∷ before) ss) (code_late (line_of s) before s) (faults_late (s ∷ before) ss)
 
 abbrev faults : List Statement → List Statement → Option Fault
 faults before ss = first_fault (λ b s. line_of s) statement_rules before ss
@@ -112,10 +112,10 @@ faults_from n past false before (l ∷ ls) h =
     let later : Rising n past ls = rising-weaker n (suc l.number) past ls (omega arith) h.2 in
     let s = statement l (take_while (λ m. not (begins m)) ls) in
     elim (opens_proof l) as
-        (λ t. IsFrom n
-            (faults before
-                (cond t (statement l [] ∷ statements_where (not (ends_proof l)) ls)
-                    (cond (begins l) (s ∷ statements_where false ls) (statements_where false ls))))) [
+    (λ t. IsFrom n
+    (faults before
+    (cond t (statement l [] ∷ statements_where (not (ends_proof l)) ls)
+    (cond (begins l) (s ∷ statements_where false ls) (statements_where false ls))))) [
       | true ↦ or_from n l.number (first_code statement_rules before (statement l []))
           (faults (statement l [] ∷ before) (statements_where (not (ends_proof l)) ls)) h.0
           (faults_from n past (not (ends_proof l)) (statement l [] ∷ before) ls later)
@@ -152,10 +152,10 @@ closing_from n past false all (l ∷ ls) le h p =
     let s = statement l (take_while (λ m. not (begins m)) ls) in
     let foot : IsFrom n (past_footer (lines_from l.number all)) = rw p.0 (past_footer-from n past l ls h.0 h.2) in
     elim (opens_proof l) as
-        (λ t. IsFrom n
-            (closing_fault past all
-                (cond t (statement l [] ∷ statements_where (not (ends_proof l)) ls)
-                    (cond (begins l) (s ∷ statements_where false ls) (statements_where false ls))))) [
+    (λ t. IsFrom n
+    (closing_fault past all
+    (cond t (statement l [] ∷ statements_where (not (ends_proof l)) ls)
+    (cond (begins l) (s ∷ statements_where false ls) (statements_where false ls))))) [
       | true ↦ closing_step n past all (statement l []) (statements_where (not (ends_proof l)) ls) h.0 foot (closing_from n past (not (ends_proof l)) all ls le later p.1)
       | false ↦ elim (begins l) as (λ t. IsFrom n (closing_fault past all (cond t (s ∷ statements_where false ls) (statements_where false ls)))) [
         | true ↦ closing_step n past all s (statements_where false ls) h.0 foot (closing_from n past false all ls le later p.1)
@@ -183,11 +183,11 @@ numbered-rising n [] = tt
 numbered-rising n (b ∷ bs) =
     let past : suc n + length bs ≡ n + suc (length bs) = omega arith in
     let rest : Rising (suc n) (n + suc (length bs)) (filter (λ l. not (is_blank l)) (numbered_from (suc n) bs)) =
-        subst (λ (p : ℕ). Rising (suc n) p (filter (λ l. not (is_blank l)) (numbered_from (suc n) bs))) past (numbered-rising (suc n) bs) in
+    subst (λ (p : ℕ). Rising (suc n) p (filter (λ l. not (is_blank l)) (numbered_from (suc n) bs))) past (numbered-rising (suc n) bs) in
     elim (is_blank (line n (trim_end b))) as
-        (λ t. Rising n (n + suc (length bs))
-            (cond (not t) (line n (trim_end b) ∷ filter (λ l. not (is_blank l)) (numbered_from (suc n) bs))
-                (filter (λ l. not (is_blank l)) (numbered_from (suc n) bs)))) [
+    (λ t. Rising n (n + suc (length bs))
+    (cond (not t) (line n (trim_end b) ∷ filter (λ l. not (is_blank l)) (numbered_from (suc n) bs))
+    (filter (λ l. not (is_blank l)) (numbered_from (suc n) bs)))) [
       | true ↦ rising-weaker n (suc n) (n + suc (length bs)) (filter (λ l. not (is_blank l)) (numbered_from (suc n) bs)) (omega arith) rest
       | false ↦ (omega arith, omega arith, rest)
     ]

@@ -46,7 +46,7 @@ trimmed-lines (b ∷ bs) =
       | inl e ↦
           let is : b ≡ 10 = grind (arith, nat_tests) in
           ap (λ (k : ℕ). trimmed (lines_of (k ∷ bs))) is ∙ ap trimmed (lines-feed bs) ∙ ap (λ (ls : List (List ℕ)). [] ∷ ls) (trimmed-lines bs)
-              ∙ ap trimmed (sym (ap (λ (t : Bool). cond t ([] ∷ lines bs) (onto_first b (lines bs))) e))
+          ∙ ap trimmed (sym (ap (λ (t : Bool). cond t ([] ∷ lines bs) (onto_first b (lines bs))) e))
       | inr e ↦ ap trimmed (lines-more b bs e) ∙ trimmed-onto b (lines_of bs) (lines bs) (trimmed-lines bs) ∙ ap trimmed (sym (ap (λ (t : Bool). cond t ([] ∷ lines bs) (onto_first b (lines bs))) e))
     ]
 

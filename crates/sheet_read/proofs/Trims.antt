@@ -33,7 +33,7 @@ trims-less bytes len some within e h = record { eq = sym (trim-white (take (len 
 pub trims-done : (bytes : List ℕ) (len : ℕ) → 0 < len → len ≤ length bytes → is_white (get_or bytes (len - 1) 0) ≡ false → Trims bytes len → take len bytes ≡ trim_end bytes
 trims-done bytes len some within e h =
     split-last bytes len some within ∙ sym (trim-inked (take (len - 1) bytes) (get_or bytes (len - 1) 0) e)
-        ∙ ap trim_end (sym (split-last bytes len some within)) ∙ h.eq
+    ∙ ap trim_end (sym (split-last bytes len some within)) ∙ h.eq
 
 pub trims-none : (bytes : List ℕ) (len : ℕ) → len ≡ 0 → Trims bytes len → take len bytes ≡ trim_end bytes
 trims-none bytes len e h =

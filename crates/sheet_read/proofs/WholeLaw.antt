@@ -89,19 +89,19 @@ from-agrees n h (Ok r) o is ps a = (
 with-header : (past : ℕ) (all : List Line) (l : Line) (ls : List Line) (h : Option Header) → l.number < past → Rising (suc l.number) past ls
     → Placed all ls → header_of (tokens_in (statement_at l ls)) ≡ h
     → Good (with_header l.number h (read_lines past first_reading ls))
-        (earlier (statement_fault (statement_at l ls ∷ statements_where false ls)) (closing_fault past all (statements_where false ls)))
-        (sheet_with l.number h (kept (statements_where false ls)))
+    (earlier (statement_fault (statement_at l ls ∷ statements_where false ls)) (closing_fault past all (statements_where false ls)))
+    (sheet_with l.number h (kept (statements_where false ls)))
 with-header past all l ls None lt rising p e =
     let s = statement_at l ls in
     let ss = statements_where false ls in
     let bad : statement_fault (s ∷ ss) ≡ Some (fault l.number 41) =
-        ap (λ (o : Option Header). cond (is_none o) (Some (fault l.number 41)) (first_fault (λ before t. line_of t) statement_rules [] ss)) e in
+    ap (λ (o : Option Header). cond (is_none o) (Some (fault l.number 41)) (first_fault (λ before t. line_of t) statement_rules [] ss)) e in
     ap (λ (o : Option Fault). earlier o (closing_fault past all ss)) bad ∙ earlier-first l.number 41 (closing_fault past all ss) (closing_from (suc l.number) past false all ls (omega arith) rising p)
 with-header past all l ls (Some h) lt rising p e =
     let s = statement_at l ls in
     let ss = statements_where false ls in
     let good : statement_fault (s ∷ ss) ≡ first_fault (λ before t. line_of t) statement_rules [] ss =
-        ap (λ (o : Option Header). cond (is_none o) (Some (fault l.number 41)) (first_fault (λ before t. line_of t) statement_rules [] ss)) e in
+    ap (λ (o : Option Header). cond (is_none o) (Some (fault l.number 41)) (first_fault (λ before t. line_of t) statement_rules [] ss)) e in
     let read = read_lines past first_reading ls in
     let sheet : Option Sheet = Some (record { line = l.number; theorem = h.theorem; loc = h.loc; items = items_from (kept ss) []; pairs = filter_map pairs_at (kept ss) }) in
     good-same (with_header l.number (Some h) read) (due past all [] None ls) (earlier (statement_fault (s ∷ ss)) (closing_fault past all ss)) sheet sheet
@@ -123,8 +123,8 @@ first-good past (l ∷ ls) rising =
           let whole : read_whole past all ≡ read = cond_then (begins_header l) read (Err (fault l.number 40)) b in
           let first : fault_of past all ≡ later = ap (λ (t : Bool). or_else (cond t None (Some (fault l.number 40))) later) b in
           let rest : later ≡ earlier (statement_fault (s ∷ ss)) (closing_fault past all ss) =
-              ap (λ (ts : List Statement). earlier (statement_fault ts) (closing_fault past all ts)) (header-statements l ls b)
-                  ∙ ap (λ (o : Option Fault). earlier (statement_fault (s ∷ ss)) o) (header-closing past all l ls b) in
+          ap (λ (ts : List Statement). earlier (statement_fault ts) (closing_fault past all ts)) (header-statements l ls b)
+          ∙ ap (λ (o : Option Fault). earlier (statement_fault (s ∷ ss)) o) (header-closing past all l ls b) in
           subst (λ (r : Result Sheet Fault). Good r (fault_of past all) (sheet_in (statements_where false all))) (sym whole)
           (good-same read (earlier (statement_fault (s ∷ ss)) (closing_fault past all ss)) (fault_of past all) (sheet_with l.number h (kept ss)) (sheet_in (statements_where false all))
           (first ∙ rest) (ap (λ (ts : List Statement). sheet_in ts) (header-statements l ls b))
@@ -151,5 +151,5 @@ pub fault-read : (text : List ℕ) (ls : List Line) (past : ℕ) (e : SheetFault
 fault-read text ls past faults.Memory d n h = tt
 fault-read text ls past (faults.At code line) d n h =
     let read : read_whole (line_past_end text) (lines_not_blank text) ≡ Err (fault line (code_of code)) =
-        ap (λ (k : ℕ). read_whole k (lines_not_blank text)) (sym n) ∙ ap (λ (ms : List Line). read_whole past ms) (sym d) ∙ h in
+    ap (λ (k : ℕ). read_whole k (lines_not_blank text)) (sym n) ∙ ap (λ (ms : List Line). read_whole past ms) (sym d) ∙ h in
     subst (λ (r : Result Sheet Fault). Good r (line_fault text) (sheet_in (statements text))) read (whole-good text)

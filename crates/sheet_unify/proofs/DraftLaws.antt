@@ -185,6 +185,6 @@ module _ (has : HasDatabaseFacts) (standing : MandatoryVariablesStand) (owned : 
       searched finished =
           written_searched db options (w finished) (name_items names fs) (items_in d items)
           (subst
-              (λ (xs : List WrittenItem). AllZip (searching.ItemIsSearched db bound.place options.dv bound.pairs (steps_in xs)) xs
-                  (items_in d items)) named_are
-              (found.searched kinds database opened))
+          (λ (xs : List WrittenItem). AllZip (searching.ItemIsSearched db bound.place options.dv bound.pairs (steps_in xs)) xs
+          (items_in d items)) named_are
+          (found.searched kinds database opened))

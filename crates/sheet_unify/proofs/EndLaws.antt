@@ -90,7 +90,7 @@ module _ (d : Opened) (place : ℕ) (items : List DraftItem) where
   pub small_is : (size : ℕ) → IsToldSize d place items size → size ≤ most_work_size → IsSmall d place items
   small_is size is low options database text w made much =
       not_over (work_size (book options.kinds database d) (written_bound (book options.kinds database d) options w)) size most_work_size (omega arith)
-          (size_of size is options database text w made) low much
+      (size_of size is options database text w made) low much
 
   pub size_faulty : (size : ℕ) → IsToldSize d place items size → most_work_size < size → IsSizeFault d place items (faults.TooMuchWritten size)
   size_faulty size is over options database text w made none =

@@ -125,7 +125,7 @@ module _ (h : Held) (sheet : Sheet) (told : IsTold h) (kinds : Kinds) (logic : I
       items_are = filled_is;
       short = short db (constants_of h) (trees (steps_in (items_in h.book items)))
           (subst (λ (is : List WrittenItem). AreCounted db (constants_of h) (trees (steps_in is))) (sym filled_is)
-              (front_counted fronts sheet.items (let all = counted.count in omega (arith, all))).filled)
+          (front_counted fronts sheet.items (let all = counted.count in omega (arith, all))).filled)
           (of_text (λ b. chain.AreShort (constants_of h) (trees (steps_in (items_in h.book items)))) filled.short);
     }
 

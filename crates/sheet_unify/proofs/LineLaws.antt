@@ -116,7 +116,7 @@ parts_are symbols r a b c d e g h i j k = k ∙ ap (λ x. x ++ L) (j ∙ ap (λ 
     whole : report_text symbols r ≡ (((r.name ++ V) ++ R) ++ C) ++ L
     whole =
         ap (λ x. r.name ++ x) split ∙ sym (append_assoc r.name ((V ++ R) ++ C) L ∙ ap (λ x. r.name ++ x) refl)
-            ∙ ap (λ x. x ++ L) (sym (append_assoc r.name (V ++ R) C)) ∙ ap (λ x. (x ++ C) ++ L) (sym (append_assoc r.name V R))
+        ∙ ap (λ x. x ++ L) (sym (append_assoc r.name (V ++ R) C)) ∙ ap (λ x. (x ++ C) ++ L) (sym (append_assoc r.name V R))
 
 -- ---- faults
 
@@ -125,7 +125,7 @@ place_is code place words e = at (decimal code) (fault_name sheet_faults code) (
   where
     at : (c n p : List ℕ) → 32 ∷ words ≡ behind (c ∷ n ∷ [])
         → spaced (codes "sheet" ∷ codes "error" ∷ c ∷ n ∷ codes "at" ∷ codes "line" ∷ p ∷ [])
-            ≡ ((codes "sheet error" ++ 32 ∷ words) ++ codes " at line") ++ 32 ∷ p
+        ≡ ((codes "sheet error" ++ 32 ∷ words) ++ codes " at line") ++ 32 ∷ p
     at c n p e = ap (λ x. codes "sheet error" ++ x) (lines c n p) ∙ ap (λ x. ((codes "sheet error" ++ x) ++ codes " at line") ++ 32 ∷ p) (sym e)
       where
         lines : (c n p : List ℕ) → 32 ∷ (c ++ 32 ∷ (n ++ (codes " at line " ++ p))) ≡ (behind (c ∷ n ∷ []) ++ codes " at line") ++ 32 ∷ p

@@ -41,8 +41,8 @@ module _ (a b : Sym → Typecode → Tree) (p q : Open → Tree) where
   all_same (t ∷ ts) h f g =
       let one = h.0 (λ s c o. f s c (Contains-append_left (variables t) (flatten (map variables ts)) s o)) (λ x o. g x (Contains-append_left (open_leaves t) (flatten (map open_leaves ts)) x o)) in
       let rest =
-          all_same ts h.1 (λ s c o. f s c (Contains-append_right (variables t) (flatten (map variables ts)) s o))
-              (λ x o. g x (Contains-append_right (open_leaves t) (flatten (map open_leaves ts)) x o)) in
+      all_same ts h.1 (λ s c o. f s c (Contains-append_right (variables t) (flatten (map variables ts)) s o))
+      (λ x o. g x (Contains-append_right (open_leaves t) (flatten (map open_leaves ts)) x o)) in
       cc
 
   replace-agree_on : (t : Tree) → Same t

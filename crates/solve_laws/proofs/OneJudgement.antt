@@ -56,9 +56,9 @@ module _ (db : Database) (bound : Bound) where
         let mine = h.each n _ _ at_step (slice_get-get_or one n no_judgement within_one) in
         let its = k.each n _ _ at_step (slice_get-get_or other n no_judgement within_other) in
         let moved =
-            subst
-                (λ js. IsJudgement db bound (accepted_in js) n (get_or bound.steps n no_step) (standing db bound.place (get_or bound.steps n no_step))
-                    (get_or one n no_judgement)) front mine in
+        subst
+        (λ js. IsJudgement db bound (accepted_in js) n (get_or bound.steps n no_step) (standing db bound.place (get_or bound.steps n no_step))
+        (get_or one n no_judgement)) front mine in
         let last : get_or one n no_judgement ≡ get_or other n no_judgement = one_by _ n _ _ _ _ moved its in
         let left = take-suc one n no_judgement within_one in
         let right = take-suc other n no_judgement within_other in

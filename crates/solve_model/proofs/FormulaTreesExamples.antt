@@ -88,7 +88,7 @@ y_typed = typed-Var doubled.rows 47 (symbol 17) setvar
 class_typed : (n : ℕ) → IsTyped doubled.rows 47 (cv (Var (symbol n) setvar))
 class_typed n =
     typed-Node doubled.rows 47 (label 14) class (Var (symbol n) setvar ∷ []) (_, refl, lit< tt, refl, ap (λ c. c ∷ []) (code-Var (symbol n) setvar))
-        (typed-Var doubled.rows 47 (symbol n) setvar, tt)
+    (typed-Var doubled.rows 47 (symbol n) setvar, tt)
 
 class_named : (n : ℕ) → HasNoFresh (cv (Var (symbol n) setvar))
 class_named n = named-Node _ _ _ (named-Var (symbol n) setvar, tt)

@@ -95,11 +95,11 @@ each zero s o e f = let a : first ≡ s = cc in let b : accepted one ≡ o = cc 
     subst (λ t. IsJudgement P sheet [] 0 t (standing P 14 t) o) a (subst (λ q. IsJudgement P sheet [] 0 first (standing P 14 first) q) b (IsJudgement.fits {a = ax_1} (inl (refl, one_fits))))
 each (suc zero) s o e f = let a : second ≡ s = cc in let b : stands verdict.NoFit ≡ o = cc in
     subst (λ t. IsJudgement P sheet (one ∷ []) 1 t (standing P 14 t) o) a
-        (subst (λ q. IsJudgement P sheet (one ∷ []) 1 second (standing P 14 second) q) b
-            (IsJudgement.no_fit {a = ax_mp} (second_fits_not, (second_fits_not, tt))))
+    (subst (λ q. IsJudgement P sheet (one ∷ []) 1 second (standing P 14 second) q) b
+    (IsJudgement.no_fit {a = ax_mp} (second_fits_not, (second_fits_not, tt))))
 each (suc (suc zero)) s o e f = let a : third ≡ s = cc in let b : accepted other ≡ o = cc in
     subst (λ t. IsJudgement P sheet (one ∷ []) 2 t (standing P 14 t) o) a
-        (subst (λ q. IsJudgement P sheet (one ∷ []) 2 third (standing P 14 third) q) b (IsJudgement.fits {a = ax_1} (inl (refl, other_fits))))
+    (subst (λ q. IsJudgement P sheet (one ∷ []) 2 third (standing P 14 third) q) b (IsJudgement.fits {a = ax_1} (inl (refl, other_fits))))
 each (suc (suc (suc zero))) s o e f = let a : last ≡ s = cc in let b : stands verdict.NoRef ≡ o = cc in
     subst (λ t. IsJudgement P sheet (one ∷ other ∷ []) 3 t (standing P 14 t) o) a (subst (λ q. IsJudgement P sheet (one ∷ other ∷ []) 3 last (standing P 14 last) q) b IsJudgement.other)
 each (suc (suc (suc (suc i)))) s o e f = absurd (cc)

@@ -23,7 +23,7 @@ use Rattle.mm_model.specs.Book.{Assertion, Database}
 abbrev pub P_text : List ℕ
 P_text =
     codes
-        "$c ( ) -> -. wff |- $. $v ph ps ch $. wph $f wff ph $. wps $f wff ps $. wch $f wff ch $. wn $a wff -. ph $. wi $a wff ( ph -> ps ) $. ${ min $e |- ph $. maj $e |- ( ph -> ps ) $. ax-mp $a |- ps $. $} ax-1 $a |- ( ph -> ( ps -> ph ) ) $. ax-2 $a |- ( ( ph -> ( ps -> ch ) ) -> ( ( ph -> ps ) -> ( ph -> ch ) ) ) $."
+    "$c ( ) -> -. wff |- $. $v ph ps ch $. wph $f wff ph $. wps $f wff ps $. wch $f wff ch $. wn $a wff -. ph $. wi $a wff ( ph -> ps ) $. ${ min $e |- ph $. maj $e |- ( ph -> ps ) $. ax-mp $a |- ps $. $} ax-1 $a |- ( ph -> ( ps -> ph ) ) $. ax-2 $a |- ( ( ph -> ( ps -> ch ) ) -> ( ( ph -> ps ) -> ( ph -> ch ) ) ) $."
 
 -- with a theorem of two hypotheses
 abbrev pub V_text : List ℕ
@@ -36,8 +36,8 @@ E_text = P_text ++ codes " out $e |- ph $."
 abbrev pub Q_text : List ℕ
 Q_text =
     P_text
-        ++ codes
-            " $c setvar class { } | = A. $. $v x y A B $. vx $f setvar x $. vy $f setvar y $. cA $f class A $. cB $f class B $. cv $a class x $. cab $a class { x | ph } $. wceq $a wff A = B $. wal $a wff A. x ph $. ${ a1i.1 $e |- ph $. a1i $a |- ( ps -> ph ) $. $} ${ a2i.1 $e |- ( ph -> ( ps -> ch ) ) $. a2i $a |- ( ( ph -> ps ) -> ( ph -> ch ) ) $. $} ${ $d x ph $. ax-5 $a |- ( ph -> A. x ph ) $. $} eqid $a |- A = A $. ${ drop.1 $e |- ( ph -> A. x ph ) $. drop $a |- ( ph -> ph ) $. $} ${ pair.1 $e |- ph $. pair $a |- ( ph -> ph ) $. $} ax-1c $a |- ( ph -> ( ps -> ph ) ) $."
+    ++ codes
+    " $c setvar class { } | = A. $. $v x y A B $. vx $f setvar x $. vy $f setvar y $. cA $f class A $. cB $f class B $. cv $a class x $. cab $a class { x | ph } $. wceq $a wff A = B $. wal $a wff A. x ph $. ${ a1i.1 $e |- ph $. a1i $a |- ( ps -> ph ) $. $} ${ a2i.1 $e |- ( ph -> ( ps -> ch ) ) $. a2i $a |- ( ( ph -> ps ) -> ( ph -> ch ) ) $. $} ${ $d x ph $. ax-5 $a |- ( ph -> A. x ph ) $. $} eqid $a |- A = A $. ${ drop.1 $e |- ( ph -> A. x ph ) $. drop $a |- ( ph -> ph ) $. $} ${ pair.1 $e |- ph $. pair $a |- ( ph -> ph ) $. $} ax-1c $a |- ( ph -> ( ps -> ph ) ) $."
 
 -- the words of a text
 abbrev pub split : List ℕ → List Name

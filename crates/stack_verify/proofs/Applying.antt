@@ -20,13 +20,13 @@ too_few thm frame xs es ks few =
     let test : ltb (length (reverse (formulas_in xs es))) (length frame.hyps) ≡ true = lt-ltb (length (reverse (formulas_in xs es))) (length frame.hyps) (omega (arith, stack_count xs es)) in
     cond_then (ltb (length (reverse (formulas_in xs es))) (length frame.hyps)) (Err underflow)
     (and_then (λ (f : Formula). Ok (record { stack = f ∷ drop (length frame.hyps) (reverse (formulas_in xs es)); kept = formulas_in xs ks }))
-        (applied thm frame (reverse (take (length frame.hyps) (reverse (formulas_in xs es)))))) test
+    (applied thm frame (reverse (take (length frame.hyps) (reverse (formulas_in xs es)))))) test
 
 -- the state behind: the substituted formula, if the entries have no fault
 abbrev outcome : Theorem → Frame → List Sym → List Span → List Span → ℕ → Option MachineFault → Result State MachineFault
 outcome thm frame xs es ks b fault =
     and_then (λ (f : Formula). Ok (record { stack = f ∷ reverse (formulas_in xs (take b es)); kept = formulas_in xs ks }))
-        (unless fault (substituted (entries_of frame.hyps xs (drop b es)) frame.formula))
+    (unless fault (substituted (entries_of frame.hyps xs (drop b es)) frame.formula))
 
 enough : (thm : Theorem) (frame : Frame) (xs : List Sym) (es ks : List Span) (b : ℕ) → b + length frame.hyps ≡ length es
     → apply_frame thm frame (state_of xs es ks) ≡ outcome thm frame xs es ks b (entries_fault thm frame (entries_of frame.hyps xs (drop b es)))
@@ -67,7 +67,7 @@ fails_at thm frame xs ys es fs ks spans b fault ex ef eb e h =
     let top : spans ≡ drop b es = eb ∙ ap (drop b) ef in
     fails thm frame xs es ks b fault e (
     subst (λ (zs : List Sym). FailsAs fault (entries_fault thm frame (entries_of frame.hyps zs (drop b es)))) ex
-        (subst (λ (l : List Span). FailsAs fault (entries_fault thm frame (entries_of frame.hyps ys l))) top h))
+    (subst (λ (l : List Span). FailsAs fault (entries_fault thm frame (entries_of frame.hyps ys l))) top h))
 
 pub fits_at : (thm : Theorem) (frame : Frame) (xs ys : List Sym) (es fs ks ls spans : List Span) (hs : List Hyp) (b : ℕ) (new : State) (f g cleared formula : List Sym)
     → ys ≡ xs → fs ≡ es → spans ≡ drop b fs → b + length frame.hyps ≡ length es → hs ≡ frame.hyps → formula ≡ frame.formula → cleared ≡ []
@@ -78,7 +78,7 @@ fits_at thm frame xs ys es fs ks ls spans hs b new f g cleared formula ex ef eb 
     let result : Formula = substituted (entries_of frame.hyps xs (drop b es)) frame.formula in
     let fine : entries_fault thm frame (entries_of frame.hyps xs (drop b es)) ≡ None =
     subst (λ (zs : List Sym). entries_fault thm frame (entries_of frame.hyps zs (drop b es)) ≡ None) ex
-        (subst (λ (l : List Span). entries_fault thm frame (entries_of frame.hyps ys l) ≡ None) top none) in
+    (subst (λ (l : List Span). entries_fault thm frame (entries_of frame.hyps ys l) ≡ None) top none) in
     let is : f ≡ result =
     fg ∙ eg ∙ ap (λ (c : List Sym). c ++ substituted (entries_of hs ys spans) formula) ec ∙ ap (λ (h : List Hyp). substituted (entries_of h ys spans) formula) eh
     ∙ ap (λ (z : List Sym). substituted (entries_of frame.hyps z spans) formula) ex ∙ ap (λ (l : List Span). substituted (entries_of frame.hyps xs l) formula) top

@@ -18,5 +18,5 @@ word_joined text t old mid new spans i d low eo em en =
     let one : suc i ≡ i + 1 = omega arith in
     en ∙ ap (λ (x : List ℕ). x ++ u) em ∙ append_assoc old (32 ∷ []) u ∙ ap (λ (x : List ℕ). x ++ 32 ∷ u) eo ∙ sym (join_more t (names_in text (take i spans)) u)
     ∙ ap (λ (l : List (List ℕ)). join_with_byte 32 (t ∷ l))
-        (sym (map-append (name_in text) (take i spans) (get_or spans i d ∷ []))
-            ∙ ap (names_in text) (sym (take-suc spans i d low) ∙ ap (λ (j : ℕ). take j spans) one))
+    (sym (map-append (name_in text) (take i spans) (get_or spans i d ∷ []))
+    ∙ ap (names_in text) (sym (take-suc spans i d low) ∙ ap (λ (j : ℕ). take j spans) one))

@@ -31,9 +31,9 @@ with_pair old new a b v w e =
 
 pub pair_put : (old new : List (ℕ × ℕ)) (pairs : List Pair) (i : ℕ) (d : Pair) → i < length pairs
     → new
-        ≡ cond (list_any (is_pair (get_or pairs i d).a.0 (get_or pairs i d).b.0) old) old
-            (old ++ ((get_or pairs i d).a.0, (get_or pairs i d).b.0) ∷ [])
-        → SamePairs (take i pairs) old → SamePairs (take (i + 1) pairs) new
+    ≡ cond (list_any (is_pair (get_or pairs i d).a.0 (get_or pairs i d).b.0) old) old
+    (old ++ ((get_or pairs i d).a.0, (get_or pairs i d).b.0) ∷ [])
+    → SamePairs (take i pairs) old → SamePairs (take (i + 1) pairs) new
 pair_put old new pairs i d low e h = record {
   same = λ v w.
       let test : Pair → Bool = λ (p : Pair). is_pair v w (p.a.0, p.b.0) in

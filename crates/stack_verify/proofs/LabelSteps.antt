@@ -90,7 +90,7 @@ hyp_step hyps others name k e q =
     let p : position (bytes_eq name) m ≡ Some k = sym (names_place hyps name) ∙ e in
     sym (ap (λ (w : What). step w false) (
     cond_else (bytes_eq name (codes "?")) what.Unknown (what_of m others name) q
-        ∙ cond_then (contains m name) (what.Hyp (number_in m name)) (what.Listed (number_in others name)) (there (bytes_eq name) m k p)
+    ∙ cond_then (contains m name) (what.Hyp (number_in m name)) (what.Listed (number_in others name)) (there (bytes_eq name) m k p)
     ∙ ap (λ (n : ℕ). what.Hyp n) (number_is m name k p)))
 
 pub other_passed : (hyps : List Hyp) (others new : List (List ℕ)) (name : List ℕ) → place_of hyps name ≡ None → bytes_eq name (codes "?") ≡ false
@@ -170,13 +170,13 @@ the_what m o w l h =
     elim (cases_Bool (bytes_eq l (codes "?"))) [
       | inl t ↦ ap (λ (x : What). step x false)
           (cond_then (bytes_eq l (codes "?")) what.Unknown (what_of m (o ++ w ∷ []) l) t
-              ∙ sym (cond_then (bytes_eq l (codes "?")) what.Unknown (what_of m o l) t))
+          ∙ sym (cond_then (bytes_eq l (codes "?")) what.Unknown (what_of m o l) t))
       | inr t ↦
           elim (cases_Bool (contains m l)) [
             | inl s ↦
                 ap (λ (x : What). step (cond (bytes_eq l (codes "?")) what.Unknown x) false) (
                 cond_then (contains m l) (what.Hyp (number_in m l)) (what.Listed (number_in (o ++ w ∷ []) l)) s
-                    ∙ sym (cond_then (contains m l) (what.Hyp (number_in m l)) (what.Listed (number_in o l)) s))
+                ∙ sym (cond_then (contains m l) (what.Hyp (number_in m l)) (what.Listed (number_in o l)) s))
             | inr s ↦
                 let here : contains o l ≡ true = sym (ap (λ (a : Bool). (a || contains m l) || contains o l) t ∙ ap (λ (b : Bool). b || contains o l) s) ∙ h in
                 ap (λ (n : ℕ). step (cond (bytes_eq l (codes "?")) what.Unknown (cond (contains m l) (what.Hyp (number_in m l)) (what.Listed n))) false) (same_number o w l here)
@@ -225,10 +225,10 @@ names_more text spans i d low =
 pub one_word : (m others new : List (List ℕ)) (text : List ℕ) (spans : List Span) (i : ℕ) (d : Span) (s : Step) (steps more : List Step)
     → i < length spans → new ≡ with_other m others (name_in text (get_or spans i d))
     → s ≡ normal_step m new (name_in text (get_or spans i d)) → more ≡ steps ++ s ∷ [] → StepsSoFar m (names_in text (take i spans)) others steps
-        → StepsSoFar m (names_in text (take (i + 1) spans)) new more
+    → StepsSoFar m (names_in text (take (i + 1) spans)) new more
 one_word m others new text spans i d s steps more low n e p h =
     subst (λ (l : List (List ℕ)). StepsSoFar m l new more) (names_more text spans i d low)
-        (one_step m (names_in text (take i spans)) others new (name_in text (get_or spans i d)) s steps more n e p h)
+    (one_step m (names_in text (take i spans)) others new (name_in text (get_or spans i d)) s steps more n e p h)
 
 -- ---- numbers in range
 

@@ -70,8 +70,8 @@ pub label_put : (labels : List (List ℕ)) (places : List ℕ) (hyps : List Hyp)
 label_put labels places hyps h i label n m e =
     let t = bytes_eq label h.name in
     let low : (k : ℕ) → position (bytes_eq label) labels ≡ Some k → k < length places =
-        λ (k : ℕ) (q : position (bytes_eq label) labels ≡ Some k). let w = position_within (bytes_eq label) labels k q in
-        omega arith in
+    λ (k : ℕ) (q : position (bytes_eq label) labels ≡ Some k). let w = position_within (bytes_eq label) labels k q in
+    omega arith in
     ap (look (places ++ i ∷ [])) (position_more (bytes_eq label) labels h.name)
     ∙ put_look places (position (bytes_eq label) labels) t i (length labels) (sym n) low
     ∙ ap (λ (o : Option ℕ). or_at o (cond t (Some i) None)) e ∙ ap (λ (j : ℕ). or_at (place_of hyps label) (cond t (Some j) None)) (sym m)
@@ -104,8 +104,8 @@ pub label_there : (labels : List (List ℕ)) (places : List ℕ) (hyps : List Hy
 label_there labels places hyps h label n there e =
     let t = bytes_eq label h.name in
     let low : (k : ℕ) → position (bytes_eq label) labels ≡ Some k → k < length places =
-        λ (k : ℕ) (q : position (bytes_eq label) labels ≡ Some k). let w = position_within (bytes_eq label) labels k q in
-        omega arith in
+    λ (k : ℕ) (q : position (bytes_eq label) labels ≡ Some k). let w = position_within (bytes_eq label) labels k q in
+    omega arith in
     let other : position (bytes_eq label) labels ≡ None → t ≡ false =
     λ (q : position (bytes_eq label) labels ≡ None).
     elim (cases_Bool t) [

@@ -66,7 +66,7 @@ top_of : {A : Type 0} (below top : List A) (n : ℕ) → length top ≡ n → re
 top_of {A} below top n e =
     let m : length (reverse top) ≡ n = length-reverse top ∙ e in
     ap (λ (l : List A). reverse (take n l)) (reverse-append below top) ∙ ap (λ (k : ℕ). reverse (take k (reverse top ++ reverse below))) (sym m)
-        ∙ ap (λ (l : List A). reverse l) (take-append_seam (reverse top) (reverse below)) ∙ reverse-reverse top
+    ∙ ap (λ (l : List A). reverse l) (take-append_seam (reverse top) (reverse below)) ∙ reverse-reverse top
 
 below_top : {A : Type 0} (below top : List A) (n : ℕ) → length top ≡ n → drop n (reverse (below ++ top)) ≡ reverse below
 below_top {A} below top n e =

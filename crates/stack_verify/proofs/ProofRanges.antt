@@ -35,7 +35,7 @@ pub no_label : (ss : List Statement) (l : Label) → length (labels ss) ≤ l.0 
 no_label ss l h =
     let none : slice_get (positions ss) l.0 ≡ None = past_end (positions ss) l.0 (omega (arith, labels_count ss)) in
     ap (λ (o : Option ℕ). option_and_then (λ (p : ℕ × Statement). cond (has_keyword (codes "$p") p.1) (proof_in p.1) None)
-        (option_and_then (λ (at : ℕ). option_map (λ (s : Statement). (at, s)) (slice_get ss at)) o)) none
+    (option_and_then (λ (at : ℕ). option_map (λ (s : Statement). (at, s)) (slice_get ss at)) o)) none
 
 nothing : {X : Type 0} {Y : Type 0} (x : X) → None ≡ Some x → Y
 nothing {X} {Y} x e = absurd (go e)

@@ -70,15 +70,17 @@ trails [] = record { before = []; whole = refl }
 trails (w ∷ r) =
     let h = trails r in
     elim (cases_Bool (ends_statement w)) [
-      | inl t ↦ record { before = reverse (w ∷ r);
-          whole =
-              sym (ap (λ (l : List Word). reverse (w ∷ r) ++ l) (cond_then (ends_statement w) [] (unended r ++ w ∷ []) t)
-                  ∙ append-nil (reverse (w ∷ r))) }
+      | inl t ↦ record {
+        before = reverse (w ∷ r);
+        whole =
+            sym (ap (λ (l : List Word). reverse (w ∷ r) ++ l) (cond_then (ends_statement w) [] (unended r ++ w ∷ []) t)
+            ∙ append-nil (reverse (w ∷ r)));
+      }
       | inr t ↦ record {
         before = h.before;
         whole =
             snoc w r ∙ ap (λ (l : List Word). l ++ w ∷ []) h.whole ∙ append_assoc h.before (unended r) (w ∷ [])
-                ∙ ap (λ (l : List Word). h.before ++ l) (sym (cond_else (ends_statement w) [] (unended r ++ w ∷ []) t));
+            ∙ ap (λ (l : List Word). h.before ++ l) (sym (cond_else (ends_statement w) [] (unended r ++ w ∷ []) t));
       }
     ]
 
@@ -206,8 +208,11 @@ not_empty (x ∷ pre) w post e = cc
 cut : (pre : List Word) (w : Word) (post front : List Word) (last : Word) → ends_statement w ≡ false → ends_statement last ≡ true → pre ++ w ∷ post ≡ front ++ last ∷ [] → Cut front last pre w post
 cut [] w post [] last n y e = absurd (differ w last n y (heads w last post [] e))
 cut [] w post (x ∷ front) last n y e =
-    record { middle = front; post_is = tails w x post (front ++ last ∷ []) e;
-        front_is = ap (λ (v : Word). v ∷ front) (sym (heads w x post (front ++ last ∷ []) e)) }
+    record {
+      middle = front;
+      post_is = tails w x post (front ++ last ∷ []) e;
+      front_is = ap (λ (v : Word). v ∷ front) (sym (heads w x post (front ++ last ∷ []) e));
+    }
 cut (v ∷ pre) w post [] last n y e = absurd (not_empty pre w post (tails v last (pre ++ w ∷ post) [] e))
 cut (v ∷ pre) w post (x ∷ front) last n y e =
     let h = cut pre w post front last n y (tails v x (pre ++ w ∷ post) (front ++ last ∷ []) e) in
@@ -272,7 +277,7 @@ words_are text at s w e there hw he =
     let c = cut eq.pre w eq.post st.front st.last no.0 st.ender (sym eq.whole ∙ st.ends) in
     let clear : list_any ends_statement eq.pre ≡ false =
     (or_parts (list_any ends_statement eq.pre) (list_any ends_statement (w ∷ c.middle))
-        (sym (any_append ends_statement eq.pre (w ∷ c.middle)) ∙ ap (list_any ends_statement) (sym c.front_is) ∙ st.clear)).0 in
+    (sym (any_append ends_statement eq.pre (w ∷ c.middle)) ∙ ap (list_any ends_statement) (sym c.front_is) ∙ st.clear)).0 in
     let ended_post : list_any is_end eq.post ≡ true = ended_there eq.pre w eq.post (no_end eq.pre clear) no.1 (ap (list_any is_end) (sym eq.whole) ∙ has_end s e he) in
     let whole : tokens_where false (words text) ≡ (st.before ++ eq.pre) ++ w ∷ (eq.post ++ st.after) =
     sym (reverse-reverse ts) ∙ st.whole ∙ ap (λ (l : List Word). st.before ++ (l ++ st.after)) eq.whole ∙ ap (λ (l : List Word). st.before ++ l) (append_assoc eq.pre (w ∷ eq.post) st.after)
@@ -282,7 +287,7 @@ words_are text at s w e there hw he =
     let place : 0 + b.past ≡ w.start + 2 = omega (arith, b.place, no.2) in
     let past : b.past ≡ w.start + 2 = omega (arith, b.place, no.2) in
     let post : t.post ≡ words_from (w.start + 2) (drop (w.start + 2) text) =
-        b.rest ∙ ap (λ (k : ℕ). words_from k (drop b.past text)) place ∙ ap (λ (k : ℕ). words_from (w.start + 2) (drop k text)) past in
+    b.rest ∙ ap (λ (k : ℕ). words_from k (drop b.past text)) place ∙ ap (λ (k : ℕ). words_from (w.start + 2) (drop k text)) past in
     names_are false (words_from (w.start + 2) (drop (w.start + 2) text))
     ∙ ap (λ (l : List Word). map (λ (x : Word). x.bytes) (before_first is_end l)) (ap (tokens_where false) (sym post) ∙ sym t.tokens)
     ∙ ap (λ (l : List Word). map (λ (x : Word). x.bytes) l) (same_before is_end eq.post st.after ended_post ∙ ap (before_first is_end) (sym eq.after))

@@ -40,7 +40,7 @@ same_first thm known r test entries pairs k t =
     let variables : (λ (s : Sym). list_any (nat_eq s.0) known.variables) ≡ is_variable thm = fun_ext k.variables.same in
     let tests : fails known r ≡ test = fun_ext t in
     by_known known r entries pairs ∙ ap (λ (v : Sym → Bool). first_by v (fails known r) entries pairs) variables
-        ∙ ap (λ (u : Sym × Sym → Bool). first_by (is_variable thm) u entries pairs) tests ∙ sym (by_theorem test thm entries pairs)
+    ∙ ap (λ (u : Sym × Sym → Bool). first_by (is_variable thm) u entries pairs) tests ∙ sym (by_theorem test thm entries pairs)
 
 -- ---- the two rules
 
@@ -81,8 +81,8 @@ pub distinct_is : (thm : Theorem) (known : Known) (entries : List Entry) (pairs 
 distinct_is thm known entries pairs k =
     ap (option_map (λ (f : Pair × (Sym × Sym)). not_distinct f.1.0 f.1.1))
     (sym
-        (same_first thm known rule.Distinct (λ (vw : Sym × Sym). not (is_active_pair thm vw)) entries pairs k
-            (λ (vw : Sym × Sym). ap (λ (t : Bool). not t) (joined thm known.pairs.keys vw k.pairs))))
+    (same_first thm known rule.Distinct (λ (vw : Sym × Sym). not (is_active_pair thm vw)) entries pairs k
+    (λ (vw : Sym × Sym). ap (λ (t : Bool). not t) (joined thm known.pairs.keys vw k.pairs))))
 
 pub none_shared : (thm : Theorem) (known : Known) (entries : List Entry) (pairs : List Pair) (o : Option (Pair × (Sym × Sym))) → IsKnown thm known
     → o ≡ first_failing known rule.Shared entries pairs → o ≡ None → shared_fault thm entries pairs ≡ None

@@ -46,11 +46,11 @@ find_both {H} {F} p (h ∷ hs) (f ∷ fs) dh df e =
 
 the_entry : (hyps : List Hyp) (symbols : List Sym) (spans : List Span) (s : Sym) (dh : Hyp) (item : Span) → length spans ≡ length hyps
     → substitute (entries_of hyps symbols spans) s
-        ≡ option_map_or (λ (e : Entry). drop 1 e.1)
-            (option_map (both hyps (formulas_in symbols spans) dh (formula_in symbols item)) (position (is_float_of s) hyps)) (s ∷ [])
+    ≡ option_map_or (λ (e : Entry). drop 1 e.1)
+    (option_map (both hyps (formulas_in symbols spans) dh (formula_in symbols item)) (position (is_float_of s) hyps)) (s ∷ [])
 the_entry hyps symbols spans s dh item e =
     ap (λ (o : Option Entry). option_map_or (λ (e : Entry). drop 1 e.1) o (s ∷ []))
-        (find_both (is_float_of s) hyps (formulas_in symbols spans) dh (formula_in symbols item) (length-map spans (formula_in symbols) ∙ e))
+    (find_both (is_float_of s) hyps (formulas_in symbols spans) dh (formula_in symbols item) (length-map spans (formula_in symbols) ∙ e))
 
 no_hyp : Hyp
 no_hyp = record { name = []; floating = false; formula = [] }

@@ -33,8 +33,11 @@ module _ (d : Opened) (l : Label) (frame : Frame) (t : Tree) (ts : List Tree)
   by_kept None e a h = let impossible : ◌≡◌ {A = Option Assertion} None (Some a) = h in absurd (cc)
   by_kept (Some p) e a h =
       let same : assertion_of l frame p ≡ a = cc in
-      record { frame = ap (λ (b : Assertion). b.frame.hyps) (sym same); conclusion = ap (λ (b : Assertion). b.tree) (sym same) ∙ sym (tree p e);
-          expressions = ap (λ (b : Assertion). b.hyps) (sym same) ∙ sym (trees p e) }
+      record {
+        frame = ap (λ (b : Assertion). b.frame.hyps) (sym same);
+        conclusion = ap (λ (b : Assertion). b.tree) (sym same) ∙ sym (tree p e);
+        expressions = ap (λ (b : Assertion). b.hyps) (sym same) ∙ sym (trees p e);
+      }
 
   made_of : (a : Assertion) → usable_in d l ≡ Some a → IsMadeOf a frame.hyps t ts
   made_of a h = by_kept (parsed_at d.parsed l) refl a (sym (ap (usable_with d.parsed l) framed) ∙ h)
@@ -67,9 +70,9 @@ module _ (d : Opened) (l : Label) (frame : Frame) (t : Tree) (ts : List Tree)
             label = ap (λ (y : Accepted). y.label) is;
             hyps =
                 ap (λ (y : Accepted). y.hyps) is ∙ i ∙ ap (λ (rs : List Production). (roots_of rs old.nodes hyps t ts).roots) is_rows
-                    ∙ ap (λ (hs : List Hyp). (roots_of d.rows old.nodes hs t ts).roots) same
+                ∙ ap (λ (hs : List Hyp). (roots_of d.rows old.nodes hs t ts).roots) same
                 ∙ ap (λ (x : Tree). (roots_of d.rows old.nodes a.frame.hyps x ts).roots) (sym m.conclusion)
-                    ∙ ap (λ (xs : List Tree). (roots_of d.rows old.nodes a.frame.hyps a.tree xs).roots) (sym m.expressions);
+                ∙ ap (λ (xs : List Tree). (roots_of d.rows old.nodes a.frame.hyps a.tree xs).roots) (sym m.expressions);
             variables = ap (λ (y : Accepted). y.variables) is ∙ v ∙ ap (table_of old.nodes) same;
           };
         }

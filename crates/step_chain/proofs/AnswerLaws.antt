@@ -76,8 +76,15 @@ module _ (d : Opened) (bound : Bound) (y : Asked) where
   found_at j (p ∷ ps) (suc i) e =
       let told = found_at (suc j) ps i e in
       let number : suc j + i ≡ j + suc i = omega arith in
-      record { pushed = told.pushed; at = told.at; kept = told.kept; fits = told.fits; assertion = told.assertion; usable = told.usable;
-          is = sym (ap (λ (k : ℕ). asked_by bound k told.kept told.assertion) number) ∙ told.is }
+      record {
+        pushed = told.pushed;
+        at = told.at;
+        kept = told.kept;
+        fits = told.fits;
+        assertion = told.assertion;
+        usable = told.usable;
+        is = sym (ap (λ (k : ℕ). asked_by bound k told.kept told.assertion) number) ∙ told.is;
+      }
 
 -- ---- back from what is kept
 
@@ -204,18 +211,18 @@ module _ (h : Held) (db : Database) (level : IsLevel db h.book h.bound h.works h
       variables_are =
           let k = level.kept i step.pushed step.kept step.at step.fits in
           ap (λ (z : Accepted). map (λ (w : VariableNode). record { sym = w.sym; code = w.code }) z.variables) (sym own) ∙ k.nodes_are.order
-              ∙ ap (λ (a : Assertion). a.vars) (same_assertion ∙ own_assertion)
+          ∙ ap (λ (a : Assertion). a.vars) (same_assertion ∙ own_assertion)
 
       values_from : (ws : List VariableNode) → ((w : VariableNode) → Contains ws w → variable_at x.variables w.sym w.code ≡ Some w.node)
           → values_at (record { nodes = h.nodes; links = h.links; works = h.works }) ws
-              ≡ map (λ (v : TypedVariable). value_of h (copy i v.sym v.code)) (map (λ (w : VariableNode). record { sym = w.sym; code = w.code }) ws)
+          ≡ map (λ (v : TypedVariable). value_of h (copy i v.sym v.code)) (map (λ (w : VariableNode). record { sym = w.sym; code = w.code }) ws)
       values_from [] f = refl
       values_from (w ∷ ws) f =
           let here : value_at h.nodes h.links h.works w.node ≡ value_of h (copy i w.sym w.code) =
           ap (value_at h.nodes h.links h.works)
-              (sym
-                  (ap (λ (o : Option Accepted). option_map_or (λ (z : Accepted). unwrap_or (variable_at z.variables w.sym w.code) 0) o 0) e
-                      ∙ ap (λ (o : Option ℕ). unwrap_or o 0) (f w (0, omega arith, refl)))) in
+          (sym
+          (ap (λ (o : Option Accepted). option_map_or (λ (z : Accepted). unwrap_or (variable_at z.variables w.sym w.code) 0) o 0) e
+          ∙ ap (λ (o : Option ℕ). unwrap_or o 0) (f w (0, omega arith, refl)))) in
           let rest = values_from ws (λ v c. f v (suc c.0, omega (arith, c.1), c.2)) in
           cc
 
@@ -223,8 +230,8 @@ module _ (h : Held) (db : Database) (level : IsLevel db h.book h.bound h.works h
       values_are =
           let k = level.kept i step.pushed step.kept step.at step.fits in
           values_from x.variables
-              (λ w c. subst (λ (z : Accepted). variable_at z.variables w.sym w.code ≡ Some w.node) own
-                  (k.nodes_are.found w (subst (λ (z : Accepted). Contains z.variables w) (sym own) c)))
+          (λ w c. subst (λ (z : Accepted). variable_at z.variables w.sym w.code ≡ Some w.node) own
+          (k.nodes_are.found w (subst (λ (z : Accepted). Contains z.variables w) (sym own) c)))
           ∙ ap (map (λ (v : TypedVariable). value_of h (copy i v.sym v.code))) variables_are
 
   -- and back
@@ -348,7 +355,7 @@ module _ (h now : Held) (e : h ≡ now) (t : Readable) (of : IsOfChain h t) wher
 
     pub values_told : (vs : List VariableNode) → vs ≡ x.variables → (r : Result (List Tree) TreeFault)
         → ((constants : Label → ℕ) → HaveConstants constants t.nodes → AreWorkNodes t.nodes t.works → AreRead constants (values_at t vs) r)
-            → OfAccepted now i (λ y. AreRead (constants_of now) (values_of now i y) r)
+        → OfAccepted now i (λ y. AreRead (constants_of now) (values_of now i y) r)
     values_told vs is r off kinds text sheet opened binds code y a =
         let db = database_of kinds text now.book.rows now.book.parsed in
         let level = (sound_of now here).level kinds text sheet opened binds code in

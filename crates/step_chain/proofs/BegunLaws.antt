@@ -340,9 +340,9 @@ module _ (db : Database) (bound : Bound) (ready : IsReadyBound db bound) where
       subst (λ (ns : List Term). HasFormulas db bound ns works formulas) (sym h.nodes_are)
       (subst (λ (ws : List WorkNode). HasFormulas db bound (formulas_of db.rows (logic_code db) bound.steps).nodes ws formulas) (sym h.works_are)
       (subst
-          (λ (ids : List Id). HasFormulas db bound (formulas_of db.rows (logic_code db) bound.steps).nodes
-              (unknowns_of (logic_code db) bound.steps).works ids)
-          (sym h.formulas_are) first_formulas))
+      (λ (ids : List Id). HasFormulas db bound (formulas_of db.rows (logic_code db) bound.steps).nodes
+      (unknowns_of (logic_code db) bound.steps).works ids)
+      (sym h.formulas_are) first_formulas))
 
 -- ---- for the code
 

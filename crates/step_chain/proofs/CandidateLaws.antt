@@ -120,10 +120,12 @@ variables_of n (v ∷ vs) = ap (λ (ws : List TypedVariable). v ∷ ws) (variabl
 -- of variables that are apart each is found at its own node
 numbered_has : (n : ℕ) (vs : List TypedVariable) (w : VariableNode) → Contains (numbered n vs) w → Contains vs (record { sym = w.sym; code = w.code }) × (n ≤ w.node)
 numbered_has n [] w (k, l, e) = absurd (omega (arith, l))
-numbered_has n (v ∷ vs) w (zero, l, e) =
-    ((0, omega arith, ap (λ (x : VariableNode). record { sym = x.sym; code = x.code }) e), let node : n ≡ w.node =
-        ap (λ (x : VariableNode). x.node) e in
-        omega (arith, node))
+numbered_has n (v ∷ vs) w (zero, l, e) = (
+  (0, omega arith, ap (λ (x : VariableNode). record { sym = x.sym; code = x.code }) e),
+  let node : n ≡ w.node =
+      ap (λ (x : VariableNode). x.node) e in
+      omega (arith, node),
+)
 numbered_has n (v ∷ vs) w (suc k, l, e) =
     let told = numbered_has (n + 1) vs w (k, omega (arith, l), e) in
     let more = told.1 in
@@ -139,8 +141,8 @@ own_found : (n : ℕ) (vs : List TypedVariable) → AreApart vs → (w : Variabl
 own_found n [] apart w (k, l, e) = absurd (omega (arith, l))
 own_found n (v ∷ vs) apart w (zero, l, e) =
     let self : is_variable w.sym w.code (record { sym = v.sym; code = v.code; node = n }) ≡ true =
-        subst (λ (x : VariableNode). is_variable x.sym x.code (record { sym = v.sym; code = v.code; node = n }) ≡ true) e
-            (self_variable v.sym v.code n) in
+    subst (λ (x : VariableNode). is_variable x.sym x.code (record { sym = v.sym; code = v.code; node = n }) ≡ true) e
+    (self_variable v.sym v.code n) in
     own_by n v vs w (is_variable w.sym w.code (record { sym = v.sym; code = v.code; node = n })) refl refl
     (λ no. let impossible : false ≡ true = sym no ∙ self in absurd (cc)) (λ yes. ap (λ (x : VariableNode). x.node) e)
 own_found n (v ∷ vs) apart w (suc k, l, e) =
@@ -203,7 +205,7 @@ module _ (db : Database) (d : Opened) (book : IsBookOf db d) (facts : IsDatabase
   abbrev roots' : Listed
   roots' =
       roots db bound before i s a lay formulas old new level.chained level.formula_nodes usable.vars apart own_fresh own_ready.sound.tree
-          own_ready.sound.hyps own_ready.tree own_ready.hyps sound room
+      own_ready.sound.hyps own_ready.tree own_ready.hyps sound room
 
   abbrev lay'' : Layout
   lay'' = with_copies (length old.nodes) i a.vars lay
@@ -215,7 +217,7 @@ module _ (db : Database) (d : Opened) (book : IsBookOf db d) (facts : IsDatabase
     same_roots : roots_of db.rows old.nodes a.frame.hyps a.tree a.hyps ≡ roots'
     same_roots =
         roots_same db bound before i s a lay formulas old new level.chained level.formula_nodes usable.vars apart own_fresh own_ready.sound.tree
-            own_ready.sound.hyps own_ready.tree own_ready.hyps sound room
+        own_ready.sound.hyps own_ready.tree own_ready.hyps sound room
 
     nodes_are : new.nodes ≡ roots'.nodes
     nodes_are = taken.nodes ∙ ap (λ (x : Listed). x.nodes) same_roots
@@ -237,7 +239,7 @@ module _ (db : Database) (d : Opened) (book : IsBookOf db d) (facts : IsDatabase
     is_judged =
         subst (λ x. IsJudgement db bound before i s x (judged i s a r)) (sym is.standing)
         (taken_judged db bound before i s a lay formulas old new level.chained level.formula_nodes usable.vars apart own_fresh own_ready.sound.tree
-            own_ready.sound.hyps own_ready.tree own_ready.hyps sound room
+        own_ready.sound.hyps own_ready.tree own_ready.hyps sound room
         added_store added_solved (formula_at formulas i) refl new.links new_store new_solved r taken refl)
 
   last_of : (r : Option (List ℕ)) → IsJudgement db bound before i s (standing db bound.place s) (judged i s a r) → (t : BoundStep)
@@ -270,27 +272,27 @@ module _ (db : Database) (d : Opened) (book : IsBookOf db d) (facts : IsDatabase
     chained_raw : IsChained db bound (before ++ asked i a (reordered s.places x.order) ∷ []) (before ++ asked i a (reordered s.places x.order) ∷ []) ns new.links lay''
     chained_raw =
         taken_chain db bound before i s a lay formulas old new level.chained level.formula_nodes usable.vars apart own_fresh own_ready.sound.tree
-            own_ready.sound.hyps own_ready.tree own_ready.hyps sound room
+        own_ready.sound.hyps own_ready.tree own_ready.hyps sound room
         (added_store (Some x.order) h.taken) (added_solved (Some x.order) h.taken) (formula_at formulas i) refl new.links
-            (new_store (Some x.order) h.taken) (new_solved (Some x.order) h.taken) x.order
+        (new_store (Some x.order) h.taken) (new_solved (Some x.order) h.taken) x.order
         (own_tried db bound before i s a lay formulas old new level.chained level.formula_nodes usable.vars apart own_fresh own_ready.sound.tree
-            own_ready.sound.hyps own_ready.tree own_ready.hyps sound room
+        own_ready.sound.hyps own_ready.tree own_ready.hyps sound room
         (added_store (Some x.order) h.taken) (added_solved (Some x.order) h.taken) (formula_at formulas i) refl new.links
-            (new_store (Some x.order) h.taken) (new_solved (Some x.order) h.taken) (Some x.order) (taken (Some x.order) h.taken) refl)
+        (new_store (Some x.order) h.taken) (new_solved (Some x.order) h.taken) (Some x.order) (taken (Some x.order) h.taken) refl)
 
     chained : IsChained db bound (before ++ asked_by bound i x a ∷ []) (before ++ asked_by bound i x a ∷ []) (old.nodes ++ more) new.links lay''
     chained =
         subst (λ (y : Asked). IsChained db bound (before ++ y ∷ []) (before ++ y ∷ []) (old.nodes ++ more) new.links lay'') own_asked
-            (subst
-                (λ (ks : List Term). IsChained db bound (before ++ asked i a (reordered s.places x.order) ∷ [])
-                    (before ++ asked i a (reordered s.places x.order) ∷ []) ks new.links lay'') roots_are chained_raw)
+        (subst
+        (λ (ks : List Term). IsChained db bound (before ++ asked i a (reordered s.places x.order) ∷ [])
+        (before ++ asked i a (reordered s.places x.order) ∷ []) ks new.links lay'') roots_are chained_raw)
 
     formulas_now : AreFormulaNodes bound (old.nodes ++ more) lay'' (λ k. (formula_at formulas k).0)
     formulas_now =
         subst (λ (ks : List Term). AreFormulaNodes bound ks lay'' (λ k. (formula_at formulas k).0)) roots_are
         (ready_formulas db bound before i s a lay formulas old new level.chained level.formula_nodes usable.vars apart own_fresh own_ready.sound.tree
-            own_ready.sound.hyps own_ready.tree own_ready.hyps sound room
-            (added_store (Some x.order) h.taken) (added_solved (Some x.order) h.taken))
+        own_ready.sound.hyps own_ready.tree own_ready.hyps sound room
+        (added_store (Some x.order) h.taken) (added_solved (Some x.order) h.taken))
 
     same_node : (u : Unknown) → IsUnknown bound before u → lay''.node_of u ≡ lay.node_of u
     same_node = kept_node db bound before i a s.places old.nodes lay level.chained.laid_out apart own_fresh
@@ -298,13 +300,13 @@ module _ (db : Database) (d : Opened) (book : IsBookOf db d) (facts : IsDatabase
     hyps_nodes : AllZip (IsInstanceNode ns lay'' i) a.hyps (map (λ (id : Id). id.0) roots'.roots)
     hyps_nodes =
         (ready_nodes db bound before i s a lay formulas old new level.chained level.formula_nodes usable.vars apart own_fresh own_ready.sound.tree
-            own_ready.sound.hyps own_ready.tree own_ready.hyps sound room
-            (added_store (Some x.order) h.taken) (added_solved (Some x.order) h.taken)).hyps
+        own_ready.sound.hyps own_ready.tree own_ready.hyps sound room
+        (added_store (Some x.order) h.taken) (added_solved (Some x.order) h.taken)).hyps
 
     hyps_are : x.hyps ≡ roots'.roots
     hyps_are =
         h.kept.hyps ∙ ap (λ (rows : List Production). (roots_of rows old.nodes a.frame.hyps a.tree a.hyps).roots) (sym book.rows)
-            ∙ ap (λ (y : Listed). y.roots) (same_roots (Some x.order) h.taken)
+        ∙ ap (λ (y : Listed). y.roots) (same_roots (Some x.order) h.taken)
 
     variables_are : x.variables ≡ numbered (length old.nodes) a.vars
     variables_are = h.kept.variables ∙ ap (numbered (length old.nodes)) (sym usable.vars)

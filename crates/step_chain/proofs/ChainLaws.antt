@@ -70,8 +70,8 @@ module _ (h now : Held) (e : h ≡ now) (inv : IsHeld h) where
       let count = inv.count in
       let inside : i < length h.formulas = let moved = subst (λ (x : Held). i < length x.bound.steps) (sym e) below in omega (arith, moved, count) in
       subst (λ (x : Held). (formula_at ids i).0 < length x.nodes) e
-          (subst (λ (xs : List Id). (formula_at xs i).0 < length h.nodes) (sym is)
-              (id_within (length h.nodes) h.formulas i (sound_of h inv).formulas_in inside))
+      (subst (λ (xs : List Id). (formula_at xs i).0 < length h.nodes) (sym is)
+      (id_within (length h.nodes) h.formulas i (sound_of h inv).formulas_in inside))
 
   pub pushed_count : (n : ℕ) → n ≡ length h.steps → n ≡ length (judgements_of now)
   pushed_count n is = is ∙ sym (count_of h) ∙ ap (λ (x : Held). length (judgements_of x)) e
@@ -111,20 +111,20 @@ module _ (h : Held) (inv : IsHeld h) (k : ℕ) (below : k < length h.steps) (p :
   mark_kept =
       let front = inv.fronts k in
       let long : length (take (nodes_before h.steps h.nodes k) h.nodes) ≡ p.mark.nodes =
-          take_length h.nodes (nodes_before h.steps h.nodes k) (let same = nodes_are in let less = mark_nodes in omega (arith, same, less))
-              ∙ nodes_are in
+      take_length h.nodes (nodes_before h.steps h.nodes k) (let same = nodes_are in let less = mark_nodes in omega (arith, same, less))
+      ∙ nodes_are in
       subst (λ (n : ℕ). AreBelow p.mark.nodes (take n h.links)) links_are
       (subst (λ (n : ℕ). AreBelow n (take (links_before h.steps h.links k) h.links)) long
-          (are_below (length (take (nodes_before h.steps h.nodes k) h.nodes)) (take (links_before h.steps h.links k) h.links) front.store.in_order))
+      (are_below (length (take (nodes_before h.steps h.nodes k) h.nodes)) (take (links_before h.steps h.links k) h.links) front.store.in_order))
 
   module _ (old new : Store) (old_nodes : old.nodes ≡ h.nodes) (old_links : old.links ≡ h.links) (cut : new ≡ cut_to old p.mark.nodes p.mark.trail)
       (steps : List Pushed) (steps_are : steps ≡ take k h.steps) where
     pub cut_is : front_of h k ≡ record h { nodes = new.nodes; links = new.links; steps = steps }
     cut_is =
         let ns : take (nodes_before h.steps h.nodes k) h.nodes ≡ new.nodes =
-            ap (λ (n : ℕ). take n h.nodes) nodes_are ∙ ap (take p.mark.nodes) (sym old_nodes) ∙ sym (ap (λ (s : Store). s.nodes) cut) in
+        ap (λ (n : ℕ). take n h.nodes) nodes_are ∙ ap (take p.mark.nodes) (sym old_nodes) ∙ sym (ap (λ (s : Store). s.nodes) cut) in
         let ls : take (links_before h.steps h.links k) h.links ≡ new.links =
-            ap (λ (n : ℕ). take n h.links) links_are ∙ ap (take p.mark.trail) (sym old_links) ∙ sym (ap (λ (s : Store). s.links) cut) in
+        ap (λ (n : ℕ). take n h.links) links_are ∙ ap (take p.mark.trail) (sym old_links) ∙ sym (ap (λ (s : Store). s.links) cut) in
         ap (λ (xs : List Term). record h { nodes = xs; links = take (links_before h.steps h.links k) h.links; steps = take k h.steps }) ns
         ∙ ap (λ (xs : List Link). record h { nodes = new.nodes; links = xs; steps = take k h.steps }) ls
         ∙ ap (λ (xs : List Pushed). record h { nodes = new.nodes; links = new.links; steps = xs }) (sym steps_are)
@@ -144,17 +144,20 @@ module _ (h now : Held) (e : h ≡ now) (k : ℕ) (past : length h.steps ≤ k) 
   all_front =
       let none : slice_get h.steps k ≡ None = get_none h.steps k past in
       let ns : h.nodes ≡ take (nodes_before h.steps h.nodes k) h.nodes =
-          sym (ap (λ (o : Option Pushed). take (option_map_or (λ (q : Pushed). q.mark.nodes) o (length h.nodes)) h.nodes) none
-              ∙ take-length h.nodes) in
+      sym (ap (λ (o : Option Pushed). take (option_map_or (λ (q : Pushed). q.mark.nodes) o (length h.nodes)) h.nodes) none
+      ∙ take-length h.nodes) in
       let ls : h.links ≡ take (links_before h.steps h.links k) h.links =
-          sym (ap (λ (o : Option Pushed). take (option_map_or (λ (q : Pushed). q.mark.trail) o (length h.links)) h.links) none
-              ∙ take-length h.links) in
+      sym (ap (λ (o : Option Pushed). take (option_map_or (λ (q : Pushed). q.mark.trail) o (length h.links)) h.links) none
+      ∙ take-length h.links) in
       ap (λ (xs : List Term). record h { nodes = xs }) ns
       ∙ ap (λ (xs : List Link). record h { nodes = take (nodes_before h.steps h.nodes k) h.nodes; links = xs }) ls
       ∙ ap
-          (λ (xs : List Pushed). record h { nodes = take (nodes_before h.steps h.nodes k) h.nodes;
-              links = take (links_before h.steps h.links k) h.links; steps = xs })
-          (sym (take_past h.steps k past))
+      (λ (xs : List Pushed). record h {
+        nodes = take (nodes_before h.steps h.nodes k) h.nodes;
+        links = take (links_before h.steps h.links k) h.links;
+        steps = xs;
+      })
+      (sym (take_past h.steps k past))
 
   pub front_all : now ≡ front_of now k
   front_all = sym e ∙ all_front ∙ ap (λ (x : Held). front_of x k) e
@@ -200,7 +203,7 @@ module _ (h now : Held) (e : h ≡ now) (inv : IsHeld h) (ids : List Id) (ids_ar
 
   judged_here : OfEachBook h
       (λ db. (s : BoundStep) → slice_get h.bound.steps (length (judgements_of h)) ≡ Some s
-          → IsJudgement db h.bound (accepted_in (judgements_of h)) (length (judgements_of h)) s (standing db h.bound.place s) judgement)
+      → IsJudgement db h.bound (accepted_in (judgements_of h)) (length (judgements_of h)) s (standing db h.bound.place s) judgement)
   judged_here kinds text sheet opened binds code s at =
       let db = database_of kinds text h.book.rows h.book.parsed in
       let js = judgements_of h in

@@ -80,8 +80,8 @@ module _ (rows : List Production) (nodes : List Term) (hyps : List Hyp) (t : Tre
   pub table_in : (given : List VariableNode) (next : List Term) → given ≡ table_of nodes hyps → next ≡ copied nodes hyps → AreVariablesIn (length next) given
   table_in given next g e =
       let count : length next ≡ length nodes + length (typed_variables hyps) =
-          ap length e ∙ length-append nodes (map free_of (typed_variables hyps))
-              ∙ ap (λ (k : ℕ). length nodes + k) (length-map (typed_variables hyps) free_of) in
+      ap length e ∙ length-append nodes (map free_of (typed_variables hyps))
+      ∙ ap (λ (k : ℕ). length nodes + k) (length-map (typed_variables hyps) free_of) in
       subst (AreVariablesIn (length next)) (sym g) (numbered_in (length nodes) (length next) (typed_variables hyps) (omega (arith, count)))
 
   rooted_is : (given : List VariableNode) (next : List Term) → given ≡ table_of nodes hyps → next ≡ copied nodes hyps → added rows [] given t next ≡ root_of rows nodes hyps t
@@ -97,5 +97,5 @@ module _ (rows : List Production) (nodes : List Term) (hyps : List Hyp) (t : Tre
   roots_are given other next after last id ids g o e r l =
       let same : run (map (added rows [] other) ts) after ≡ roots_of rows nodes hyps t ts =
       ap (λ (vs : List VariableNode). run (map (added rows [] vs) ts) after) o
-          ∙ ap (run (map (added rows [] (table_of nodes hyps)) ts)) (r.nodes_are ∙ ap (λ (x : Rooted). x.nodes) (rooted_is given next g e)) in
+      ∙ ap (run (map (added rows [] (table_of nodes hyps)) ts)) (r.nodes_are ∙ ap (λ (x : Rooted). x.nodes) (rooted_is given next g e)) in
       subst (λ (x : Listed). AreListed x last ids) same l

@@ -220,14 +220,14 @@ module _ (d : Opened) (logic : Typecode) (bound : Bound) (works : List WorkNode)
     front_first : (j : ℕ) → j ≤ k → Front (take j first_steps) (take (nodes_before first_steps first_nodes j) first_nodes) (take (links_before first_steps first_links j) first_links)
     front_first j first =
         let n : nodes_before first_steps first_nodes j ≡ nodes_before steps nodes j =
-            ap (λ (m : ℕ). option_map_or (λ (p : Pushed). p.mark.nodes) (slice_get first_steps j) m) nodes_end
-                ∙ at_front (λ (p : Pushed). p.mark.nodes) steps (length nodes) k j first in
+        ap (λ (m : ℕ). option_map_or (λ (p : Pushed). p.mark.nodes) (slice_get first_steps j) m) nodes_end
+        ∙ at_front (λ (p : Pushed). p.mark.nodes) steps (length nodes) k j first in
         let l : links_before first_steps first_links j ≡ links_before steps links j =
-            ap (λ (m : ℕ). option_map_or (λ (p : Pushed). p.mark.trail) (slice_get first_steps j) m) links_end
-                ∙ at_front (λ (p : Pushed). p.mark.trail) steps (length links) k j first in
+        ap (λ (m : ℕ). option_map_or (λ (p : Pushed). p.mark.trail) (slice_get first_steps j) m) links_end
+        ∙ at_front (λ (p : Pushed). p.mark.trail) steps (length links) k j first in
         front_same (take j steps) (take j first_steps) (take (nodes_before steps nodes j) nodes)
-            (take (nodes_before first_steps first_nodes j) first_nodes) (take (links_before steps links j) links)
-            (take (links_before first_steps first_links j) first_links)
+        (take (nodes_before first_steps first_nodes j) first_nodes) (take (links_before steps links j) links)
+        (take (links_before first_steps first_links j) first_links)
         (sym (take_take steps j k first))
         (sym (ap (λ (m : ℕ). take m first_nodes) n ∙ take_take nodes (nodes_before steps nodes j) (nodes_before steps nodes k) (h.nodes_rise j k first)))
         (sym (ap (λ (m : ℕ). take m first_links) l ∙ take_take links (links_before steps links j) (links_before steps links k) (h.links_rise j k first)))
@@ -236,11 +236,11 @@ module _ (d : Opened) (logic : Typecode) (bound : Bound) (works : List WorkNode)
     front_past : (j : ℕ) → k < j → Front (take j first_steps) (take (nodes_before first_steps first_nodes j) first_nodes) (take (links_before first_steps first_links j) first_links)
     front_past j past =
         let n : nodes_before first_steps first_nodes j ≡ nodes_before steps nodes k =
-            ap (λ (m : ℕ). option_map_or (λ (p : Pushed). p.mark.nodes) (slice_get first_steps j) m) nodes_end
-                ∙ at_front_past (λ (p : Pushed). p.mark.nodes) steps (length nodes) k j (omega (arith, past)) in
+        ap (λ (m : ℕ). option_map_or (λ (p : Pushed). p.mark.nodes) (slice_get first_steps j) m) nodes_end
+        ∙ at_front_past (λ (p : Pushed). p.mark.nodes) steps (length nodes) k j (omega (arith, past)) in
         let l : links_before first_steps first_links j ≡ links_before steps links k =
-            ap (λ (m : ℕ). option_map_or (λ (p : Pushed). p.mark.trail) (slice_get first_steps j) m) links_end
-                ∙ at_front_past (λ (p : Pushed). p.mark.trail) steps (length links) k j (omega (arith, past)) in
+        ap (λ (m : ℕ). option_map_or (λ (p : Pushed). p.mark.trail) (slice_get first_steps j) m) links_end
+        ∙ at_front_past (λ (p : Pushed). p.mark.trail) steps (length links) k j (omega (arith, past)) in
         front_same first_steps (take j first_steps) first_nodes (take (nodes_before first_steps first_nodes j) first_nodes) first_links (take (links_before first_steps first_links j) first_links)
         (sym (take_past first_steps j (shorter (length first_steps) k j (short_at steps k) (omega (arith, past)))))
         (sym (ap (λ (m : ℕ). take m first_nodes) n ∙ take_take nodes (nodes_before steps nodes k) (nodes_before steps nodes k) (omega arith)))
@@ -296,8 +296,8 @@ module _ (d : Opened) (logic : Typecode) (bound : Bound) (works : List WorkNode)
       formulas_in = ids_in_more (length old.nodes) (length new.nodes) formulas more_nodes last.formulas_in;
       kept_in = all_join (λ (q : Pushed). IsKeptIn (length new.nodes) q.judged) steps (p ∷ [])
           (all_weaker (λ (q : Pushed). IsKeptIn (length old.nodes) q.judged) (λ (q : Pushed). IsKeptIn (length new.nodes) q.judged)
-              (λ q k. kept_more (length old.nodes) (length new.nodes) more_nodes q.judged k) steps last.kept_in)
-              (next.kept_in, tt);
+          (λ q k. kept_more (length old.nodes) (length new.nodes) more_nodes q.judged k) steps last.kept_in)
+          (next.kept_in, tt);
       level = λ kinds text sheet opened binds code. next.level kinds text sheet opened binds works steps p refl refl (last.level kinds text sheet opened binds code);
     }
 
@@ -309,19 +309,19 @@ module _ (d : Opened) (logic : Typecode) (bound : Bound) (works : List WorkNode)
         let n : nodes_before more_steps new.nodes j ≡ nodes_before steps old.nodes j = at_pushed (λ (q : Pushed). q.mark.nodes) steps p (length old.nodes) (length new.nodes) j nodes_mark first in
         let l : links_before more_steps new.links j ≡ links_before steps old.links j = at_pushed (λ (q : Pushed). q.mark.trail) steps p (length old.links) (length new.links) j links_mark first in
         let below_n : nodes_before steps old.nodes j ≤ length old.nodes = let rise = h.nodes_rise j (length steps) first in
-            let end = behind (λ (q : Pushed). q.mark.nodes) steps (length old.nodes) (length steps) (omega arith) in omega (arith, rise, end) in
+        let end = behind (λ (q : Pushed). q.mark.nodes) steps (length old.nodes) (length steps) (omega arith) in omega (arith, rise, end) in
         let below_l : links_before steps old.links j ≤ length old.links = let rise = h.links_rise j (length steps) first in
-            let end = behind (λ (q : Pushed). q.mark.trail) steps (length old.links) (length steps) (omega arith) in omega (arith, rise, end) in
+        let end = behind (λ (q : Pushed). q.mark.trail) steps (length old.links) (length steps) (omega arith) in omega (arith, rise, end) in
         front_same (take j steps) (take j more_steps) (take (nodes_before steps old.nodes j) old.nodes)
-            (take (nodes_before more_steps new.nodes j) new.nodes) (take (links_before steps old.links j) old.links)
-            (take (links_before more_steps new.links j) new.links)
+        (take (nodes_before more_steps new.nodes j) new.nodes) (take (links_before steps old.links j) old.links)
+        (take (links_before more_steps new.links j) new.links)
         (sym (take-append-le j steps (p ∷ []) first))
         (sym
-            (ap (λ (m : ℕ). take m new.nodes) n ∙ ap (take (nodes_before steps old.nodes j)) next.extended.nodes
-                ∙ take-append-le (nodes_before steps old.nodes j) old.nodes next.extended.more below_n))
+        (ap (λ (m : ℕ). take m new.nodes) n ∙ ap (take (nodes_before steps old.nodes j)) next.extended.nodes
+        ∙ take-append-le (nodes_before steps old.nodes j) old.nodes next.extended.more below_n))
         (sym
-            (ap (λ (m : ℕ). take m new.links) l ∙ ap (take (links_before steps old.links j)) next.extended.links
-                ∙ take-append-le (links_before steps old.links j) old.links next.extended.more_links below_l))
+        (ap (λ (m : ℕ). take m new.links) l ∙ ap (take (links_before steps old.links j)) next.extended.links
+        ∙ take-append-le (links_before steps old.links j) old.links next.extended.more_links below_l))
         (h.fronts j)
 
     front_new : (j : ℕ) → length steps < j → Front (take j more_steps) (take (nodes_before more_steps new.nodes j) new.nodes) (take (links_before more_steps new.links j) new.links)

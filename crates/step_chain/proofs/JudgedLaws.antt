@@ -79,8 +79,8 @@ places_from front (g ∷ gs) =
     let whole : (front ++ g ∷ []) ++ gs ≡ front ++ g ∷ gs = append_assoc front (g ∷ []) gs in
     let rest : map (place_at (front ++ g ∷ gs)) (range_with_len (length front + 1) (length gs)) ≡ gs =
     ap (λ (ps : List Given). map (place_at ps) (range_with_len (length front + 1) (length gs))) (sym whole)
-        ∙ ap (λ (k : ℕ). map (place_at (front ++ g ∷ [] ++ gs)) (range_with_len k (length gs))) (sym (length_push front g))
-        ∙ places_from (front ++ g ∷ []) gs in
+    ∙ ap (λ (k : ℕ). map (place_at (front ++ g ∷ [] ++ gs)) (range_with_len k (length gs))) (sym (length_push front g))
+    ∙ places_from (front ++ g ∷ []) gs in
     let number : length (g ∷ gs) ≡ suc (length gs) = omega arith in
     ap (λ (k : ℕ). map (place_at (front ++ g ∷ gs)) (range_with_len (length front) k)) number ∙ cc
 
@@ -131,7 +131,7 @@ module _ (db : Database) (bound : Bound) (before : List Asked) (i : ℕ) (s : Bo
     (formula_nodes : AreFormulaNodes bound nodes lay (λ k. (formula_at formulas k).0)) (candidate_nodes : AreCandidateNodes nodes lay i a root (map (λ (id : Id). id.0) roots))
     (old : List Link) (chained : IsChained db bound (before ++ asked i a s.places ∷ []) before nodes old lay)
     (sound : (j : ℕ) (gs : List Given) → slice_get (orders_of s a) j ≡ Some gs → IsSoundAsked bound (asked i a gs))
-        (room : (j : ℕ) (gs : List Given) → slice_get (orders_of s a) j ≡ Some gs → HasRoom gs a.hyps) where
+    (room : (j : ℕ) (gs : List Given) → slice_get (orders_of s a) j ≡ Some gs → HasRoom gs a.hyps) where
   abbrev formula_node : ℕ → ℕ
   formula_node k = (formula_at formulas k).0
 
@@ -144,8 +144,8 @@ module _ (db : Database) (bound : Bound) (before : List Asked) (i : ℕ) (s : Bo
   reset : (gs : List Given) → IsChained db bound (before ++ asked i a gs ∷ []) before nodes old lay
   reset gs =
       chained_same db bound (before ++ asked i a s.places ∷ []) (before ++ asked i a gs ∷ []) before nodes old lay
-          (reordered bound before i a s.places gs) (reordered bound before i a gs s.places)
-          (λ x h. Contains-append_left before (asked i a gs ∷ []) x h) chained
+      (reordered bound before i a s.places gs) (reordered bound before i a gs s.places)
+      (λ x h. Contains-append_left before (asked i a gs ∷ []) x h) chained
 
   -- what cannot be joined does not fit
   never : (j : ℕ) (gs : List Given) → slice_get (orders_of s a) j ≡ Some gs → CannotJoin nodes old (candidate_pairs formula_node i gs root numbers) → Fits' gs → ⊥
@@ -160,8 +160,8 @@ module _ (db : Database) (bound : Bound) (before : List Asked) (i : ℕ) (s : Bo
     later j gs e cannot =
         never j gs e (λ trees sol joined.
         cannot trees (conclusion.back trees sol (joined.0, tt))
-            (subst (λ (ps : List NodePair). AllByRecursion (λ (p : NodePair). tree_at trees p.0 ≡ tree_at trees p.1) ps)
-                (sym (pairs_are formulas gs roots)) joined.1))
+        (subst (λ (ps : List NodePair). AllByRecursion (λ (p : NodePair). tree_at trees p.0 ≡ tree_at trees p.1) ps)
+        (sym (pairs_are formulas gs roots)) joined.1))
 
     abbrev listed : List (List ℕ)
     listed = tried (may_reorder s.places (length a.hyps)) (length s.places)
@@ -189,13 +189,13 @@ module _ (db : Database) (bound : Bound) (before : List Asked) (i : ℕ) (s : Bo
       joined : Joins nodes old new (candidate_pairs formula_node i places root numbers)
       joined =
           subst (λ (ps : List NodePair). Joins nodes old new ((root, formula_node i) ∷ ps)) (pairs_are formulas places roots)
-              (joins_more nodes old mid new ((root, formula_node i) ∷ []) (pairs_of (pairs order)) conclusion first.3)
+          (joins_more nodes old mid new ((root, formula_node i) ∷ []) (pairs_of (pairs order)) conclusion first.3)
 
       -- the store is that of the accepted candidates, this one among them
       pub accepted_chain : IsChained db bound (before ++ asked i a places ∷ []) (before ++ asked i a places ∷ []) nodes new lay
       accepted_chain =
           accepts db bound before i a nodes lay formula_node root numbers formula_nodes candidate_nodes old places (reset places)
-              (sound first.0 places stands_at) new (room first.0 places stands_at) store solved joined
+          (sound first.0 places stands_at) new (room first.0 places stands_at) store solved joined
 
       -- and this is the first order in which it fits
       pub first_order : IsJudgement db bound before i s (candidate a) (accepted (asked i a places))

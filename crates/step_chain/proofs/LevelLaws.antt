@@ -46,7 +46,7 @@ module _ (d : Opened) (bound : Bound) where
   judgements_push i (q ∷ ps) p =
       let number : suc i + length ps ≡ i + length (q ∷ ps) = omega arith in
       ap (λ (js : List Judgement). judgement_of d bound i q.judged ∷ js)
-          (judgements_push (suc i) ps p ∙ ap (λ (k : ℕ). judgements_from d bound (suc i) ps ++ judgement_of d bound k p.judged ∷ []) number)
+      (judgements_push (suc i) ps p ∙ ap (λ (k : ℕ). judgements_from d bound (suc i) ps ++ judgement_of d bound k p.judged ∷ []) number)
 
   pub length-judgements : (i : ℕ) (ps : List Pushed) → length (judgements_from d bound i ps) ≡ length ps
   length-judgements i [] = refl
@@ -86,9 +86,9 @@ module _ (db : Database) (bound : Bound) where
           let value : o ≡ q = let one = get_seam js o in let two : slice_get (js ++ o ∷ []) (length js) ≡ Some q = subst (λ (k : ℕ). slice_get (js ++ o ∷ []) k ≡ Some q) same is in cc in
           let here = last s (subst (λ (k : ℕ). slice_get bound.steps k ≡ Some s) same at) in
           let moved =
-              subst (λ (front : List Judgement). IsJudgement db bound (accepted_in front) (length js) s (standing db bound.place s) q)
-                  (sym (take-append_seam js (o ∷ [])))
-                  (subst (IsJudgement db bound (accepted_in js) (length js) s (standing db bound.place s)) value here) in
+          subst (λ (front : List Judgement). IsJudgement db bound (accepted_in front) (length js) s (standing db bound.place s) q)
+          (sym (take-append_seam js (o ∷ [])))
+          (subst (IsJudgement db bound (accepted_in js) (length js) s (standing db bound.place s)) value here) in
           subst (λ (k : ℕ). IsJudgement db bound (accepted_in (take k (js ++ o ∷ []))) k s (standing db bound.place s) q) (sym same) moved
       | inr apart ↦ absurd (get_past (js ++ o ∷ []) i q (omega (arith, past, apart, length_push js o)) is)
     ]
@@ -109,7 +109,7 @@ module _ (bound : Bound) (before : List Asked) (nodes more : List Term) (lay lay
   kept_stays i x a is sound h = record {
     hyps =
         zip_weaker (IsOver a.vars) (IsInstanceNode nodes lay i) (IsInstanceNode (nodes ++ more) lay' i)
-            (λ t j over one. instance_stays (asked_by bound i x a) is t j over one) a.hyps (map (λ (id : Id). id.0) x.hyps) sound.hyps h.hyps;
+        (λ t j over one. instance_stays (asked_by bound i x a) is t j over one) a.hyps (map (λ (id : Id). id.0) x.hyps) sound.hyps h.hyps;
     copies = λ v o. h.copies v o ∙ ap (λ (n : ℕ). Some n) (sym (same (copy i v.sym v.code) (in_frame (asked_by bound i x a) v is o)));
     found = h.found;
     order = h.order;
@@ -142,20 +142,20 @@ module _ (db : Database) (d : Opened) (bound : Bound) (works : List WorkNode) (f
     each_pushed last =
         subst (AreEachJudged db bound) (sym pushed_is)
         (each_more db bound js o level.each
-            (subst
-                (λ (k : ℕ). (s : BoundStep) → slice_get bound.steps k ≡ Some s
-                    → IsJudgement db bound (accepted_in js) k s (standing db bound.place s) o)
-                (sym count_is) last))
+        (subst
+        (λ (k : ℕ). (s : BoundStep) → slice_get bound.steps k ≡ Some s
+        → IsJudgement db bound (accepted_in js) k s (standing db bound.place s) o)
+        (sym count_is) last))
 
     -- the store and what is kept, for what is accepted now
     module _ (accepted_now : List Asked) (is_now : accepted_in js ++ accepted_in (o ∷ []) ≡ accepted_now) (nodes' : List Term) (links' : List Link) (layout : Layout)
         (chained : IsChained db bound accepted_now accepted_now nodes' links' layout)
-            (formula_nodes : AreFormulaNodes bound nodes' layout (λ k. (formula_at formulas k).0)) (works_are : layout.works ≡ works)
+        (formula_nodes : AreFormulaNodes bound nodes' layout (λ k. (formula_at formulas k).0)) (works_are : layout.works ≡ works)
         (before : AreBefore (length (steps ++ p ∷ [])) accepted_now)
         (last : (s : BoundStep) → slice_get bound.steps i ≡ Some s → IsJudgement db bound (accepted_in js) i s (standing db bound.place s) o)
         (old : (k : ℕ) (q : Pushed) (x : Accepted) → slice_get steps k ≡ Some q → q.judged ≡ Fits x → IsKeptStep d nodes' layout k x)
         (new : (x : Accepted) → p.judged ≡ Fits x → IsKeptStep d nodes' layout i x) (constants : HaveConstants (constants_in d.rows) nodes')
-            (few : length nodes' ≤ size_of_front db bound (length (steps ++ p ∷ []))) where
+        (few : length nodes' ≤ size_of_front db bound (length (steps ++ p ∷ []))) where
       abbrev Now : List Asked → Type 0
       Now xs = IsChained db bound xs xs nodes' links' layout
 
@@ -234,20 +234,20 @@ module _ (db : Database) (d : Opened) (bound : Bound) (works : List WorkNode) (f
       → usable_in d x.label ≡ Some a → Contains (accepted_in js) (asked_by bound k x a)
   accepted_at k q x a at is u = let number : 0 + k ≡ k = omega arith in
       among js k (asked_by bound k x a)
-          (judgement_at d bound 0 steps k q at ∙ ap (λ (n : ℕ). Some (judgement_of d bound n q.judged)) number
-              ∙ ap (λ (o : Judgement). Some o) (judgement_fits d bound k q.judged x a is u))
+      (judgement_at d bound 0 steps k q at ∙ ap (λ (n : ℕ). Some (judgement_of d bound n q.judged)) number
+      ∙ ap (λ (o : Judgement). Some o) (judgement_fits d bound k q.judged x a is u))
 
   module _ (more : List Term) (links' : List Link) (lay' : Layout) (x : Accepted) (a : Assertion) (is : p.judged ≡ Fits x) (usable : usable_in d x.label ≡ Some a)
       (same : (u : Unknown) → IsUnknown bound (accepted_in js) u → lay'.node_of u ≡ level.layout.node_of u) (same_works : lay'.works ≡ level.layout.works)
       (chained : IsChained db bound (accepted_in js ++ asked_by bound i x a ∷ []) (accepted_in js ++ asked_by bound i x a ∷ []) (nodes ++ more) links' lay')
       (formula_nodes : AreFormulaNodes bound (nodes ++ more) lay' (λ k. (formula_at formulas k).0)) (kept : AreKeptNodes (nodes ++ more) lay' i x a)
-          (constants : HaveConstants (constants_in d.rows) (nodes ++ more))
+      (constants : HaveConstants (constants_in d.rows) (nodes ++ more))
       (few : length (nodes ++ more) ≤ size_of_front db bound (length (steps ++ p ∷ [])))
       (last : (s : BoundStep) → slice_get bound.steps i ≡ Some s → IsJudgement db bound (accepted_in js) i s (standing db bound.place s) (accepted (asked_by bound i x a))) where
     before_now : AreBefore (length (steps ++ p ∷ [])) (accepted_in js ++ asked_by bound i x a ∷ [])
     before_now =
         all_join (λ (y : Asked). y.step < length (steps ++ p ∷ [])) (accepted_in js) (asked_by bound i x a ∷ [])
-            (before_more (accepted_in js) level.before) (let long = length_push steps p in omega (arith, long), tt)
+        (before_more (accepted_in js) level.before) (let long = length_push steps p in omega (arith, long), tt)
 
     own_kept : (y : Accepted) → p.judged ≡ Fits y → IsKeptStep d (nodes ++ more) lay' i y
     own_kept y e =
@@ -264,12 +264,12 @@ module _ (db : Database) (d : Opened) (bound : Bound) (works : List WorkNode) (f
           usable = told.usable;
           nodes_are =
               kept_stays bound (accepted_in js) nodes more level.layout lay' same k y b there
-                  (all_has (IsSoundAsked bound) (accepted_in js) (asked_by bound k y b) level.chained.sound there) told.nodes_are;
+              (all_has (IsSoundAsked bound) (accepted_in js) (asked_by bound k y b) level.chained.sound there) told.nodes_are;
         }
 
     pub level_fits : IsLevel db d bound works formulas (steps ++ p ∷ []) (nodes ++ more) links'
     level_fits =
         level_more (accepted (asked_by bound i x a)) (judgement_fits d bound i p.judged x a is usable)
-            (accepted_in js ++ asked_by bound i x a ∷ []) refl (nodes ++ more) links' lay' chained formula_nodes
+        (accepted_in js ++ asked_by bound i x a ∷ []) refl (nodes ++ more) links' lay' chained formula_nodes
         (same_works ∙ level.works_are) before_now last
         old_kept own_kept constants few

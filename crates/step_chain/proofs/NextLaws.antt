@@ -69,12 +69,12 @@ module _ (d : Opened) (bound : Bound) (formulas : List Id) (i : ℕ) (old after 
       → IsLevel db d bound works formulas steps after.nodes after.links
   level_after db works steps h =
       subst (λ (ls : List Link). IsLevel db d bound works formulas steps after.nodes ls) (sym same.links)
-          (subst (λ (ns : List Term). IsLevel db d bound works formulas steps ns old.links) (sym same.nodes) h)
+      (subst (λ (ns : List Term). IsLevel db d bound works formulas steps ns old.links) (sym same.nodes) h)
 
   next_stands : (v : Verdict)
       → ForEachBook d bound
-          (λ db. (works : List WorkNode) (steps : List Pushed) (p : Pushed) → p.judged ≡ Stands v → length steps ≡ i
-              → IsLevel db d bound works formulas steps old.nodes old.links → IsLevel db d bound works formulas (steps ++ p ∷ []) old.nodes old.links)
+      (λ db. (works : List WorkNode) (steps : List Pushed) (p : Pushed) → p.judged ≡ Stands v → length steps ≡ i
+      → IsLevel db d bound works formulas steps old.nodes old.links → IsLevel db d bound works formulas (steps ++ p ∷ []) old.nodes old.links)
       → IsNext d bound formulas i old after (Stands v)
   next_stands v more = record {
     extended = record { more = []; nodes = same.nodes ∙ sym (append-nil old.nodes); more_links = []; links = same.links ∙ sym (append-nil old.links) };
@@ -84,7 +84,7 @@ module _ (d : Opened) (bound : Bound) (formulas : List Id) (i : ℕ) (old after 
     used = tt;
     level =
         λ kinds text sheet opened binds works steps p e count level. level_after (database_of kinds text d.rows d.parsed) works (steps ++ p ∷ [])
-            (more kinds text sheet opened binds works steps p e count level);
+        (more kinds text sheet opened binds works steps p e count level);
   }
 
   -- whose verdict needs no solution
@@ -93,8 +93,8 @@ module _ (d : Opened) (bound : Bound) (formulas : List Id) (i : ℕ) (old after 
       next_stands v (λ kinds text sheet opened binds works steps p e count level.
       let db = database_of kinds text d.rows d.parsed in
       let told : standing db bound.place (step_at bound i) ≡ settled v =
-          subst (IsStandingOf db d bound.place (step_at bound i)) is
-              (standing_same db d bound.place (step_at bound i) (book_of kinds text d opened)) in
+      subst (IsStandingOf db d bound.place (step_at bound i)) is
+      (standing_same db d bound.place (step_at bound i) (book_of kinds text d opened)) in
       level_stands db d bound works formulas steps p old.nodes old.links level v e
       (λ s at.
       let own : s ≡ step_at bound i = let both : Some s ≡ Some (step_at bound i) = sym at ∙ ap (slice_get bound.steps) count ∙ slice_get-get_or bound.steps i no_step below in cc in
@@ -136,14 +136,14 @@ module _ (ready : CandidatesAreReady) (facts : HasDatabaseFacts) (whole : Assert
           → IsLevel db d bound works formulas (steps ++ p ∷ []) old.nodes old.links
       none_here e h =
           level_none db d (book_of kinds text d opened) db_facts whole_of bound placed ready_of works formulas steps p old new level s at l candidate
-              (own_taken None candidate.assertion h) e
+          (own_taken None candidate.assertion h) e
 
       some_here : (x : Accepted) → p.judged ≡ Fits x → IsTakenAs d formulas (formula_at formulas i) s.places l candidate.assertion old new (Some x)
           → IsExtended old new → IsLevel db d bound works formulas (steps ++ p ∷ []) new.nodes new.links
       some_here x e h longer =
           level_accepted db d
-              (book_of kinds text d opened) db_facts whole_of bound placed ready_of works formulas steps p old new level s at l candidate x
-              (own_taken (Some x) candidate.assertion h) e longer.more longer.nodes
+          (book_of kinds text d opened) db_facts whole_of bound placed ready_of works formulas steps p old new level s at l candidate x
+          (own_taken (Some x) candidate.assertion h) e longer.more longer.nodes
 
   -- the formula and the places as they were passed
   pub taken_same : (formula : Id) (places : List Given) → formula ≡ formula_at formulas i → places ≡ s.places → (r o : Option Accepted) → o ≡ r
@@ -172,5 +172,5 @@ module _ (ready : CandidatesAreReady) (facts : HasDatabaseFacts) (whole : Assert
     used = used_here d formulas (formula_at formulas i) s.places l old new x some h;
     level =
         λ kinds text sheet opened binds works steps p e count level. some_here kinds text opened works steps p count level x e
-            (h (candidate kinds text opened).assertion (candidate kinds text opened).usable) longer;
+        (h (candidate kinds text opened).assertion (candidate kinds text opened).usable) longer;
   }

@@ -34,7 +34,7 @@ module _ (formulas : List Id) where
   -- one `$e` more
   pairs_next : (gs : List Given) (hs : List Id) (k : ℕ) (d : Id) → k < length hs
       → id_pairs formulas (take (suc k) gs) (take (suc k) hs)
-          ≡ id_pairs formulas (take k gs) (take k hs) ++ one_pair formulas (place_at gs k) (get_or hs k d)
+      ≡ id_pairs formulas (take k gs) (take k hs) ++ one_pair formulas (place_at gs k) (get_or hs k d)
   pairs_next [] hs k d h = rw (take_none k) refl
   pairs_next (g ∷ gs) [] k d h = absurd (omega (arith, h))
   pairs_next (g ∷ gs) (x ∷ hs) zero d h = one_first g x
@@ -43,7 +43,7 @@ module _ (formulas : List Id) where
 
   pub pairs_more : (gs : List Given) (hs : List Id) (k : ℕ) (d : Id) → k < length hs
       → id_pairs formulas (take (k + 1) gs) (take (k + 1) hs)
-          ≡ id_pairs formulas (take k gs) (take k hs) ++ one_pair formulas (place_at gs k) (get_or hs k d)
+      ≡ id_pairs formulas (take k gs) (take k hs) ++ one_pair formulas (place_at gs k) (get_or hs k d)
   pairs_more gs hs k d h =
       let up : suc k ≡ k + 1 = omega arith in
       subst (λ (n : ℕ). id_pairs formulas (take n gs) (take n hs) ≡ id_pairs formulas (take k gs) (take k hs) ++ one_pair formulas (place_at gs k) (get_or hs k d)) up (pairs_next gs hs k d h)

@@ -90,9 +90,9 @@ module _ (db : Database) (d : Opened) (place : ℕ) (s : BoundStep) (book : IsBo
   by_reference None = refl
   by_reference (Some r) =
       subst
-          (λ (names : List Name). IsSame (standing_of_label db place s (label_named names r))
-              (standing_at_name d place s (label_named d.contents.labels r)))
-          (sym book.labels) (by_name (label_named d.contents.labels r))
+      (λ (names : List Name). IsSame (standing_of_label db place s (label_named names r))
+      (standing_at_name d place s (label_named d.contents.labels r)))
+      (sym book.labels) (by_name (label_named d.contents.labels r))
 
   by_kind : (b : Bool) → IsSame (cond b (settled verdict.Hyp) (standing_of_reference db place s s.reference)) (cond b (Settled verdict.Hyp) (standing_at_reference d place s s.reference))
   by_kind true = refl

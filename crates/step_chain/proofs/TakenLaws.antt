@@ -67,9 +67,9 @@ module _ (db : Database) (bound : Bound) (before : List Asked) (i : ℕ) (s : Bo
     (chained : IsChained db bound before before old.nodes old.links lay) (are : AreFormulaNodes bound old.nodes lay (λ k. (formula_at formulas k).0))
     (vars : a.vars ≡ typed_variables a.frame.hyps) (apart : AreApart a.vars) (fresh : (v : Sym) (c : Typecode) → IsUnknown bound before (copy i v c) → ⊥)
     (tree_over : IsOver a.vars a.tree) (hyps_over : AllByRecursion (IsOver a.vars) a.hyps) (tree_typed : IsTyped db.rows bound.place a.tree)
-        (hyps_typed : AllByRecursion (IsTyped db.rows bound.place) a.hyps)
+    (hyps_typed : AllByRecursion (IsTyped db.rows bound.place) a.hyps)
     (sound : (j : ℕ) (gs : List Given) → slice_get (orders_of s a) j ≡ Some gs → IsSoundAsked bound (asked i a gs))
-        (room : (j : ℕ) (gs : List Given) → slice_get (orders_of s a) j ≡ Some gs → HasRoom gs a.hyps) where
+    (room : (j : ℕ) (gs : List Given) → slice_get (orders_of s a) j ≡ Some gs → HasRoom gs a.hyps) where
   abbrev nodes : List Term
   nodes = old.nodes
 
@@ -86,7 +86,7 @@ module _ (db : Database) (bound : Bound) (before : List Asked) (i : ℕ) (s : Bo
   pub roots_same : roots_of db.rows nodes a.frame.hyps a.tree a.hyps ≡ roots
   roots_same =
       ap (λ (vs : List TypedVariable). run (map (added db.rows [] (numbered (length nodes) vs)) a.hyps)
-          (added db.rows [] (numbered (length nodes) vs) a.tree (nodes ++ map free_of vs)).nodes) (sym vars)
+      (added db.rows [] (numbered (length nodes) vs) a.tree (nodes ++ map free_of vs)).nodes) (sym vars)
 
   bare : IsStore (nodes ++ map free_of a.vars) []
   bare = copied_store nodes a.vars (record { children = chained.store.children; in_order = tt; codes = tt })
@@ -127,16 +127,16 @@ module _ (db : Database) (bound : Bound) (before : List Asked) (i : ℕ) (s : Bo
           → IsJudgement db bound before i s (candidate a) (judged i s a r)
       judge None (inl c) =
           no_conclusion db bound before i s a roots.nodes lay' formulas root.root roots.roots ready_formulas ready_nodes old.links ready sound room
-              (subst (CannotJoin roots.nodes old.links) conclusion_is c.0)
+          (subst (CannotJoin roots.nodes old.links) conclusion_is c.0)
       judge (Some order) (inl c) = let impossible : ◌≡◌ {A = Option (List ℕ)} (Some order) None = c.1 in absurd (cc)
       judge None (inr j) =
           no_order db bound before i s a roots.nodes lay' formulas root.root roots.roots ready_formulas ready_nodes old.links ready sound room j.mid
-              (subst (Joins roots.nodes old.links j.mid) conclusion_is j.conclusion) new_links (first_is j.mid None j.first)
+          (subst (Joins roots.nodes old.links j.mid) conclusion_is j.conclusion) new_links (first_is j.mid None j.first)
       judge (Some order) (inr j) =
           first_order db bound before i s a roots.nodes lay' formulas root.root roots.roots ready_formulas ready_nodes old.links ready sound room
-              j.mid
-              (subst (Joins roots.nodes old.links j.mid) conclusion_is j.conclusion) new_links order
-              (first_is j.mid (Some order) j.first) new_store new_solved
+          j.mid
+          (subst (Joins roots.nodes old.links j.mid) conclusion_is j.conclusion) new_links order
+          (first_is j.mid (Some order) j.first) new_store new_solved
 
       -- where it fits, the store is that of the accepted candidates, this one among them
       pub taken_chain : (order : List ℕ)
@@ -145,9 +145,9 @@ module _ (db : Database) (bound : Bound) (before : List Asked) (i : ℕ) (s : Bo
       taken_chain order (inl c) = let impossible : ◌≡◌ {A = Option (List ℕ)} (Some order) None = c.1 in absurd (cc)
       taken_chain order (inr j) =
           accepted_chain db bound before i s a roots.nodes lay' formulas root.root roots.roots ready_formulas ready_nodes old.links ready sound room
-              j.mid
-              (subst (Joins roots.nodes old.links j.mid) conclusion_is j.conclusion) new_links order
-              (first_is j.mid (Some order) j.first) new_store new_solved
+          j.mid
+          (subst (Joins roots.nodes old.links j.mid) conclusion_is j.conclusion) new_links order
+          (first_is j.mid (Some order) j.first) new_store new_solved
 
       -- what `take` answers, as the candidate's own lists say it
       pub own_tried : (r : Option (List ℕ)) → IsTaken db.rows a.frame.hyps a.tree a.hyps formulas formula s.places old new r → new.links ≡ new_links
@@ -156,8 +156,8 @@ module _ (db : Database) (bound : Bound) (before : List Asked) (i : ℕ) (s : Bo
           subst (λ (ls : List Link). IsTried roots.nodes old.links ls formulas s.places roots.roots (id_of root.root) formula r) e
           (subst (λ (x : Listed). IsTried x.nodes old.links new.links formulas s.places x.roots (id_of root.root) formula r) roots_same
           (subst
-              (λ (x : Rooted). IsTried (roots_of db.rows nodes a.frame.hyps a.tree a.hyps).nodes old.links new.links formulas s.places
-                  (roots_of db.rows nodes a.frame.hyps a.tree a.hyps).roots (id_of x.root) formula r) root_same h.tried))
+          (λ (x : Rooted). IsTried (roots_of db.rows nodes a.frame.hyps a.tree a.hyps).nodes old.links new.links formulas s.places
+          (roots_of db.rows nodes a.frame.hyps a.tree a.hyps).roots (id_of x.root) formula r) root_same h.tried))
 
       -- so the candidate is judged
       pub taken_judged : (r : Option (List ℕ)) → IsTaken db.rows a.frame.hyps a.tree a.hyps formulas formula s.places old new r

@@ -123,8 +123,16 @@ record IsStepOf (d : Opened) (bound : Bound) (i : ℕ) (ps : List Pushed) (x : A
 step_more : (d : Opened) (bound : Bound) (i : ℕ) (p : Pushed) (ps : List Pushed) (x : Asked) → IsStepOf d bound (suc i) ps x → IsStepOf d bound i (p ∷ ps) x
 step_more d bound i p ps x h =
     let number : suc i + h.place ≡ i + suc h.place = omega arith in
-    record { place = suc h.place; pushed = h.pushed; at = h.at; kept = h.kept; fits = h.fits; assertion = h.assertion; usable = h.usable;
-        is = sym (ap (λ (k : ℕ). asked_by bound k h.kept h.assertion) number) ∙ h.is }
+    record {
+      place = suc h.place;
+      pushed = h.pushed;
+      at = h.at;
+      kept = h.kept;
+      fits = h.fits;
+      assertion = h.assertion;
+      usable = h.usable;
+      is = sym (ap (λ (k : ℕ). asked_by bound k h.kept h.assertion) number) ∙ h.is;
+    }
 
 module _ (d : Opened) (bound : Bound) (i : ℕ) (p : Pushed) (ps : List Pushed) (x : Asked) (later : Contains (accepted_in (judgements_from d bound (suc i) ps)) x → IsStepOf d bound (suc i) ps x) where
   first_of : (y : Accepted) → p.judged ≡ Fits y → (a : Assertion) → usable_in d y.label ≡ Some a
@@ -162,7 +170,7 @@ module _ (h : Held) (db : Database) (level : IsLevel db h.book h.bound h.works h
   read_at : (u : Unknown) → IsUnknown h.bound (accepted_in js) u → value_at h.nodes h.links h.works (lay.node_of u) ≡ store_value u
   read_at u on =
       ap (λ (ws : List WorkNode). value_at h.nodes h.links ws (lay.node_of u)) (sym level.works_are)
-          ∙ unknown_read db h.bound (accepted_in js) (accepted_in js) h.nodes h.links lay level.chained u on
+      ∙ unknown_read db h.bound (accepted_in js) (accepted_in js) h.nodes h.links lay level.chained u on
 
   by_node : (u : Unknown) → IsUnknown h.bound (accepted_in js) u → node_in h u ≡ lay.node_of u → value_of h u ≡ store_value u
   by_node u on e = ap (value_at h.nodes h.links h.works) e ∙ read_at u on

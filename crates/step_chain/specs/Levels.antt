@@ -85,7 +85,7 @@ IsUsedIf d (Fits x) = IsUsed d x
 abbrev pub ForEachBook : Opened → Bound → (Database → Type 0) → Type 0
 ForEachBook d bound P =
     (kinds : Kinds) (text : List ℕ) (sheet : Sheet) → IsOpened kinds text d → Binds (database_of kinds text d.rows d.parsed) sheet bound
-        → P (database_of kinds text d.rows d.parsed)
+    → P (database_of kinds text d.rows d.parsed)
 
 -- the store after these steps, where this is the logic typecode
 pub record IsFront (d : Opened) (logic : Typecode) (bound : Bound) (works : List WorkNode) (formulas : List Id) (steps : List Pushed) (nodes : List Term) (links : List Link) : Type 0 where

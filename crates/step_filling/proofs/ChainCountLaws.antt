@@ -21,10 +21,10 @@ chain_is_counted counted bound_ready asked_ready h kinds text sheet opened binds
     record {
       formulas =
           λ k b at. counted kinds text _ opened.database opened.no_fault h.bound.place _
-              (formula_is_typed _ h.bound (accepted_in (judgements_of h)) (value_of h) (bound_ready _ sheet h.bound binds) valuation k b at);
+          (formula_is_typed _ h.bound (accepted_in (judgements_of h)) (value_of h) (bound_ready _ sheet h.bound binds) valuation k b at);
       hyps = λ x among candidate.
           let ready = asked_ready kinds _ h.bound x (record { text = text; sound = opened.no_fault; is_database = opened.database }) candidate in
           all_both _ _ _ x.assertion.hyps
           (λ t over typed. counted kinds text _ opened.database opened.no_fault h.bound.place _
-              (instance_is_typed _ h.bound (accepted_in (judgements_of h)) (value_of h) x valuation among t over typed)) ready.sound.hyps ready.hyps;
+          (instance_is_typed _ h.bound (accepted_in (judgements_of h)) (value_of h) x valuation among t over typed)) ready.sound.hyps ready.hyps;
     }

@@ -102,11 +102,11 @@ module _ (d : Opened) where
       own_in_step = record {
         trees =
             put.trees ∙ ap (λ (ts : List Tree). ts ++ s.tree ∷ []) in_step.trees ∙ sym (trees-more old.items (draft.Step s ∷ []))
-                ∙ ap (λ (is : List DraftItem). trees (steps_in (items_in d is))) (sym put.items);
+            ∙ ap (λ (is : List DraftItem). trees (steps_in (items_in d is))) (sym put.items);
         names =
             let all : names_in d new ≡ names_in d old ++ s.name ∷ [] =
-                ap (λ (is : List DraftItem). map (λ (e : WrittenStep). e.name) (steps_in (items_in d is))) put.items
-                    ∙ names-more old.items (draft.Step s ∷ []) in
+            ap (λ (is : List DraftItem). map (λ (e : WrittenStep). e.name) (steps_in (items_in d is))) put.items
+            ∙ names-more old.items (draft.Step s ∷ []) in
             subst (HaveSameNames new.names) (append_assoc used (names_in d old) (s.name ∷ []) ∙ ap (λ (ns : List Name). used ++ ns) (sym all)) (put.names (used ++ names_in d old) in_step.names);
         sound = subst (AreSound d) (sym put.items) (sound_join old.items (draft.Step s ∷ []) in_step.sound (sound, tt));
       }

@@ -78,7 +78,7 @@ module _ (h : Held) where
         let one = are.count in
         let two = is.count in
         let parts : length (filter_map step_of_item all) ≡ length (filter_map step_of_item front ++ filter_map step_of_item (i ∷ [])) =
-            ap (λ (xs : List SheetItem). length (filter_map step_of_item xs)) e ∙ ap length (filter_map-append step_of_item front (i ∷ [])) in
+        ap (λ (xs : List SheetItem). length (filter_map step_of_item xs)) e ∙ ap length (filter_map-append step_of_item front (i ∷ [])) in
         let long = length-append (filter_map step_of_item front) (filter_map step_of_item (i ∷ [])) in
         let here = counted i in
         omega (arith, one, two, parts, long, here);
@@ -140,11 +140,11 @@ pub room_left : (h : Held) (items : List SheetItem) (k : ℕ) (i : SheetItem) �
 room_left h items k i e below =
     let parts = split_at items k i e below in
     let all : length (filter_map step_of_item items) ≡ length (filter_map step_of_item (take k items) ++ filter_map step_of_item (i ∷ parts.0)) =
-        ap (λ (xs : List SheetItem). length (filter_map step_of_item xs)) parts.1
-            ∙ ap length (filter_map-append step_of_item (take k items) (i ∷ parts.0)) in
+    ap (λ (xs : List SheetItem). length (filter_map step_of_item xs)) parts.1
+    ∙ ap length (filter_map-append step_of_item (take k items) (i ∷ parts.0)) in
     let long = length-append (filter_map step_of_item (take k items)) (filter_map step_of_item (i ∷ parts.0)) in
     let more : length (filter_map step_of_item (i ∷ parts.0)) ≡ length (filter_map step_of_item (i ∷ []) ++ filter_map step_of_item parts.0) =
-        ap length (filter_map-append step_of_item (i ∷ []) parts.0) in
+    ap length (filter_map-append step_of_item (i ∷ []) parts.0) in
     let two = length-append (filter_map step_of_item (i ∷ [])) (filter_map step_of_item parts.0) in
     let here = counted h i in
     omega (arith, all, long, more, two, here)
@@ -160,9 +160,9 @@ module _ (h : Held) (sheet : Sheet) (k : Kept) (begun : IsBegun sheet k) where
     trees = begun.trees ∙ sym (ap (λ (is : List DraftItem). trees (steps_in (items_in h.book is))) begun.items);
     names =
         subst (HaveSameNames k.names)
-            (sym
-                (ap (λ (is : List DraftItem). step_names sheet ++ map (λ (e : WrittenStep). e.name) (steps_in (items_in h.book is))) begun.items
-                    ∙ append-nil (step_names sheet))) begun.names;
+        (sym
+        (ap (λ (is : List DraftItem). step_names sheet ++ map (λ (e : WrittenStep). e.name) (steps_in (items_in h.book is))) begun.items
+        ∙ append-nil (step_names sheet))) begun.names;
     sound = subst (AreSound h.book) (sym begun.items) tt;
   }
 
@@ -193,10 +193,10 @@ module _ (h : Held) (sheet : Sheet) (k : Kept) (begun : IsBegun sheet k) where
     items_are = f.items_are;
     short = λ kinds text s opened binds code.
         subst (λ (g : Filling). AreShort (constants_of h) (trees (steps_in (filled_behind h (step_names sheet) g f.front).items))) empty_is
-            (f.long (step_names sheet) at_first kinds text s opened binds code short_first).0;
+        (f.long (step_names sheet) at_first kinds text s opened binds code short_first).0;
     long = λ kinds text s opened binds code.
         subst (λ (g : Filling). IsLongNext h (filled_behind h (step_names sheet) g f.front) (step_names sheet) f.step name n) empty_is
-            (f.long (step_names sheet) at_first kinds text s opened binds code short_first).1;
+        (f.long (step_names sheet) at_first kinds text s opened binds code short_first).1;
   }
   whole_fault fault.LongValue f = record {
     front = f.front;
@@ -205,7 +205,7 @@ module _ (h : Held) (sheet : Sheet) (k : Kept) (begun : IsBegun sheet k) where
     items_are = f.items_are;
     short = λ kinds text s opened binds code.
         subst (λ (g : Filling). AreShort (constants_of h) (trees (steps_in (filled_behind h (step_names sheet) g f.front).items))) empty_is
-            (f.long (step_names sheet) at_first kinds text s opened binds code short_first).0;
+        (f.long (step_names sheet) at_first kinds text s opened binds code short_first).0;
     value = λ kinds text s opened binds code.
         subst (λ (g : Filling). IsLongValueNext h (filled_behind h (step_names sheet) g f.front)) empty_is (f.long (step_names sheet) at_first kinds text s opened binds code short_first).1;
   }

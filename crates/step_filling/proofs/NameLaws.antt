@@ -66,12 +66,12 @@ module _ (old_items : List DraftItem) (old_trees : List Tree) (old_names : List 
           trees_are = pushed ∙ ap (λ (ts : List Tree). ts ++ tree ∷ []) to.trees_are ∙ append_assoc old_trees made (tree ∷ []) ∙ ap (λ (ts : List Tree). old_trees ++ ts) (sym last);
           items_are =
               put ∙ ap (λ (is : List DraftItem). is ++ derived_item (name, tree) ∷ []) to.items_are
-                  ∙ append_assoc old_items (map derived_item (zip to.given made)) (derived_item (name, tree) ∷ [])
+              ∙ append_assoc old_items (map derived_item (zip to.given made)) (derived_item (name, tree) ∷ [])
               ∙ ap (λ (is : List DraftItem). old_items ++ is)
-                  (sym
-                      (ap (λ (ts : List Tree). map derived_item (zip all ts)) last
-                          ∙ ap (map derived_item) (zip_push to.given made name tree given_count)
-                          ∙ map_push derived_item (zip to.given made) (name, tree)));
+              (sym
+              (ap (λ (ts : List Tree). map derived_item (zip all ts)) last
+              ∙ ap (map derived_item) (zip_push to.given made name tree given_count)
+              ∙ map_push derived_item (zip to.given made) (name, tree)));
         }
 
     pub put_all : (all : List Tree) → made ≡ all → AreDerivedPut old_items items old_trees trees old_names names all
@@ -80,7 +80,7 @@ module _ (old_items : List DraftItem) (old_trees : List Tree) (old_names : List 
       items_are = λ used have.
           let own : to.given ≡ derived_names (length all) used = to.derived.names_are used have ∙ ap (λ (ts : List Tree). derived_names (length ts) used) e in
           to.items_are ∙ ap (λ (ns : List Name). old_items ++ map derived_item (zip ns made)) own
-              ∙ ap (λ (ts : List Tree). old_items ++ map derived_item (zip (derived_names (length all) used) ts)) e;
+          ∙ ap (λ (ts : List Tree). old_items ++ map derived_item (zip (derived_names (length all) used) ts)) e;
       names_are = λ used have.
           let own : to.given ≡ derived_names (length all) used = to.derived.names_are used have ∙ ap (λ (ts : List Tree). derived_names (length ts) used) e in
           let behind = same_behind old_names used to.given have in
@@ -97,4 +97,4 @@ module _ (count n : ℕ) (old names : List Name) (more : n ≡ count + 1) (are :
   name_at name x is e used have =
       let number : n ≡ suc count = omega (arith, more) in
       ap (λ (k : ℕ). slice_get (derived_names k used) count) (sym number) ∙ ap (λ (ns : List Name). slice_get ns count) (sym (are used have))
-          ∙ slice_get-get_or names count x names_count ∙ ap (λ (y : Name). Some y) (sym is ∙ sym e)
+      ∙ slice_get-get_or names count x names_count ∙ ap (λ (y : Name). Some y) (sym is ∙ sym e)

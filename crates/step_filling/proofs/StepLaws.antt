@@ -141,8 +141,8 @@ module _ (d : Opened) (used : List Name) (old mid new : Kept) (ts : List Tree) (
       → filling_in d new ≡ with_step (used ++ names_in d old) s t g o (filling_in d old) (record { made = ts; places = ps })
   filled_is s t g o is =
       let items : items_in d new.items
-          ≡ (items_in d old.items ++ map step (map made_step (zip (derived_names (length ts) (used ++ names_in d old)) ts)))
-              ++ step (filled_step old.numbers ps s t g o) ∷ [] =
+      ≡ (items_in d old.items ++ map step (map made_step (zip (derived_names (length ts) (used ++ names_in d old)) ts)))
+      ++ step (filled_step old.numbers ps s t g o) ∷ [] =
       own_in d used mid new own mid_in_step put sound ∙ ap (λ (is : List WrittenItem). is ++ step (step_in d own) ∷ []) (made_in d used old mid ts in_step are)
       ∙ ap (λ (e : WrittenStep). (items_in d old.items ++ map step (map made_step (zip (derived_names (length ts) (used ++ names_in d old)) ts))) ++ step e ∷ []) is in
       let numbers : new.numbers ≡ old.numbers ++ (length (steps_in (items_in d old.items)) + length ts) ∷ [] =
@@ -219,9 +219,9 @@ module _ (h : Held) (i : ℕ) (s : SheetStep) (v : Verdict) (old : Kept) (next :
             filled_is h.book used old old new [] [] put.own in_step (made_none old) put.put quiet s (formula h.bound (value_of h) (length old.numbers)) (value_of h) (stands v)
             (ap (step_in h.book) (put.is ∙ ap (λ (u : Tree). draft_of s (map (written_place old.numbers) s.places) u (reported v) None) t))
             ∙ ap
-                (λ (o : Judgement). with_step (used ++ names_in h.book old) s (formula h.bound (value_of h) (length old.numbers)) (value_of h) o
-                    (filling_in h.book old) (fill (trees (steps_in (items_in h.book old.items))) (wanted_by (value_of h) o)))
-                (sym own_judgement);
+            (λ (o : Judgement). with_step (used ++ names_in h.book old) s (formula h.bound (value_of h) (length old.numbers)) (value_of h) o
+            (filling_in h.book old) (fill (trees (steps_in (items_in h.book old.items))) (wanted_by (value_of h) o)))
+            (sym own_judgement);
       };
       short = λ kinds text sheet opened binds code short.
           let told = read kinds text sheet opened binds code in
@@ -234,7 +234,7 @@ module _ (h : Held) (i : ℕ) (s : SheetStep) (v : Verdict) (old : Kept) (next :
       let told = read kinds text sheet opened binds code in
       subst (λ (x : Name). IsLongNext h (filling_in h.book old) used s x n) (sym told.0)
       (IsLongNext.own n (subst (λ (o : Judgement). AreShort (constants_of h) (wanted_by (value_of h) o)) (sym own_judgement) tt)
-          (subst (λ (k : ℕ). IsTooLong (constants_of h) (formula_of h k) n) next told.1))
+      (subst (λ (k : ℕ). IsTooLong (constants_of h) (formula_of h k) n) next told.1))
   standing_fault fault.LongValue read = λ kinds text sheet opened binds code. absurd (read kinds text sheet opened binds code)
   standing_fault fault.Memory read = tt
 
@@ -303,14 +303,14 @@ module _ (h : Held) (i : ℕ) (s : SheetStep) (x : Accepted) (old : Kept) (next 
             let f : fill old.trees found ≡ fill (trees (steps_in (items_in h.book old.items))) (wanted_by g (slice_index_or (judgements_of h) (length old.numbers) (stands verdict.NoRef))) =
             ap (λ (ts : List Tree). fill ts found) in_step.trees ∙ ap (fill (trees (steps_in (items_in h.book old.items)))) (want.0 ∙ sym wanted_next) in
             filled_is h.book used old put.put.mid new (fill old.trees found).made
-                (fill old.trees found).places put.own in_step put.put.are_made put.put.own_put heard s (formula h.bound g (length old.numbers)) g
-                (accepted y)
+            (fill old.trees found).places put.own in_step put.put.are_made put.put.own_put heard s (formula h.bound g (length old.numbers)) g
+            (accepted y)
             (ap (step_in h.book) acc.is ∙ ap (λ (u : Tree). accepted_with (accepted_places h i old.numbers x.order (fill old.trees found).places) s u (use_in h.book way)) t
             ∙ ap (λ (o : Option Use). accepted_with (accepted_places h i old.numbers x.order (fill old.trees found).places) s (formula h.bound g (length old.numbers)) o) by)
             ∙ ap (λ (o : Judgement). with_step (used ++ names_in h.book old) s (formula h.bound g (length old.numbers)) g o (filling_in h.book old) (fill old.trees found)) (sym fits_next)
             ∙ ap
-                (λ (r : Filled). with_step (used ++ names_in h.book old) s (formula h.bound g (length old.numbers)) g
-                    (slice_index_or (judgements_of h) (length old.numbers) (stands verdict.NoRef)) (filling_in h.book old) r) f;
+            (λ (r : Filled). with_step (used ++ names_in h.book old) s (formula h.bound g (length old.numbers)) g
+            (slice_index_or (judgements_of h) (length old.numbers) (stands verdict.NoRef)) (filling_in h.book old) r) f;
       };
       short = λ kinds text sheet opened binds code short.
           let c = constants_of h in
@@ -318,9 +318,9 @@ module _ (h : Held) (i : ℕ) (s : SheetStep) (x : Accepted) (old : Kept) (next 
           let want = read kinds text sheet opened binds code y as_asked in
           let made : AreShort c (fill old.trees found).made = new_short c found old.trees (subst (AreShort c) (sym want.0) want.1) in
           subst (AreShort c)
-              (sym
-                  (put.put.own_put.trees ∙ ap (λ (ts : List Tree). ts ++ put.own.tree ∷ []) put.put.are_made.put.trees_are
-                      ∙ ap (λ (o : DraftStep). (old.trees ++ (fill old.trees found).made) ++ o.tree ∷ []) acc.is))
+          (sym
+          (put.put.own_put.trees ∙ ap (λ (ts : List Tree). ts ++ put.own.tree ∷ []) put.put.are_made.put.trees_are
+          ∙ ap (λ (o : DraftStep). (old.trees ++ (fill old.trees found).made) ++ o.tree ∷ []) acc.is))
           (short_join c (old.trees ++ (fill old.trees found).made) (acc.tree ∷ []) (short_join c old.trees (fill old.trees found).made short made) (subst (IsShort c) (sym told.0) told.1, tt));
     }
 
@@ -331,10 +331,10 @@ module _ (h : Held) (i : ℕ) (s : SheetStep) (x : Accepted) (old : Kept) (next 
       let want = read kinds text sheet opened binds code y as_asked in
       IsLongNext.wanted found want.1.0 want.1.1 name m (wanted_next ∙ want.1.2) want.0 (subst (IsTooLong (constants_of h) want.1.0) (sym named.0) want.1.3)
       (subst
-          (λ (ts : List Tree). slice_get (derived_names (suc (length (new_trees ts found))) (used ++ names_in h.book old))
-              (length (new_trees ts found))
-              ≡ Some name) in_step.trees
-          (named.1 (used ++ names_in h.book old) in_step.names))
+      (λ (ts : List Tree). slice_get (derived_names (suc (length (new_trees ts found))) (used ++ names_in h.book old))
+      (length (new_trees ts found))
+      ≡ Some name) in_step.trees
+      (named.1 (used ++ names_in h.book old) in_step.names))
   long_fault found n read fault.LongValue named = absurd named
   long_fault found n read fault.Memory named = tt
 

@@ -49,7 +49,7 @@ module _ (db : Database) (bound : Bound) (asked : List Asked) (v : Valuation) (v
   value_typed k b at None is h = valuation.typed (blank k) (IsUnknown.is_blank b at is)
   value_typed k b at (Some t) is h =
       (replaced_on db.rows bound.place (λ s c. Var s c) (open_value v) t
-          (λ w o. record { code = code-Var w.sym w.code; typed = typed-Var db.rows bound.place w.sym w.code }) (open_typed k b t at is h.2) h.1).typed
+      (λ w o. record { code = code-Var w.sym w.code; typed = typed-Var db.rows bound.place w.sym w.code }) (open_typed k b t at is h.2) h.1).typed
 
   step_typed : IsReadyBound db bound → (k : ℕ) (b : BoundStep) → slice_get bound.steps k ≡ Some b → IsTyped db.rows bound.place (formula bound v k)
   step_typed ready k b at =

@@ -69,11 +69,15 @@ module _ (h : Held) (i first : ℕ) where
         let hyps = y.assertion.hyps in
         let one = to.each kinds text sheet opened binds code y a in
         let long = count kinds text sheet opened binds code y a in
-        let here = at_hyp hyps k (omega (arith, below, long)) in
-        (one.1,
-            (instance (value_of h) i here.tree, wanted_from (value_of h) i (k + 1) hyps,
-                one.0 ∙ ap (λ (ts : List Tree). found ++ map (instance (value_of h) i) ts) here.behind,
-                read kinds text sheet opened binds code y a here.tree here.at))
+        let here = at_hyp hyps k (omega (arith, below, long)) in (
+          one.1,
+          (
+            instance (value_of h) i here.tree,
+            wanted_from (value_of h) i (k + 1) hyps,
+            one.0 ∙ ap (λ (ts : List Tree). found ++ map (instance (value_of h) i) ts) here.behind,
+            read kinds text sheet opened binds code y a here.tree here.at,
+          ),
+        )
 
     pub read_all : n ≤ k → OfAccepted h i (λ y. AreWanted (constants_of h) (wanted_from (value_of h) i first y.assertion.hyps) found None)
     read_all past kinds text sheet opened binds code y a =
@@ -81,8 +85,8 @@ module _ (h : Held) (i first : ℕ) where
         let one = to.each kinds text sheet opened binds code y a in
         let long = count kinds text sheet opened binds code y a in
         let all : wanted_from (value_of h) i first hyps ≡ found =
-            one.0 ∙ ap (λ (ts : List Tree). found ++ map (instance (value_of h) i) ts) (drop_past hyps k (omega (arith, past, long)))
-                ∙ append-nil found in
+        one.0 ∙ ap (λ (ts : List Tree). found ++ map (instance (value_of h) i) ts) (drop_past hyps k (omega (arith, past, long)))
+        ∙ append-nil found in
         (sym all, subst (AreShort (constants_of h)) (sym all) one.1)
 
 -- the first that is too long is not short

@@ -14,12 +14,12 @@ at_source : (q : Bool) (j : Join) (rest : List Join) (a : Typecode)
     → has_code (map (λ (i : Join). i.from) (cond q (j ∷ rest) rest)) a ≡ ((same_code j.from a && q) || has_code (map (λ (i : Join). i.from) rest) a)
 at_source true j rest a =
     elim (same_code j.from a) as
-        (λ b. (b || has_code (map (λ (i : Join). i.from) rest) a)
-            ≡ ((b && true) || has_code (map (λ (i : Join). i.from) rest) a)) [ true ↦ refl | false ↦ refl ]
+    (λ b. (b || has_code (map (λ (i : Join). i.from) rest) a)
+    ≡ ((b && true) || has_code (map (λ (i : Join). i.from) rest) a)) [ true ↦ refl | false ↦ refl ]
 at_source false j rest a =
     elim (same_code j.from a) as
-        (λ b. has_code (map (λ (i : Join). i.from) rest) a
-            ≡ ((b && false) || has_code (map (λ (i : Join). i.from) rest) a)) [ true ↦ refl | false ↦ refl ]
+    (λ b. has_code (map (λ (i : Join). i.from) rest) a
+    ≡ ((b && false) || has_code (map (λ (i : Join). i.from) rest) a)) [ true ↦ refl | false ↦ refl ]
 
 at_target : (q : Bool) (j : Join) (rest : List Join) (b : Typecode)
     → has_code (map (λ (i : Join). i.to) (cond q (j ∷ rest) rest)) b ≡ ((q && same_code j.to b) || has_code (map (λ (i : Join). i.to) rest) b)
@@ -42,7 +42,7 @@ same_turned a b = grind (arith, nat_tests)
 pub sources_are : (joins : List Join) (to a : Typecode) → has_code (sources joins to) a ≡ joined_by joins a to
 sources_are joins to a =
     ap (λ b. b || has_code (map (λ (j : Join). j.from) (filter (λ (j : Join). same_code j.to to) joins)) a) (same_turned to a)
-        ∙ ap (λ b. same_code a to || b) (sources_rest joins to a)
+    ∙ ap (λ b. same_code a to || b) (sources_rest joins to a)
 
 pub targets_are : (joins : List Join) (from b : Typecode) → has_code (targets joins from) b ≡ joined_by joins from b
 targets_are joins from b = ap (λ x. same_code from b || x) (targets_rest joins from b)

@@ -67,7 +67,7 @@ abbrev pub IsStep : List Term → List (Option ℕ) → ℕ → Walked → Walke
 IsStep nodes bound last old new Step.Settled = (are_marked (marks_of old.states) (parts_of nodes bound last) ≡ true) × (new.states ≡ set old.states last settled) × (old.path ≡ last ∷ new.path)
 IsStep nodes bound last old new Step.Opened =
     (j : ℕ) × IsIn j (parts_of nodes bound last) × (j < length nodes) × (state_at old.states j ≡ unseen) × (new.states ≡ set old.states j opened)
-        × (new.path ≡ j ∷ old.path)
+    × (new.path ≡ j ∷ old.path)
 IsStep nodes bound last old new Step.Cycle = (new ≡ old) × ((j : ℕ) × IsIn j (parts_of nodes bound last) × IsIn j old.path)
 
 -- no node stands on the path

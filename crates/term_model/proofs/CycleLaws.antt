@@ -302,7 +302,7 @@ solution_since nodes links bound t marks store closed table old long p roots =
     let early : List Link = take t links in
     let falls : (i j : ℕ) → i < length nodes → is_marked marks i ≡ false → IsIn j (parts_of nodes bound i) → weight early old.0 j < weight early old.0 i = λ i j below m h.
     let other : (k : ℕ) → t ≤ k → k < length links → (link_at links k).from ≢ i =
-        λ k from within e. both_ways (is_marked marks i) m (subst (λ (x : ℕ). is_marked marks x ≡ true) e (roots k from within)) in
+    λ k from within e. both_ways (is_marked marks i) m (subst (λ (x : ℕ). is_marked marks x ≡ true) e (roots k from within)) in
     parts_fall nodes early bound old.0 (in_order_take (length nodes) t links store.in_order) old.1 i j below (table.each i ∙ sym (target_take t links i other)) h in
     solved_by nodes links bound (length marks) store closed table
     (settle_rest nodes bound (graph_of_store nodes links bound store table) (weight early old.0) (unmarked_count marks + 1) marks (omega arith) long falls p)

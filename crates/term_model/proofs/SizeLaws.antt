@@ -34,8 +34,8 @@ module _ (marks : List Bool) (sizes : List ℕ) (i v : ℕ) (fresh : is_marked m
   sizes_same (id ∷ kids) m =
       let both = and_parts (is_marked marks id.0) (are_marked marks (map (λ (id : Id). id.0) kids)) m in
       let new : sum_by (λ (id : Id). size_at (set sizes i v) id.0) (id ∷ kids)
-          ≡ size_at (set sizes i v) id.0 + sum_by (λ (id : Id). size_at (set sizes i v) id.0) kids =
-          sum_by-cons (λ (id : Id). size_at (set sizes i v) id.0) id kids in
+      ≡ size_at (set sizes i v) id.0 + sum_by (λ (id : Id). size_at (set sizes i v) id.0) kids =
+      sum_by-cons (λ (id : Id). size_at (set sizes i v) id.0) id kids in
       let old : sum_by (λ (id : Id). size_at sizes id.0) (id ∷ kids) ≡ size_at sizes id.0 + sum_by (λ (id : Id). size_at sizes id.0) kids = sum_by-cons (λ (id : Id). size_at sizes id.0) id kids in
       omega (arith, new, old, size_same id.0 both.0, sizes_same kids both.1)
 

@@ -59,7 +59,7 @@ pub record IsGeneral (constants : Label → ℕ) (nodes : List Term) (links : Li
 abbrev pub AreTreeSizes : List Term → List Link → List ℕ → Type 0
 AreTreeSizes nodes links sizes =
     (constants : Label → ℕ) (trees : List Tree) → HaveConstants constants nodes → IsGeneral constants nodes links trees → (i : ℕ) → i < length nodes
-        → size_at sizes i ≡ saturated (tokens constants (tree_at trees i))
+    → size_at sizes i ≡ saturated (tokens constants (tree_at trees i))
 
 -- ---- while they are counted
 

@@ -57,7 +57,7 @@ ends_of_append links more (id ∷ xs) = rw (end_of_append links more id.0, ends_
 -- a link between the two ends joins them
 pub joined : (links : List Link) (i j : ℕ) → end_of links i ≢ end_of links j
     → end_of (links ++ record { from = end_of links i; to = end_of links j } ∷ []) i
-        ≡ end_of (links ++ record { from = end_of links i; to = end_of links j } ∷ []) j
+    ≡ end_of (links ++ record { from = end_of links i; to = end_of links j } ∷ []) j
 joined links i j ne =
     let link : Link = record { from = end_of links i; to = end_of links j } in
     end_of_push links link i ∙ hop_at link (end_of links i) refl ∙ sym (end_of_push links link j ∙ hop_past link (end_of links j) (λ e. ne (sym e)))

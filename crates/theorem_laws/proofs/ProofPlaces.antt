@@ -124,8 +124,8 @@ has_place : (e : List Statement) (s : Statement) → IsChecked e s → IsEnded s
 has_place e s c n h =
     let a : At e n.front n.last c.after = at_split e s n.front n.last [] c n.whole in
     let keyword : has_keyword (codes "$p") n.front ≡ true =
-        keyword_in_front (codes "$p") n.front n.last (apart n.last (codes "$p") n.ends refl)
-            (subst (λ (x : Statement). has_keyword (codes "$p") x ≡ true) n.whole h) in
+    keyword_in_front (codes "$p") n.front n.last (apart n.last (codes "$p") n.ends refl)
+    (subst (λ (x : Statement). has_keyword (codes "$p") x ≡ true) n.whole h) in
     let sh = shape n.front (codes "$p") keyword in
     let some : is_empty n.front ≡ false = ap is_empty sh.whole ∙ not_empty sh.ls sh.kw (sh.us ++ sh.tail) in
     let more : is_label_alone n.front ≡ false = ap is_label_alone sh.whole ∙ not_alone sh.ls sh.kw (sh.us ++ sh.tail) sh.keyword_stops in

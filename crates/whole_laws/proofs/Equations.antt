@@ -292,5 +292,5 @@ module _ (db : Database) (bound : Bound) (asked : List Asked) (ready : IsReadyBo
     | inr n ↦ inr (λ (s : Solvable db bound asked). n (rooms bound s.value asked s.solves))
     | inl g ↦ decided_with (is_solvable g) (λ (s : Solvable db bound asked). has_solver s.value s.is_valuation s.solves)
         (solver_decided db.rows bound.place (opens asked_equations) asked_equations
-            (ready_in db bound (opens asked_equations) asked_equations (equations_typed db bound us ready asked asked_ready) (λ x o. o)))
+        (ready_in db bound (opens asked_equations) asked_equations (equations_typed db bound us ready asked asked_ready) (λ x o. o)))
   ]

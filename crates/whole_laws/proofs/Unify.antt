@@ -297,8 +297,8 @@ module _ (rows : List Production) (before : ℕ) where
           turned a b es (subst (λ (u : Tree). Decided (Has ((u, a) ∷ es))) (sym f) (leaf_and_tree x a es rest (subst (Ready xs) f hb) ha ready))
       by_look a b (is_var v c e) (is_var r d f) rest few ha hb =
           subst (λ (u : Tree). Decided (Has ((u, b) ∷ es))) (sym e)
-              (subst (λ (u : Tree). Decided (Has ((Var v c, u) ∷ es))) (sym f)
-                  (two_vars v r c d rest (both_decided (syms_decided v r) (codes_decided c d))))
+          (subst (λ (u : Tree). Decided (Has ((Var v c, u) ∷ es))) (sym f)
+          (two_vars v r c d rest (both_decided (syms_decided v r) (codes_decided c d))))
       by_look a b (is_var v c e) (is_node l d ts f) rest few ha hb =
           never_one a b es (λ r fine h. var_no_node v c l d ts r (ap (refine r) (sym e) ∙ h ∙ ap (refine r) f))
       by_look a b (is_node l c ts e) (is_var v d f) rest few ha hb =

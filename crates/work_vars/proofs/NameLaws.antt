@@ -148,7 +148,7 @@ pub name_parted : (token : List ℕ) (k : ℕ) → k ≤ length token → all_as
     → (c : Name) (n : ℕ) → n < 2 ^ 32 → token ≡ spelling c n → Parted (take k token) (prefix_of c) (drop k token) (decimal n)
 name_parted token k h d b c n small e =
     parted_once (take k token) (prefix_of c) (drop k token) (decimal n) (plain_before token k h (by_place token k b)) (prefix_plain c) d
-        (decimal_digits n (omega arith)) (take-append-drop k token ∙ e)
+    (decimal_digits n (omega arith)) (take-append-drop k token ∙ e)
 
 -- ---- different typecodes have different prefixes
 

@@ -69,7 +69,7 @@ module _ (db : Database) (grammar : IsGrammar db.rows) (s : Sheet) where
   with_two =
       all_listed (steps s) (λ i t. At ((asks_for_tree db s t ≡ true) × HasTwoTrees db (place_of db s) t.formula) t.line 68)
       (λ i t. one_listed ((asks_for_tree db s t ≡ true) × HasTwoTrees db (place_of db s) t.formula) t.line 68
-          (both_decided (bool_decided (asks_for_tree db s t)) (two_decided db grammar (place_of db s) t.formula)))
+      (both_decided (bool_decided (asks_for_tree db s t)) (two_decided db grammar (place_of db s) t.formula)))
 
   abbrev Any : ℕ → ℕ → Type 0
   Any l c = Header l c ⊎ (Step l c ⊎ (Pairs l c ⊎ (NoTree l c ⊎ TwoTrees l c)))

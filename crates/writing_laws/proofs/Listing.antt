@@ -30,7 +30,7 @@ before_is : (a b : Fault) → Before a b → comes_first a b ≡ true
 before_is a b (inl l) = or_left (nat_lt a.place b.place) (a.place == b.place && nat_le a.code b.code) (lt-ltb a.place b.place l)
 before_is a b (inr h) =
     or_right (nat_lt a.place b.place) (a.place == b.place && nat_le a.code b.code)
-        (and_from (a.place == b.place) (nat_le a.code b.code) (eq-eqb a.place b.place h.0) (true_le a.code b.code h.1))
+    (and_from (a.place == b.place) (nat_le a.code b.code) (eq-eqb a.place b.place h.0) (true_le a.code b.code h.1))
 
 before_self : (a : Fault) → Before a a
 before_self a = inr (refl, omega arith)

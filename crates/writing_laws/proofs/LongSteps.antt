@@ -230,8 +230,8 @@ module _ (db : Database) where
 
     at_wanted : (before : List Tree) (t : Tree) (more : List Tree) (name : Name) → next_wanted db names bound g judgements front ≡ before ++ t ∷ more → AreShort db before → IsLong db t
         → slice_get (derived_names (suc (length (new_trees (front_trees db names bound g judgements front) before))) used)
-            (length (new_trees (front_trees db names bound g judgements front) before))
-            ≡ Some name
+        (length (new_trees (front_trees db names bound g judgements front) before))
+        ≡ Some name
         → IsFirstStep name t
     at_wanted before t more name e h l n =
         let seen = front_trees db names bound g judgements front in
@@ -281,7 +281,7 @@ module _ (db : Database) (names : List Name) (bound : Bound) (g : Valuation) (ju
 
   one_more : (front : List SheetItem) (i : SheetItem)
       → filled_front db names bound g judgements (front ++ i ∷ [])
-          ≡ fill_item names bound g judgements (filled_front db names bound g judgements front) i
+      ≡ fill_item names bound g judgements (filled_front db names bound g judgements front) i
   one_more front i = let empty : Filling = record { items = []; numbers = [] } in fold-append (fill_item names bound g judgements) empty front (i ∷ [])
 
   trees_append : (es fs : List WrittenStep) → trees (es ++ fs) ≡ trees es ++ trees fs
@@ -297,9 +297,9 @@ module _ (db : Database) (names : List Name) (bound : Bound) (g : Valuation) (ju
   at_comment front lines h =
       subst (λ (f : Filling). AreShort db (trees (steps_in f.items))) (sym (one_more front (item.Comment lines)))
       (subst (λ es. AreShort db (trees es))
-          (sym
-              (filter_map-append step_of (filled_front db names bound g judgements front).items (comment lines ∷ [])
-                  ∙ sym (append_nil (steps_in (filled_front db names bound g judgements front).items)))) h)
+      (sym
+      (filter_map-append step_of (filled_front db names bound g judgements front).items (comment lines ∷ [])
+      ∙ sym (append_nil (steps_in (filled_front db names bound g judgements front).items)))) h)
 
   at_step : (front : List SheetItem) (s : SheetStep) → AreShort db (trees_of front) → AreShort db (next_wanted db names bound g judgements front)
       → (IsLong db (formula bound g (next_number db names bound g judgements front)) → ⊥) → AreShort db (trees_of (front ++ item.Step s ∷ []))

@@ -53,8 +53,8 @@ new_apart seen (w ∷ ws) = elim (cases_Bool (is_in seen w)) [
   | inr e ↦
       let rest = new_apart (w ∷ seen) ws in
       let both =
-          split_all (λ y. is_in (w ∷ seen) y ≡ false) (λ y. same_work y w ≡ false) (λ y. is_in seen y ≡ false)
-              (λ y h. neither (same_work y w) (is_in seen y) h) (not_seen (w ∷ seen) ws) rest.0 in
+      split_all (λ y. is_in (w ∷ seen) y ≡ false) (λ y. same_work y w ≡ false) (λ y. is_in seen y ≡ false)
+      (λ y h. neither (same_work y w) (is_in seen y) h) (not_seen (w ∷ seen) ws) rest.0 in
       rw e ((e, both.1), (both.0, rest.1))
 ]
 
@@ -188,7 +188,7 @@ module _ (db : Database) (few : length db.symbols < 2 ^ 64) (bound : Bound) wher
     | inr h ↦ elim (cases_Bool (same_work z x)) [
       | inl i ↦ absurd
           (first_alone taken xs x y k (some_is (least_number taken x.code) k (sym (here_named taken xs x z i) ∙ g))
-              (sym (ap (λ (v : WorkVariable). v.code) (same_variable z x i)) ∙ sym c)
+          (sym (ap (λ (v : WorkVariable). v.code) (same_variable z x i)) ∙ sym c)
           (sym (later_named taken xs x y h) ∙ e))
       | inr i ↦ name_once (taken ++ numbered taken x ∷ []) xs y z k c (sym (later_named taken xs x y h) ∙ e) (sym (later_named taken xs x z i) ∙ g)
     ]

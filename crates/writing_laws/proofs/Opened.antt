@@ -108,7 +108,7 @@ module _ (has : HasDatabaseFacts) (standing : MandatoryVariablesStand) (owned : 
 
   module _ (spellable : ReadIsSpellable) (is_read : SoundIsRead) (db : Database) (text : List ℕ) (options : Options) (opened : IsOpened options.kinds db)
       (decide : (s : Sheet) (bound : Bound) → Binds db s bound → SolvingIsDecided db bound)
-          (general : (s : Sheet) (bound : Bound) (accepted : List Asked) → HasMostGeneral options.kinds db s bound accepted) where
+      (general : (s : Sheet) (bound : Bound) (accepted : List Asked) → HasMostGeneral options.kinds db s bound accepted) where
     abbrev Answered : Type 0
     Answered = (a : Answer) × Answers db text options a
 

@@ -103,8 +103,8 @@ module _ (rows : List Production) (e : List Leaf) where
     at_tree n all = tree_ind (Stands (suc n))
         (λ s c o. at_leaf n (leaf.Var s c) (Var s c) (o.inside (leaf.Var s c) (subst (λ xs. Contains xs (leaf.Var s c)) (sym (text-Var rows s c)) (first (leaf.Var s c) (leaf.Var s c) [] refl))) refl)
         (λ c m o. at_leaf n (leaf.Work c m) (Work c m)
-            (o.inside (leaf.Work c m)
-                (subst (λ xs. Contains xs (leaf.Work c m)) (sym (text-Work rows c m)) (first (leaf.Work c m) (leaf.Work c m) [] refl))) refl)
+        (o.inside (leaf.Work c m)
+        (subst (λ xs. Contains xs (leaf.Work c m)) (sym (text-Work rows c m)) (first (leaf.Work c m) (leaf.Work c m) [] refl))) refl)
         (λ c m o. absurd (fresh_is_not_named c m o.named))
         (λ l c ts h o. at_node n l c ts all o)
 
@@ -189,7 +189,7 @@ module _ (rows : List Production) (before : ℕ) where
   leaves_decided (leaf.Work c n) (leaf.Var r d) = inr (λ e. cc)
   leaves_decided (leaf.Work c n) (leaf.Work d m) =
       decided_with (λ p. ap (λ x. leaf.Work x n) p.0 ∙ ap (λ x. leaf.Work d x) p.1) (λ e. (cc, cc))
-          (both_decided (codes_decided c d) (numbers_decided n m))
+      (both_decided (codes_decided c d) (numbers_decided n m))
 
   pub parses_decided : (e : List Leaf) (want : Typecode) (t : Tree) → Decided (Parses rows before e want t)
   parses_decided e want t =
@@ -234,7 +234,7 @@ pub trees_told : (db : Database) → IsGrammar db.rows → (place : ℕ) (tokens
     → HasNoTree db place tokens ⊎ (((t : Tree) × IsTheTree db place tokens t) ⊎ HasTwoTrees db place tokens)
 trees_told db grammar place tokens =
     by (how_many (IsTreeOf db place tokens) (parses_decided db.rows place (expression_of db place tokens) (logic_code db))
-        (all_of db.rows (expression_of db place tokens) grammar place (logic_code db))
+    (all_of db.rows (expression_of db place tokens) grammar place (logic_code db))
     (parsed_stands db.rows (expression_of db place tokens) grammar place (logic_code db)))
   where
     by : HowMany (IsTreeOf db place tokens) (parses_decided db.rows place (expression_of db place tokens) (logic_code db))

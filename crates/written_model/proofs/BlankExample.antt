@@ -99,7 +99,7 @@ before = record {
   bound = trees;
   judgements =
       accepted (asked 0 ax_1 []) ∷ accepted (asked 1 ax_1 []) ∷ accepted (asked 2 ax_2 []) ∷ accepted (asked 3 ax_mp (second ∷ third ∷ []))
-          ∷ accepted (asked 4 ax_mp (first ∷ fourth ∷ [])) ∷ [];
+      ∷ accepted (asked 4 ax_mp (first ∷ fourth ∷ [])) ∷ [];
   value = value;
   names = names;
   items = [];

@@ -30,7 +30,7 @@ code = record {
   labels = codes "wi" ∷ codes "ax-1" ∷ codes "ax-mp" ∷ [];
   steps =
       plain (what.Hyp 0) ∷ plain (what.Hyp 1) ∷ plain (what.Hyp 0) ∷ plain (what.Listed 0) ∷ plain (what.Hyp 2) ∷ plain (what.Hyp 0)
-          ∷ plain (what.Hyp 1) ∷ plain (what.Listed 1) ∷ plain (what.Listed 2) ∷ [];
+      ∷ plain (what.Hyp 1) ∷ plain (what.Listed 1) ∷ plain (what.Listed 2) ∷ [];
 }
 
 -- each step is one letter

@@ -52,7 +52,7 @@ both_missing = simp (replaces, same_trees) refl
 
 pub gap_stays : shown
     (filled_items (codes "qed" ∷ []) (bound (bound_step (codes "qed") (given.Gap ∷ []) (Some (codes "ax-mp")) (Some ps) ∷ [])) open_value
-        (accepted (asked 0 ax_mp (given.Gap ∷ [])) ∷ [])
+    (accepted (asked 0 ax_mp (given.Gap ∷ [])) ∷ [])
     (item.Step (record { line = 0; hyp = false; name = codes "qed"; places = given.Gap ∷ []; reference = Some (codes "ax-mp"); formula = codes "|-" ∷ codes "ps" ∷ [] }) ∷ []))
     ≡ (codes "d1", []) ∷ (codes "qed", given.Gap ∷ given.Step 0 ∷ []) ∷ []
 unfolding digits

@@ -123,5 +123,5 @@ clash_not_complete = simp leaves refl
 pub verdicts : map (λ v. line dv.Add [] (record clashing { verdict = v; by = None }))
     (report.Found ∷ report.NoFit ∷ report.UnknownRef ∷ report.NotUsable ∷ report.TooManyHyps ∷ report.NoRef ∷ report.Hyp ∷ [])
     ≡ codes "qed found ax-5" ∷ codes "qed no fit ax-5" ∷ codes "qed unknown ax-5" ∷ codes "qed not usable ax-5" ∷ codes "qed too many hypotheses ax-5"
-        ∷ codes "qed no reference" ∷ codes "qed hyp" ∷ []
+    ∷ codes "qed no reference" ∷ codes "qed hyp" ∷ []
 verdicts = refl

@@ -75,8 +75,8 @@ is_any a h =
     let tree : IsRead db frame.at frame.formula a.tree = subst (λ (f : Frame). IsRead db f.at f.formula a.tree) (sym one) h.conclusion in
     let same_tree : a.tree ≡ ph = parses_only 4 2 a.tree tree.tree.parses in
     let none : a.hyps ≡ [] =
-        no_hyps a.hyps (λ (g : Hyp) (t : Tree). IsRead db frame.at g.formula t)
-            (subst (λ (f : Frame). AllZip (λ (g : Hyp) (t : Tree). IsRead db f.at g.formula t) (essentials f.hyps) a.hyps) (sym one) h.hyps) in
+    no_hyps a.hyps (λ (g : Hyp) (t : Tree). IsRead db frame.at g.formula t)
+    (subst (λ (f : Frame). AllZip (λ (g : Hyp) (t : Tree). IsRead db f.at g.formula t) (essentials f.hyps) a.hyps) (sym one) h.hyps) in
     let vars : a.vars ≡ variable ∷ [] = subst (λ (f : Frame). a.vars ≡ typed_variables f.hyps) (sym one) h.vars in
     join a.label a.frame a.tree a.hyps a.vars (sym h.label) one (sym same_tree) (sym none) (sym vars)
   where

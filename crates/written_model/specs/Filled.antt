@@ -68,8 +68,15 @@ abbrev pub filled_step : List ℕ → List ℕ → SheetStep → Tree → Valuat
 filled_step numbers more s t g (stands v) =
     record { hyp = s.hyp; name = s.name; places = map (written_place numbers) s.places; reference = s.reference; tree = t; verdict = reported v; by = None }
 filled_step numbers more s t g (accepted x) =
-    record { hyp = s.hyp; name = s.name; places = map (written_place numbers) x.places ++ map (λ k. given.Step k) more; reference = s.reference;
-        tree = t; verdict = report.Fits; by = Some (use_of g x) }
+    record {
+      hyp = s.hyp;
+      name = s.name;
+      places = map (written_place numbers) x.places ++ map (λ k. given.Step k) more;
+      reference = s.reference;
+      tree = t;
+      verdict = report.Fits;
+      by = Some (use_of g x);
+    }
 
 -- what is written so far, and the numbers of the steps read so far among the written ones
 pub record Filling : Type 0 where

@@ -56,7 +56,7 @@ backward c =
     joined_swap s c.bind-else-is_free.new.self c.args.y.0 c.args.x.0
     (bound_step s c.bind-else-is_free.new.self c.args.y.0 c.args.x.0 c.follow-right.result.0 c.follow-left.result.0 c.follow-right.ensures.end c.follow-left.ensures.end
     (λ e. ends_apart c.follow-left.result.0 c.follow-right.result.0 c.eq.result c.eq.ensures c.if-eq.false (sym e))
-        (λ free. absurd (both_ways _ bound free)) c.follow-left.ensures.unbound c.bind-else-is_free.ensures)
+    (λ free. absurd (both_ways _ bound free)) c.follow-left.ensures.unbound c.bind-else-is_free.ensures)
 
 pub returns-then-is_free-clause-joined : goal.returns-then-is_free-clause-joined
 returns-then-is_free-clause-joined c = (forward c).joined

@@ -28,7 +28,7 @@ loop-k-preserved c =
       extends = extends_trans s c.loop-k.arena c.merge.new.arena inv.extends c.merge.ensures.extends;
       joined =
           ends_more c.loop-k.arena c.merge.new.arena xs ys c.loop-k.k c.child-x.result c.child-y.result c.merge.ensures.extends inv.joined at_x at_y
-              (omega arith) (omega arith) c.if-not-merge.ensures.joined;
+          (omega arith) (omega arith) c.if-not-merge.ensures.joined;
       forced = λ trees sol same. c.if-not-merge.ensures.forced trees (inv.forced trees sol same)
           (child_trees trees xs ys c.loop-k.k c.child-x.result c.child-y.result same at_x at_y);
     }

@@ -35,8 +35,8 @@ pub returns-clause-fits : goal.returns-clause-fits
 returns-clause-fits c =
     let one = c.acyclic_since.ensures.solvable.0 c.if-not-acyclic_since.false in
     let both =
-        (solved c.args.arena.now c.merge.new.arena c.close_all.new.arena c.close_all.new.arena c.args.a.0 c.args.b.0 c.merge.ensures.extends
-            c.if-not-merge.ensures.joined c.if-not-merge.ensures.forced
+    (solved c.args.arena.now c.merge.new.arena c.close_all.new.arena c.close_all.new.arena c.args.a.0 c.args.b.0 c.merge.ensures.extends
+    c.if-not-merge.ensures.joined c.if-not-merge.ensures.forced
     c.close_all.ensures.extends c.if-not-close_all.ensures.kept refl one.0).0 one.1 in
     (λ _. (one.0, both.0, both.1), λ _. refl)
 

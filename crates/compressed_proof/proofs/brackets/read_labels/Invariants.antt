@@ -5,8 +5,11 @@ use Rattle.compressed_proof.proofs.brackets.read_labels.Given as goal
 
 abbrev pub invariant-loop-start : goal.invariant-loop-start
 invariant-loop-start l =
-    record { within : l.at ≤ length l.text; count : vec_len l.labels ≤ l.at;
-        lists : Lists l.labels.items (words_from l.at (drop l.at l.text)) (words_from l.fn.from (drop l.fn.from l.text)) }
+    record {
+      within : l.at ≤ length l.text;
+      count : vec_len l.labels ≤ l.at;
+      lists : Lists l.labels.items (words_from l.at (drop l.at l.text)) (words_from l.fn.from (drop l.fn.from l.text));
+    }
 
 abbrev pub decreases-loop-start : goal.decreases-loop-start
 decreases-loop-start l = length l.text - l.at

@@ -9,7 +9,7 @@ returns-in_err-check_label-clause-fault c = λ mandatory same.
     rw (p.1, p.2) (
     fault_put mandatory c.args.listed.now c.args.labels.now c.loop-place.before c.loop-place.place c.index-labels-place.result c.as_slice-label.result.now c.in_err-check_label.field-0.0
     c.loop-place-test.true (record { same = same }) c.loop-place.invariant.before c.as_slice-label.ensures c.index-labels-place.is
-        (c.loop-place.invariant.fine mandatory same) c.in_err-check_label.ensures.fault)
+    (c.loop-place.invariant.fine mandatory same) c.in_err-check_label.ensures.fault)
 
 pub loop-place-preserved : goal.loop-place-preserved
 loop-place-preserved c = record {
@@ -18,8 +18,8 @@ loop-place-preserved c = record {
   fine = λ mandatory same.
       fine_put mandatory c.args.listed.now c.args.labels.now c.loop-place.before c.loop-place.place c.index-labels-place.result c.as_slice-label.result.now
       c.loop-place-test.true
-          (record { same = same }) c.loop-place.invariant.before c.as_slice-label.ensures c.index-labels-place.is c.in_ok-check_label.ensures.fresh
-          (c.loop-place.invariant.fine mandatory same);
+      (record { same = same }) c.loop-place.invariant.before c.as_slice-label.ensures c.index-labels-place.is c.in_ok-check_label.ensures.fresh
+      (c.loop-place.invariant.fine mandatory same);
 }
 
 pub returns-clause-sound : goal.returns-clause-sound

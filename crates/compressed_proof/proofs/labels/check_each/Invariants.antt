@@ -5,6 +5,8 @@ use Rattle.compressed_proof.proofs.labels.check_each.Given as goal
 
 abbrev pub invariant-loop-place : goal.invariant-loop-place
 invariant-loop-place l =
-    record { before : l.before ≡ take l.place l.labels;
-        fine : (mandatory : List (List ℕ)) → ((name : List ℕ) → contains l.listed name ≡ contains mandatory name)
-            → AreFine mandatory l.labels l.place }
+    record {
+      before : l.before ≡ take l.place l.labels;
+      fine : (mandatory : List (List ℕ)) → ((name : List ℕ) → contains l.listed name ≡ contains mandatory name)
+          → AreFine mandatory l.labels l.place;
+    }

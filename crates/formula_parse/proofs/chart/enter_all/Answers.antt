@@ -24,7 +24,7 @@ loop-number-preserved c =
           (turn w.enter.new.entries.items n i at w.in_ok-enter.ensures.stays w.in_ok-enter.ensures.once (λ q. w.in_ok-enter.ensures.entered) c.loop-number.invariant)
       | else-is_start w ↦ subst (λ v. Grown numbers Q E c.args.entries.now.items (n + 1) v.items) (sym w.entries-is)
           (turn c.loop-number.entries.items n i at (stays_refl c.loop-number.entries.items) (λ o. o)
-              (λ q. absurd (off c.is_start.result (c.is_start.ensures q) w.if-is_start.false)) c.loop-number.invariant)
+          (λ q. absurd (off c.is_start.result (c.is_start.ensures q) w.if-is_start.false)) c.loop-number.invariant)
     ]
 
 pub returns-clause-entered : goal.returns-clause-entered

@@ -24,10 +24,15 @@ returns c =
     let i = c.loop-k.invariant in
     let xs = c.loop-k.entries.items in
     subst (IsFilled c.args.leaves.now c.args.chart.now c.args.g.now c.args.before c.args.begin) (sym c.from_vec.ensures)
-    (record { begun = i.0;
-        by_slot =
-            λ j x at. i.2 j x
-                (let l = slice_get_within xs j x at in
-                    elim c.loop-k-test.branch [ else-loop-k-test w ↦ omega
-                        (arith, l, w.loop-k-test.false, c.loop-k.entries.small) | then-loop-k-test+then-k-len w ↦ omega
-                        (arith, l, w.if-k-len.true, w.len.ensures) ]) at })
+    (record {
+      begun = i.0;
+      by_slot =
+          λ j x at. i.2 j x
+          (let l = slice_get_within xs j x at in
+          elim c.loop-k-test.branch [
+            | else-loop-k-test w ↦ omega
+                (arith, l, w.loop-k-test.false, c.loop-k.entries.small)
+            | then-loop-k-test+then-k-len w ↦ omega
+                (arith, l, w.if-k-len.true, w.len.ensures)
+          ]) at;
+    })

@@ -21,6 +21,6 @@ returns t c =
     let at = subst (λ xs. Reaches c.args.leaves.now c.args.chart.now c.args.slots.now xs q e) split r in
     let same : at.1 ≡ c.in-Some.code.now = (let a = sym at.2 ∙ slot in cc) in
     h at.0 e
-        (next q at.0 (subst (λ xs. IsIn xs q) (sym c.deref-in-Some.ensures.value) i) (subst (λ d. IsEntry c.args.chart.now q at.0 d) same at.3)
-            (can_of c.args.leaves.now c.args.chart.now c.args.slots.now
-                (take (length items - 1) (drop 1 items)) at.0 e at.4)) at.4) c.reach-in-Some.ensures
+    (next q at.0 (subst (λ xs. IsIn xs q) (sym c.deref-in-Some.ensures.value) i) (subst (λ d. IsEntry c.args.chart.now q at.0 d) same at.3)
+    (can_of c.args.leaves.now c.args.chart.now c.args.slots.now
+    (take (length items - 1) (drop 1 items)) at.0 e at.4)) at.4) c.reach-in-Some.ensures

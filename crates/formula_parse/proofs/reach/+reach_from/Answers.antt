@@ -16,9 +16,9 @@ returns-in-Nowhere t c =
     let split = cons_of items (Const record { 0 = 0 }) (Slot c.in-Slot.k) c.in-Slot.len_at_least first in
     λ e r.
     let at =
-        slot_among c.args.leaves.now c.args.chart.now c.args.slots.now items
-            (take (length items - 1)
-                (drop 1 items)) c.in-Slot.k c.in-Some.code.now c.args.place e c.ends_from.result split slot c.ends_from.ensures r in
+    slot_among c.args.leaves.now c.args.chart.now c.args.slots.now items
+    (take (length items - 1)
+    (drop 1 items)) c.in-Slot.k c.in-Some.code.now c.args.place e c.ends_from.result split slot c.ends_from.ensures r in
     absurd (subst (λ ends. IsAmong ends at.0) c.in-Nowhere.is at.1)
 
 pub returns-in-Only : goal.returns-in-Only

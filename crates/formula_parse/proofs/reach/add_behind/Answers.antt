@@ -14,7 +14,7 @@ last_pushed (z ∷ xs) y = last_pushed xs y
 pub returns-in_ok-push-in-Some-Const-clause-stays : goal.returns-in_ok-push-in-Some-Const-clause-stays
 returns-in_ok-push-in-Some-Const-clause-stays c =
     λ j x e. subst (λ (ys : List ℕ). slice_get ys j ≡ Some x) (sym c.in_ok-push-in-Some-Const.ensures.items)
-        (stays_pushed c.args.next.now.items (c.args.place + 1) j x e)
+    (stays_pushed c.args.next.now.items (c.args.place + 1) j x e)
 
 pub returns-in_ok-push-in-Some-Const-clause-stands : goal.returns-in_ok-push-in-Some-Const-clause-stands
 returns-in_ok-push-in-Some-Const-clause-stands c = λ k.

@@ -15,7 +15,7 @@ loop-place-preserved c =
     let turn = λ (ys : List ℕ) (s : Stays c.loop-place.next.items ys) (here : (m : ℕ) → IsEntry chart p m c.args.code → CanLead c.args.leaves.now c.args.behind.now m → IsIn ys m).
     λ (j q m : ℕ) (l : j < n + 1) (is : slice_get places j ≡ Some q) (h : IsEntry chart q m c.args.code) (can : CanLead c.args.leaves.now c.args.behind.now m).
     at_turn (λ q. (m : ℕ) → IsEntry chart q m c.args.code → CanLead c.args.leaves.now c.args.behind.now m → IsIn ys m) places n p at
-        (λ j q i is m h can. stays_in c.loop-place.next.items ys s m (c.loop-place.invariant j q m i is h can)) here j q l is m h can in
+    (λ j q i is m h can. stays_in c.loop-place.next.items ys s m (c.loop-place.invariant j q m i is h can)) here j q l is m h can in
     elim c.match-get.branch [
       | in-Some+in_ok-add_ends w ↦
           let list = w.in-Some.entries.now in
@@ -27,9 +27,9 @@ loop-place-preserved c =
           let found = s.ends h.has.entry (subst (λ xs. IsIn xs h.has.entry) same h.has.is_in) h.has.has_code (subst (CanLead c.args.leaves.now c.args.behind.now) (sym h.has.ends) can) in
           subst (λ k. IsIn ys k) h.has.ends found in
           subst
-              (λ v. (j q m : ℕ) → j < n + 1 → slice_get places j ≡ Some q → IsEntry chart q m c.args.code
-                  → CanLead c.args.leaves.now c.args.behind.now m → IsIn v.items m)
-              (sym w.next-is) (turn ys s.stays here)
+          (λ v. (j q m : ℕ) → j < n + 1 → slice_get places j ≡ Some q → IsEntry chart q m c.args.code
+          → CanLead c.args.leaves.now c.args.behind.now m → IsIn v.items m)
+          (sym w.next-is) (turn ys s.stays here)
       | in_default w ↦
           let none = slice_get_past chart p w.in_default.ensures.lookup.3 in
           subst (λ v. (j q m : ℕ) → j < n + 1 → slice_get places j ≡ Some q → IsEntry chart q m c.args.code → CanLead c.args.leaves.now c.args.behind.now m → IsIn v.items m) (sym w.next-is)

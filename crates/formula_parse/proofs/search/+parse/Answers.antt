@@ -48,14 +48,14 @@ divisions-loop-n-init t c = place_begin c.args.rows.now c.args.before c.requires
 pub divisions-loop-n-preserved-then-not-has : goal.divisions-loop-n-preserved-then-not-has
 divisions-loop-n-preserved-then-not-has t c =
     part_skip c.args.rows.now c.args.before c.requires.grammar.rows_hold c.args.leaves.now c.args.chart.now c.requires.full c.args.slots.now
-        c.args.items.now c.args.code c.args.begin c.args.end c.requires.order c.requires.within
+    c.args.items.now c.args.code c.args.begin c.args.end c.requires.order c.requires.within
     c.loop-n.n (omega arith) (λ h. off c.has.result (c.has.ensures h) c.if-not-has.true) c.loop-n.found c.loop-n.invariant
 
 pub divisions-loop-n-preserved-then-not-may_divide : goal.divisions-loop-n-preserved-then-not-may_divide
 divisions-loop-n-preserved-then-not-may_divide t c =
     let middle = c.args.begin + c.loop-n.n + 1 in
     part_skip_both c.args.rows.now c.args.before c.requires.grammar.rows_hold c.args.leaves.now c.args.chart.now c.requires.full c.args.slots.now
-        c.args.items.now c.args.code c.args.begin c.args.end c.requires.order c.requires.within
+    c.args.items.now c.args.code c.args.begin c.args.end c.requires.order c.requires.within
     c.loop-n.n (omega arith) (λ has reach.
     let can = can_of c.args.leaves.now c.args.chart.now c.args.slots.now c.args.items.now middle c.args.end reach in
     off c.may_divide.result (c.may_divide.ensures (c.ends_from-ends.ensures middle has can) can) c.if-not-may_divide.true) c.loop-n.found c.loop-n.invariant
@@ -63,7 +63,7 @@ divisions-loop-n-preserved-then-not-may_divide t c =
 pub divisions-loop-n-preserved-then-not-branch : goal.divisions-loop-n-preserved-then-not-branch
 divisions-loop-n-preserved-then-not-branch t c =
     part_skip_rest c.args.rows.now c.args.before c.requires.grammar.rows_hold c.args.leaves.now c.args.chart.now c.requires.full c.args.slots.now
-        c.args.items.now c.args.code c.args.begin c.args.end c.requires.order c.requires.within
+    c.args.items.now c.args.code c.args.begin c.args.end c.requires.order c.requires.within
     c.loop-n.n (omega arith) (λ h. off c.in_ok-may_fit.field-0 (c.in_ok-may_fit.ensures h) c.if-not-branch.true) c.loop-n.found c.loop-n.invariant
 
 pub divisions-trees-requires : goal.divisions-trees-requires
@@ -79,26 +79,26 @@ divisions-sequences-searched-requires t c =
 pub divisions-returns-in-Two : goal.divisions-returns-in-Two
 divisions-returns-in-Two t c =
     let turn =
-        part_found c.args.rows.now c.args.before c.requires.grammar.rows_hold c.args.leaves.now c.args.chart.now c.requires.full c.args.slots.now
-            c.args.items.now c.args.code c.args.begin c.args.end c.requires.order c.requires.within
+    part_found c.args.rows.now c.args.before c.requires.grammar.rows_hold c.args.leaves.now c.args.chart.now c.requires.full c.args.slots.now
+    c.args.items.now c.args.code c.args.begin c.args.end c.requires.order c.requires.within
     c.loop-n.n (omega arith) c.loop-n.found c.trees.new.found c.sequences-searched.new.found
-        (paired c.trees.new.found
-            c.sequences-searched.new.found) c.add_pairs.new.found c.loop-n.invariant c.in_default.ensures c.in-Ok.ensures refl c.in_ok-add_pairs-in-Ok.ensures in
+    (paired c.trees.new.found
+    c.sequences-searched.new.found) c.add_pairs.new.found c.loop-n.invariant c.in_default.ensures c.in-Ok.ensures refl c.in_ok-add_pairs-in-Ok.ensures in
     place_stop c.args.rows.now c.args.before c.requires.grammar.rows_hold c.args.slots.now c.args.items.now c.args.code
-        (span c.args.leaves.now c.args.begin c.args.end) (c.loop-n.n + 1) c.add_pairs.new.found c.in-Two.field-0 c.in-Two.field-1 c.in-Two.is turn
+    (span c.args.leaves.now c.args.begin c.args.end) (c.loop-n.n + 1) c.add_pairs.new.found c.in-Two.field-0 c.in-Two.field-1 c.in-Two.is turn
 
 pub divisions-loop-n-preserved : goal.divisions-loop-n-preserved
 divisions-loop-n-preserved t c =
     part_found c.args.rows.now c.args.before c.requires.grammar.rows_hold c.args.leaves.now c.args.chart.now c.requires.full c.args.slots.now
-        c.args.items.now c.args.code c.args.begin c.args.end c.requires.order c.requires.within
+    c.args.items.now c.args.code c.args.begin c.args.end c.requires.order c.requires.within
     c.loop-n.n (omega arith) c.loop-n.found c.trees.new.found c.sequences-searched.new.found
-        (paired c.trees.new.found
-            c.sequences-searched.new.found) c.add_pairs.new.found c.loop-n.invariant c.in_default.ensures c.in-Ok.ensures refl c.in_ok-add_pairs-in-Ok.ensures
+    (paired c.trees.new.found
+    c.sequences-searched.new.found) c.add_pairs.new.found c.loop-n.invariant c.in_default.ensures c.in-Ok.ensures refl c.in_ok-add_pairs-in-Ok.ensures
 
 pub divisions-returns : goal.divisions-returns
 divisions-returns t c =
     part_end c.args.rows.now c.args.before c.requires.grammar.rows_hold c.args.leaves.now c.args.chart.now c.requires.full c.args.slots.now
-        c.args.items.now c.args.code c.args.begin c.args.end c.requires.order c.requires.within
+    c.args.items.now c.args.code c.args.begin c.args.end c.requires.order c.requires.within
     c.loop-n.n (omega arith) c.loop-n.found c.loop-n.invariant
 
 pub sequences-divisions-requires : goal.sequences-divisions-requires
@@ -109,10 +109,10 @@ sequences-divisions-requires t c =
     let split = cons_of c.args.items.now (Const record { 0 = 0 }) (Slot c.in-Slot.k) c.in-Slot.len_at_least first in
     let less = items_to_split c.args.rows.now n c.args.slots.now c.in-Slot.k c.in-Some.code.now (take (length c.args.items.now - 1) (drop 1 c.args.items.now)) slot in
     let all =
-        subst
-            (λ xs. split_weight c.args.rows.now c.in-Some.code.now (take (length c.args.items.now - 1) (drop 1 c.args.items.now)) n
-                < items_weight c.args.rows.now c.args.slots.now xs n)
-            (sym split) less in
+    subst
+    (λ xs. split_weight c.args.rows.now c.in-Some.code.now (take (length c.args.items.now - 1) (drop 1 c.args.items.now)) n
+    < items_weight c.args.rows.now c.args.slots.now xs n)
+    (sym split) less in
     (omega (arith, all, c.decreases), (c.requires.grammar, (c.requires.full, (c.requires.order, c.requires.within))))
 
 pub sequences-returns-in-None : goal.sequences-returns-in-None
@@ -162,10 +162,10 @@ trees-returns-after-loop-entry t c =
     let e = c.args.end in
     let at = slice_get-get_or c.args.chart.now b c.in-Some.entries.now c.in-Some.ensures.lookup.3.0 ∙ ap (λ x. Some x) (sym c.in-Some.ensures.lookup.1) in
     let full =
-        subst (IsComplete rows c.args.before leaves b) (sym c.as_slice-entry-items.ensures)
-            (chart_entries rows c.args.before leaves c.args.chart.now b c.in-Some.entries.now c.requires.full at) in
+    subst (IsComplete rows c.args.before leaves b) (sym c.as_slice-entry-items.ensures)
+    (chart_entries rows c.args.before leaves c.args.chart.now b c.in-Some.entries.now c.requires.full at) in
     entry_end rows c.args.before c.requires.grammar.rows_hold leaves b e c.requires.order c.requires.within c.args.want
-        c.as_slice-entry-items.result.now full c.loop-entry.entry-index c.loop-entry-test.false c.loop-entry.found c.loop-entry.invariant
+    c.as_slice-entry-items.result.now full c.loop-entry.entry-index c.loop-entry-test.false c.loop-entry.found c.loop-entry.invariant
 
 pub trees-returns-in_default : goal.trees-returns-in_default
 trees-returns-in_default t c =
@@ -182,8 +182,8 @@ trees-returns-in-Two t c =
     let r = c.in-Some-get.row.now in
     let at = slice_get-get_or c.args.chart.now b c.in-Some.entries.now c.in-Some.ensures.lookup.3.0 ∙ ap (λ x. Some x) (sym c.in-Some.ensures.lookup.1) in
     let full =
-        subst (IsComplete rows c.args.before leaves b) (sym c.as_slice-entry-items.ensures)
-            (chart_entries rows c.args.before leaves c.args.chart.now b c.in-Some.entries.now c.requires.full at) in
+    subst (IsComplete rows c.args.before leaves b) (sym c.as_slice-entry-items.ensures)
+    (chart_entries rows c.args.before leaves c.args.chart.now b c.in-Some.entries.now c.requires.full at) in
     let entry = slice_get-get_or c.as_slice-entry-items.result.now c.loop-entry.entry-index _ (omega (arith, c.loop-entry-test.true)) in
     let stands = slice_get-get_or rows _ r c.in-Some-get.ensures.lookup.3.0 ∙ ap (λ x. Some x) (sym c.in-Some-get.ensures.lookup.1) in
     let row = is_row rows c.requires.grammar.rows_hold _ r stands in
@@ -194,13 +194,13 @@ trees-returns-in-Two t c =
     let added = c.in_ok-add_nodes-in-Ok.ensures in
     let made = made_finds rows c.args.before r row.each_once c.if-row-before.true text c.args.want gives fitting added.0 added.1 fits in
     let turn =
-        entry_found rows c.args.before c.requires.grammar.rows_hold leaves b e c.requires.order c.requires.within c.args.want
-            c.as_slice-entry-items.result.now full c.loop-entry.entry-index _ r entry c.if-entry-end.true
-            (code_same _ c.args.want c.if-eq.ensures) stands
+    entry_found rows c.args.before c.requires.grammar.rows_hold leaves b e c.requires.order c.requires.within c.args.want
+    c.as_slice-entry-items.result.now full c.loop-entry.entry-index _ r entry c.if-entry-end.true
+    (code_same _ c.args.want c.if-eq.ensures) stands
     c.loop-entry.found added.0 c.add_nodes.new.found c.loop-entry.invariant made added.2 in
     entry_stop rows c.args.before c.requires.grammar.rows_hold leaves b e c.requires.order c.requires.within c.args.want
-        c.as_slice-entry-items.result.now full
-        (c.loop-entry.entry-index + 1) c.add_nodes.new.found c.in-Two.field-0 c.in-Two.field-1 c.in-Two.is turn
+    c.as_slice-entry-items.result.now full
+    (c.loop-entry.entry-index + 1) c.add_nodes.new.found c.in-Two.field-0 c.in-Two.field-1 c.in-Two.is turn
 
 pub trees-add_nodes-requires-clause-count : goal.trees-add_nodes-requires-clause-count
 trees-add_nodes-requires-clause-count t c =
@@ -225,8 +225,8 @@ trees-loop-entry-preserved t c =
     let n = c.loop-entry.entry-index in
     let there = slice_get-get_or c.args.chart.now b c.in-Some.entries.now c.in-Some.ensures.lookup.3.0 ∙ ap (λ x. Some x) (sym c.in-Some.ensures.lookup.1) in
     let full =
-        subst (IsComplete rows c.args.before leaves b) (sym c.as_slice-entry-items.ensures)
-            (chart_entries rows c.args.before leaves c.args.chart.now b c.in-Some.entries.now c.requires.full there) in
+    subst (IsComplete rows c.args.before leaves b) (sym c.as_slice-entry-items.ensures)
+    (chart_entries rows c.args.before leaves c.args.chart.now b c.in-Some.entries.now c.requires.full there) in
     let d = entry_of 0 (record { 0 = record { 0 = 0 } }) 0 in
     let x = get_or entries n d in
     let at : slice_get entries n ≡ Some x = slice_get-get_or entries n d (omega (arith, c.loop-entry-test.true)) in
@@ -268,8 +268,8 @@ pub sequences-sequences-requires : goal.sequences-sequences-requires
 sequences-sequences-requires t c =
     let next = c.has_const.ensures.within c.if-has_const.true in
     let less =
-        items_to_rest c.args.rows.now (c.args.end - (c.args.begin + 1)) (c.args.end - c.args.begin) c.args.slots.now c.args.items.now
-            (take (length c.args.items.now - 1) (drop 1 c.args.items.now)) (omega (arith, next)) in
+    items_to_rest c.args.rows.now (c.args.end - (c.args.begin + 1)) (c.args.end - c.args.begin) c.args.slots.now c.args.items.now
+    (take (length c.args.items.now - 1) (drop 1 c.args.items.now)) (omega (arith, next)) in
     (omega (arith, less, c.decreases), (c.requires.grammar, (c.requires.full, (omega (arith, next), c.requires.within))))
 
 pub sequences-returns-then-has_const : goal.sequences-returns-then-has_const

@@ -17,7 +17,7 @@ returns-then-depth-eq0 c =
     let inv = c.loop-number.invariant in
     let x = c.index-entries-number.result in
     let is : c.depth_after-depth.result ≡ depth_after x.kind c.loop-number.depth =
-        c.depth_after-depth.ensures ∙ ap (λ (y : Entry). depth_after y.kind c.loop-number.depth) (sym c.index-entries-number.is) in
+    c.depth_after-depth.ensures ∙ ap (λ (y : Entry). depth_after y.kind c.loop-number.depth) (sym c.index-entries-number.is) in
     let step = depth-step xs k c.loop-number.depth x (entry-here xs k x inside c.index-entries-number.is) inv.0 in
     place-found xs c.args.position (k + 1) (omega (arith, low)) (omega (arith, inside)) (sym step ∙ sym is ∙ d) (λ p l m. inv.2 p l (omega (arith, m)))
 
@@ -29,7 +29,7 @@ loop-number-preserved c =
     let inv = c.loop-number.invariant in
     let x = c.index-entries-number.result in
     let is : c.depth_after-depth.result ≡ depth_after x.kind c.loop-number.depth =
-        c.depth_after-depth.ensures ∙ ap (λ (y : Entry). depth_after y.kind c.loop-number.depth) (sym c.index-entries-number.is) in
+    c.depth_after-depth.ensures ∙ ap (λ (y : Entry). depth_after y.kind c.loop-number.depth) (sym c.index-entries-number.is) in
     let step = is ∙ depth-step xs k c.loop-number.depth x (entry-here xs k x inside c.index-entries-number.is) inv.0 in
     let grown = depth-grows x.kind c.loop-number.depth k inv.1 in (
       step,

@@ -16,6 +16,6 @@ returns c = λ text ok count entries.
     let long = ap (λ (xs : List Entry). length xs) entries ∙ length-map ss (entry_in (symbols ss)) in
     let few : length ss < 2 ^ 32 = omega (arith, room, long) in
     let law =
-        ap (λ (n : ℕ). places_upto n c.args.entries.now (length c.args.entries.now)) count
-            ∙ ap (λ (xs : List Entry). places_upto (length (symbols ss)) xs (length xs)) entries ∙ places-are ss sound few in
+    ap (λ (n : ℕ). places_upto n c.args.entries.now (length c.args.entries.now)) count
+    ∙ ap (λ (xs : List Entry). places_upto (length (symbols ss)) xs (length xs)) entries ∙ places-are ss sound few in
     rw law at c.places_of.ensures

@@ -9,5 +9,5 @@ pub returns : goal.returns
 returns c = λ names ss is.
     let stop = c.loop-entry-test.false in
     c.from_vec.ensures ∙ c.loop-entry.invariant
-        ∙ ap (λ (xs : List Entry). fold codes_more [] xs) (take_all c.loop-entry.entry-index c.args.entries.now (omega (arith, stop)) ∙ is)
-        ∙ codes-law names ss
+    ∙ ap (λ (xs : List Entry). fold codes_more [] xs) (take_all c.loop-entry.entry-index c.args.entries.now (omega (arith, stop)) ∙ is)
+    ∙ codes-law names ss

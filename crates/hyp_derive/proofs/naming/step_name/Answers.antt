@@ -22,4 +22,4 @@ returns-clause-least c =
     let small : c.in_ok-number.number < 2 ^ 64 = omega (arith, c.in_ok-number.ensures.bounded, c.as_slice-2.type_inv) in
     IfOk-weaker c.derived.result (λ name. name ≡ numbered_name c.in_ok-number.number) _
     (λ name e. subst (λ (n : Name). IsLeastName c.args.used.now n) (sym e)
-        (name_least c.args.used.now c.as_slice-2.result.now c.in_ok-number.number are c.in_ok-number.ensures.least small)) c.derived.ensures
+    (name_least c.args.used.now c.as_slice-2.result.now c.in_ok-number.number are c.in_ok-number.ensures.least small)) c.derived.ensures

@@ -41,7 +41,7 @@ loop-hyp-preserved c =
           subst (λ v. G (essentials (take (k + 1) hs)) v.items) (sym w.trees-is) (subst (λ xs. G xs w.push.new.self.items) (sym (essential_more hs k item l (float ∙ w.if-not-hyp.true))) grown)
       | else-not-hyp w ↦
           subst (λ v. G (essentials (take (k + 1) hs)) v.items) (sym w.trees-is)
-              (subst (λ xs. G xs c.loop-hyp.trees.items) (sym (floating_more hs k item l (float ∙ w.if-not-hyp.false))) c.loop-hyp.invariant)
+          (subst (λ xs. G xs c.loop-hyp.trees.items) (sym (floating_more hs k item l (float ∙ w.if-not-hyp.false))) c.loop-hyp.invariant)
     ]
 
 pub returns : goal.returns

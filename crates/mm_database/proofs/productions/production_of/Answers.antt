@@ -15,6 +15,6 @@ returns-in-len1-up c =
     let code = get_or formula 0 (symbol 0) in
     let text = take (length formula - 1) (drop 1 formula) in
     let is =
-        with_text_is c.args.provable f code text (sym c.is_syntax.ensures ∙ c.if-not-is_syntax.false)
-            (sym c.as_slice.ensures ∙ first_of formula (symbol 0) code c.in-len1-up.len_at_least refl) in
+    with_text_is c.args.provable f code text (sym c.is_syntax.ensures ∙ c.if-not-is_syntax.false)
+    (sym c.as_slice.ensures ∙ first_of formula (symbol 0) code c.in-len1-up.len_at_least refl) in
     IfOk-weaker c.with_text.result (λ (row : Option Production). row ≡ with_text f code text) (λ (row : Option Production). row ≡ row_of_frame c.args.provable f) (λ row e. e ∙ is) c.with_text.ensures

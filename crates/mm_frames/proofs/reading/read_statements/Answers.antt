@@ -31,67 +31,67 @@ loop-number-init c = subst (λ (r : Reader). GoesTo c.args.text.now 0 r) (sym c.
 pub step-requires-clause-ready : goal.step-requires-clause-ready
 step-requires-clause-ready c =
     let inv : GoesTo c.args.text.now c.loop-number.number c.note.new.self =
-        subst (λ (r : Reader). GoesTo c.args.text.now c.loop-number.number r) (sym c.note.ensures)
-            (notes c.args.text.now c.loop-number.number
-                (slice_index_or c.args.tokens.now c.loop-number.number none).start c.loop-number.reader c.loop-number.invariant) in
+    subst (λ (r : Reader). GoesTo c.args.text.now c.loop-number.number r) (sym c.note.ensures)
+    (notes c.args.text.now c.loop-number.number
+    (slice_index_or c.args.tokens.now c.loop-number.number none).start c.loop-number.reader c.loop-number.invariant) in
     let len = count-is c.args.text.now c.args.tokens.now c.requires.tokens in
     ready c.args.text.now c.loop-number.number c.note.new.self c.requires.small (omega (arith, len)) inv
 
 pub step-requires-clause-order : goal.step-requires-clause-order
 step-requires-clause-order c =
     let inv : GoesTo c.args.text.now c.loop-number.number c.note.new.self =
-        subst (λ (r : Reader). GoesTo c.args.text.now c.loop-number.number r) (sym c.note.ensures)
-            (notes c.args.text.now c.loop-number.number
-                (slice_index_or c.args.tokens.now c.loop-number.number none).start c.loop-number.reader c.loop-number.invariant) in
+    subst (λ (r : Reader). GoesTo c.args.text.now c.loop-number.number r) (sym c.note.ensures)
+    (notes c.args.text.now c.loop-number.number
+    (slice_index_or c.args.tokens.now c.loop-number.number none).start c.loop-number.reader c.loop-number.invariant) in
     let len = count-is c.args.text.now c.args.tokens.now c.requires.tokens in
     (order c.args.text.now c.loop-number.number c.note.new.self (slice_index_or c.args.tokens.now c.loop-number.number none) none c.requires.no_fault
-        (omega (arith, len)) inv (at-is c.args.text.now c.args.tokens.now c.loop-number.number c.requires.tokens)).0
+    (omega (arith, len)) inv (at-is c.args.text.now c.args.tokens.now c.loop-number.number c.requires.tokens)).0
 
 pub step-requires-clause-within : goal.step-requires-clause-within
 step-requires-clause-within c =
     let inv : GoesTo c.args.text.now c.loop-number.number c.note.new.self =
-        subst (λ (r : Reader). GoesTo c.args.text.now c.loop-number.number r) (sym c.note.ensures)
-            (notes c.args.text.now c.loop-number.number
-                (slice_index_or c.args.tokens.now c.loop-number.number none).start c.loop-number.reader c.loop-number.invariant) in
+    subst (λ (r : Reader). GoesTo c.args.text.now c.loop-number.number r) (sym c.note.ensures)
+    (notes c.args.text.now c.loop-number.number
+    (slice_index_or c.args.tokens.now c.loop-number.number none).start c.loop-number.reader c.loop-number.invariant) in
     let len = count-is c.args.text.now c.args.tokens.now c.requires.tokens in
     (order c.args.text.now c.loop-number.number c.note.new.self (slice_index_or c.args.tokens.now c.loop-number.number none) none c.requires.no_fault
-        (omega (arith, len)) inv (at-is c.args.text.now c.args.tokens.now c.loop-number.number c.requires.tokens)).1
+    (omega (arith, len)) inv (at-is c.args.text.now c.args.tokens.now c.loop-number.number c.requires.tokens)).1
 
 pub returns-in_err-step-clause-first_fault : goal.returns-in_err-step-clause-first_fault
 returns-in_err-step-clause-first_fault c =
     let inv : GoesTo c.args.text.now c.loop-number.number c.note.new.self =
-        subst (λ (r : Reader). GoesTo c.args.text.now c.loop-number.number r) (sym c.note.ensures)
-            (notes c.args.text.now c.loop-number.number
-                (slice_index_or c.args.tokens.now c.loop-number.number none).start c.loop-number.reader c.loop-number.invariant) in
+    subst (λ (r : Reader). GoesTo c.args.text.now c.loop-number.number r) (sym c.note.ensures)
+    (notes c.args.text.now c.loop-number.number
+    (slice_index_or c.args.tokens.now c.loop-number.number none).start c.loop-number.reader c.loop-number.invariant) in
     let len = count-is c.args.text.now c.args.tokens.now c.requires.tokens in
     let there : IsFault c.in_err-step.field-0.0 (statement_fault c.args.text.now) =
     fails-at c.args.text.now c.loop-number.number c.note.new.self
-        (slice_index_or c.args.tokens.now c.loop-number.number none) none c.next_kind-next.result c.in_err-step.field-0.0 c.requires.no_fault
-        (omega (arith, len))
+    (slice_index_or c.args.tokens.now c.loop-number.number none) none c.next_kind-next.result c.in_err-step.field-0.0 c.requires.no_fault
+    (omega (arith, len))
     (c.next_kind-next.ensures ∙ next-is c.args.tokens.now (map token_of (tokens c.args.text.now)) c.loop-number.number c.requires.tokens) inv
-        (at-is c.args.text.now c.args.tokens.now c.loop-number.number c.requires.tokens) c.in_err-step.ensures.fault in
+    (at-is c.args.text.now c.args.tokens.now c.loop-number.number c.requires.tokens) c.in_err-step.ensures.fault in
     search (rules, there)
 
 pub loop-number-preserved : goal.loop-number-preserved
 loop-number-preserved c =
     let inv : GoesTo c.args.text.now c.loop-number.number c.note.new.self =
-        subst (λ (r : Reader). GoesTo c.args.text.now c.loop-number.number r) (sym c.note.ensures)
-            (notes c.args.text.now c.loop-number.number
-                (slice_index_or c.args.tokens.now c.loop-number.number none).start c.loop-number.reader c.loop-number.invariant) in
+    subst (λ (r : Reader). GoesTo c.args.text.now c.loop-number.number r) (sym c.note.ensures)
+    (notes c.args.text.now c.loop-number.number
+    (slice_index_or c.args.tokens.now c.loop-number.number none).start c.loop-number.reader c.loop-number.invariant) in
     let len = count-is c.args.text.now c.args.tokens.now c.requires.tokens in
     goes-to c.args.text.now c.loop-number.number c.loop-number.reader c.note.new.self c.step.new.self
-        (slice_index_or c.args.tokens.now c.loop-number.number none) none c.next_kind-next.result c.requires.no_fault (omega (arith, len))
+    (slice_index_or c.args.tokens.now c.loop-number.number none) none c.next_kind-next.result c.requires.no_fault (omega (arith, len))
     (c.next_kind-next.ensures
-        ∙ next-is c.args.tokens.now (map token_of (tokens c.args.text.now)) c.loop-number.number c.requires.tokens) inv c.note.ensures
-        (at-is c.args.text.now c.args.tokens.now c.loop-number.number c.requires.tokens)
+    ∙ next-is c.args.tokens.now (map token_of (tokens c.args.text.now)) c.loop-number.number c.requires.tokens) inv c.note.ensures
+    (at-is c.args.text.now c.args.tokens.now c.loop-number.number c.requires.tokens)
     c.in_ok-step.ensures.no_fault c.in_ok-step.ensures.next
 
 pub returns-in_err-finish-clause-first_fault : goal.returns-in_err-finish-clause-first_fault
 returns-in_err-finish-clause-first_fault c =
     let len = count-is c.args.text.now c.args.tokens.now c.requires.tokens in
     let there : IsFault c.in_err-finish.field-0.0 (statement_fault c.args.text.now) =
-        ends-badly c.args.text.now c.loop-number.number c.loop-number.reader c.in_err-finish.field-0.0
-            (omega (arith, len)) c.loop-number.invariant c.in_err-finish.ensures.fault in
+    ends-badly c.args.text.now c.loop-number.number c.loop-number.reader c.in_err-finish.field-0.0
+    (omega (arith, len)) c.loop-number.invariant c.in_err-finish.ensures.fault in
     search (rules, there)
 
 pub returns-clause-no_fault : goal.returns-clause-no_fault

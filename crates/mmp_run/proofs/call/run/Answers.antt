@@ -38,9 +38,9 @@ returns-in-Ok g c =
       files_are = refl;
       whole =
           λ w m. subst
-              (λ (f : Option Files). GivesWhole place end s
-                  (told f (g.O.Sink.told c.args.out.now) (g.L.Sink.told c.args.log.now)) new) c.in-Ok.ensures.same_files
-              (c.deliver.ensures.whole w m);
+          (λ (f : Option Files). GivesWhole place end s
+          (told f (g.O.Sink.told c.args.out.now) (g.L.Sink.told c.args.log.now)) new) c.in-Ok.ensures.same_files
+          (c.deliver.ensures.whole w m);
       part = λ w. subst (λ (f : Option Files). GivesPart place end (told f (g.O.Sink.told c.args.out.now) (g.L.Sink.told c.args.log.now)) new) c.in-Ok.ensures.same_files (c.deliver.ensures.part w);
     } in
     let replaced_before = g.S.Store.replace_faults c.args.store.now in
@@ -67,11 +67,11 @@ returns-in-Ok g c =
           (λ m. (c.deliver.ensures.memory m).1) c.deliver.ensures.empty;
       kept_files =
           files_kept files (g.S.Store.told c.end_words.new.store) (g.S.Store.told c.deliver.new.store) place end s
-              (command_of words) old new c.in-Ok.ensures.same_files d.whole place_is refl refl
+          (command_of words) old new c.in-Ok.ensures.same_files d.whole place_is refl refl
           (λ m. (c.deliver.ensures.memory m).0);
       same_files = λ none.
           ap g.S.Store.told (c.deliver.ensures.not_called (nowhere c.place_of.result (command_of words) end.status place_is none)) ∙ c.in-Ok.ensures.same_files;
       in_place = λ some.
           out_stays c.args.out.now c.deliver.new.out c.place_of.result (command_of words) end place_is some
-              (ends_silent files before mid end (command_of words) may) c.deliver.ensures.no_output c.deliver.ensures.empty;
+          (ends_silent files before mid end (command_of words) may) c.deliver.ensures.no_output c.deliver.ensures.empty;
     }

@@ -17,9 +17,9 @@ returns-in-Ok-clause-answer c =
     let opened : IsOpened c.args.options.now.kinds trial_database c.args.db.now = subst (λ (o : Options). IsOpened o.kinds trial_database c.args.db.now) (sym c.requires.options) c.requires.opened in
     tried_ok c.args.blocks c.args.options.now c.args.db.now c.in-Ok.outcome c.end_outcome.result c.requires.options c.requires.opened
     (subst
-        (λ (t : List ℕ). IsOutcome
-            (database_of c.args.options.now.kinds trial_database c.args.db.now.rows c.args.db.now.parsed) t c.args.options.now c.in-Ok.outcome)
-        (c.as_slice.ensures ∙ c.in_ok-text.ensures)
+    (λ (t : List ℕ). IsOutcome
+    (database_of c.args.options.now.kinds trial_database c.args.db.now.rows c.args.db.now.parsed) t c.args.options.now c.in-Ok.outcome)
+    (c.as_slice.ensures ∙ c.in_ok-text.ensures)
     (c.in-Ok.ensures.outcome trial_database opened))
     c.end_outcome.ensures.told
 

@@ -10,7 +10,7 @@ returns-in-Err-clause-verdict c =
     let p = proof_at (statements c.args.text.now) c.args.name.now c.in-Some.label t (range_of c.proofs_stand.ensures c.args.text.now c.args.name.now c.in-Some.label t c.requires.no_fault) in
     said_code c.args.text.now c.args.name.now c.in-Some.label t (told c.in_ok-fault-in-Err.fault)
     (code_told (labels_of_hyps t.frame.hyps) t.words c.in-Err.fault (told c.in_ok-fault-in-Err.fault)
-        (c.in-Err.ensures.fault t.frame t.words p) c.in_ok-fault-in-Err.ensures.told c.in_ok-fault-in-Err.ensures.fault)
+    (c.in-Err.ensures.fault t.frame t.words p) c.in_ok-fault-in-Err.ensures.told c.in_ok-fault-in-Err.ensures.fault)
 
 pub returns-in-Ok-verify-clause-verdict : goal.returns-in-Ok-verify-clause-verdict
 returns-in-Ok-verify-clause-verdict c =

@@ -6,7 +6,7 @@ use Rattle.number_set.proofs.NumberSet.contains.Goals as goal
 pub returns-in-None : goal.returns-in-None
 returns-in-None c =
     not_noted c.self.inside.items.items c.self.inside.places.items c.args.number c.self.invariant
-        (ap (λ (l : List ℕ). slice_get l c.args.number) (sym c.as_slice.ensures.value) ∙ sym c.place.ensures ∙ c.in-None.is)
+    (ap (λ (l : List ℕ). slice_get l c.args.number) (sym c.as_slice.ensures.value) ∙ sym c.place.ensures ∙ c.in-None.is)
     ∙ ap (λ (l : List ℕ). list_any (nat_eq c.args.number) l) c.self.view_is
 
 pub returns-in-None-item : goal.returns-in-None-item

@@ -11,7 +11,7 @@ use Rattle.proof_tree.proofs.building.add_reference.Goals as goal
 pub add_label-requires : goal.add_label-requires
 add_label-requires c =
     (adds_arguments c.args.graph.now c.add_trees.new.graph (hyps_of (frame_at c.args.frames.now c.args.label))
-        (map (tree_proof c.args.frames.now.labels (get nat_eq c.args.floats.now)) c.args.values.now) c.in_ok-values.values.items
+    (map (tree_proof c.args.frames.now.labels (get nat_eq c.args.floats.now)) c.args.values.now) c.in_ok-values.values.items
     c.args.proofs.now c.args.places.now c.in_ok-places.places.items c.in_ok-below.below.items c.requires c.in_ok-values.ensures c.in_ok-places.ensures
     (c.in_ok-below.ensures ∙ ap (λ l. weave (hyps_of (frame_at c.args.frames.now c.args.label)) l c.deref-2.result.now) c.deref.ensures.value
     ∙ ap (weave (hyps_of (frame_at c.args.frames.now c.args.label)) c.in_ok-values.values.items) c.deref-2.ensures.value)).inside
@@ -27,5 +27,5 @@ returns c =
     IfOk-weaker c.add_label.result (Adds c.add_trees.new.graph c.add_label.new.graph (proof_over c.add_trees.new.graph (name_in c.args.frames.now.labels c.args.label) c.in_ok-below.below.items))
     (Adds c.args.graph.now c.add_label.new.graph (reference_proof c.args.frames.now (get nat_eq c.args.floats.now) table c.args.label c.args.values.now c.args.places.now))
     (λ n a. adds_over c.args.graph.now c.add_trees.new.graph c.add_label.new.graph (name_in c.args.frames.now.labels c.args.label)
-        (weave hyps values (filter_map (item_at table) c.args.places.now)) c.in_ok-below.below.items n all a)
+    (weave hyps values (filter_map (item_at table) c.args.places.now)) c.in_ok-below.below.items n all a)
     c.add_label.ensures

@@ -5,5 +5,5 @@ use Rattle.proof_tree.proofs.building.placed.Goals as goal
 pub loop-place-preserved : goal.loop-place-preserved
 loop-place-preserved c =
     filter_more
-        (item_at
-            c.args.proofs.now) c.args.places.now c.loop-place.place-index c.loop-place.numbers.items c.put_placed.new.numbers.items c.loop-place-test.true c.loop-place.invariant c.in_ok-put_placed.ensures
+    (item_at
+    c.args.proofs.now) c.args.places.now c.loop-place.place-index c.loop-place.numbers.items c.put_placed.new.numbers.items c.loop-place-test.true c.loop-place.invariant c.in_ok-put_placed.ensures

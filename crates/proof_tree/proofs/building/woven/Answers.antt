@@ -16,21 +16,21 @@ loop-hyp-preserved c =
     elim c.if-hyp.branch [
       | then-hyp+in_ok-put_item w ↦
           moved c.args.hyps.now c.args.floating.now c.args.essential.now _ _ _ c.if-hyp.floating_at c.if-hyp.essential_at w.put_item.new.numbers.items
-              c.if-hyp.numbers.items w.floating_at-is w.essential_at-is
+          c.if-hyp.numbers.items w.floating_at-is w.essential_at-is
           (ap (λ v. v.items) w.numbers-is)
           (woven_float c.args.hyps.now c.args.floating.now c.args.essential.now c.loop-hyp.hyp-index c.loop-hyp.floating_at c.loop-hyp.essential_at
-              c.hyp-item.result c.loop-hyp.numbers.items w.put_item.new.numbers.items
+          c.hyp-item.result c.loop-hyp.numbers.items w.put_item.new.numbers.items
           c.loop-hyp-test.true c.hyp-item.is w.if-hyp.true w.in_ok-put_item.ensures c.loop-hyp.invariant)
       | else-hyp+in_ok-put_item-2 w ↦
           moved c.args.hyps.now c.args.floating.now c.args.essential.now _ _ _ c.if-hyp.floating_at c.if-hyp.essential_at
-              w.put_item-else-hyp.new.numbers.items c.if-hyp.numbers.items w.floating_at-is w.essential_at-is
+          w.put_item-else-hyp.new.numbers.items c.if-hyp.numbers.items w.floating_at-is w.essential_at-is
           (ap (λ v. v.items) w.numbers-is)
           (woven_essential c.args.hyps.now c.args.floating.now c.args.essential.now c.loop-hyp.hyp-index c.loop-hyp.floating_at
-              c.loop-hyp.essential_at c.hyp-item.result c.loop-hyp.numbers.items w.put_item-else-hyp.new.numbers.items
+          c.loop-hyp.essential_at c.hyp-item.result c.loop-hyp.numbers.items w.put_item-else-hyp.new.numbers.items
           c.loop-hyp-test.true c.hyp-item.is w.if-hyp.false w.in_ok-put_item-2.ensures c.loop-hyp.invariant)
     ]
 
 pub returns : goal.returns
 returns c =
     woven_done c.args.hyps.now c.args.floating.now c.args.essential.now c.loop-hyp.hyp-index c.loop-hyp.floating_at c.loop-hyp.essential_at
-        c.loop-hyp.numbers.items c.loop-hyp-test.false c.loop-hyp.invariant
+    c.loop-hyp.numbers.items c.loop-hyp-test.false c.loop-hyp.invariant

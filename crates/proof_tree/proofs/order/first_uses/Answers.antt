@@ -16,7 +16,7 @@ pub loop-part-preserved-in-Continue-branch-2 : goal.loop-part-preserved-in-Conti
 loop-part-preserved-in-Continue-branch-2 c =
     let last : c.loop-part.pending.items ≡ c.pop.new.self.items ++ part.Proof c.in-Proof.number ∷ [] = c.in-Some.ensures.items ∙ ap (λ p. c.pop.new.self.items ++ p ∷ []) c.in-Proof.is in
     visiting_proof c.args.nodes.now c.requires c.loop-part.pending.items c.pop.new.self.items c.open.new.pending.items c.in-Proof.number
-        c.loop-part.order.keys last c.in_ok-open-in-Proof.ensures c.loop-part.invariant
+    c.loop-part.order.keys last c.in_ok-open-in-Proof.ensures c.loop-part.invariant
 
 pub loop-part-smaller : goal.loop-part-smaller
 loop-part-smaller c =

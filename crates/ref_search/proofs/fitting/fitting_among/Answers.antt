@@ -17,10 +17,10 @@ does_fit-requires-clause-candidate c =
 pub loop-label-preserved : goal.loop-label-preserved
 loop-label-preserved c = λ kinds text opened.
     label_looked_at (book kinds text c.args.db.now)
-        (option_copied c.args.given) c.args.wanted.now c.args.bound c.args.labels.now c.loop-label.label-index
-        (record { 0 = 0 }) c.loop-label.fitting.items
+    (option_copied c.args.given) c.args.wanted.now c.args.bound c.args.labels.now c.loop-label.label-index
+    (record { 0 = 0 }) c.loop-label.fitting.items
     (c.loop-label.invariant kinds text opened) c.loop-label-test.true c.if-label-bound.false c.in_ok-fits.fits
-        (c.in_ok-fits.ensures kinds text opened) c.push_if.new.labels.items c.in_ok-push_if.ensures
+    (c.in_ok-fits.ensures kinds text opened) c.push_if.new.labels.items c.in_ok-push_if.ensures
 
 pub returns : goal.returns
 returns c = λ kinds text opened.

@@ -8,7 +8,7 @@ use Rattle.ref_search.proofs.matching.+matches.Goals as goal
 pub returns-in_default : goal.returns-in_default
 returns-in_default t c closed =
     no_node c.args.vars.now c.args.bindings.now.items c.args.pattern.now c.args.tree.now c.in-Node.label c.in-Node.code c.in-Node.children
-        c.in-Node.is c.in_default.not-Node
+    c.in-Node.is c.in_default.not-Node
 
 pub returns-then-ne : goal.returns-then-ne
 returns-then-ne t c closed =
@@ -32,10 +32,10 @@ returns-then-not-branch t c closed =
     c.in-Node-tree.other_code c.as_slice-parts.result.now c.as_slice-other_parts.result.now (rw c.as_slice-parts.ensures c.in-Node.is) (rw c.as_slice-other_parts.ensures c.in-Node-tree.is)
     c.matches.new.bindings.items c.loop-i.i c.index-parts-i.result c.index-other_parts-i.result c.loop-i-test.true c.if-parts-other_parts.false c.index-parts-i.is c.index-other_parts-i.is
     (c.loop-i.invariant closed)
-        (subst
-            (λ b. IsMatched c.args.vars.now
-                (Becomes c.index-parts-i.result
-                    c.index-other_parts-i.result) c.loop-i.bindings.items c.matches.new.bindings.items b) c.if-not-branch.true
+    (subst
+    (λ b. IsMatched c.args.vars.now
+    (Becomes c.index-parts-i.result
+    c.index-other_parts-i.result) c.loop-i.bindings.items c.matches.new.bindings.items b) c.if-not-branch.true
     (c.in_ok-matches-in-Node.ensures (ground_part c.args.tree.now c.in-Node-tree.other_label c.in-Node-tree.other_code c.as_slice-other_parts.result.now c.loop-i.i c.index-other_parts-i.result
     (rw c.as_slice-other_parts.ensures c.in-Node-tree.is) closed (omega (arith, c.if-parts-other_parts.false, c.loop-i-test.true)) c.index-other_parts-i.is)))
 
@@ -50,7 +50,7 @@ loop-i-preserved t c closed =
 pub returns-in-Var : goal.returns-in-Var
 returns-in-Var t c =
     Ok-matched c.args.vars.now c.args.bindings.now.items c.bind.new.bindings.items c.args.pattern.now c.args.tree.now c.in-Var.symbol c.in-Var.field-1
-        c.in-Var.is c.bind.result c.bind.ensures
+    c.in-Var.is c.bind.result c.bind.ensures
 
 pub returns-in-Work : goal.returns-in-Work
 returns-in-Work t c closed =

@@ -13,7 +13,7 @@ pub returns-in_ok-push-in-None : goal.returns-in_ok-push-in-None
 returns-in_ok-push-in-None c closed =
     subst (λ bs. IsMatched c.args.vars.now (IsValue c.args.symbol c.args.tree.now) c.args.bindings.now.items bs true) (sym c.in_ok-push-in-None.ensures.items)
     (new_matched c.args.vars.now c.args.bindings.now.items c.args.symbol c.args.tree
-        (ap (λ bs. bound_to bs c.args.symbol) (sym c.as_slice.ensures.value) ∙ sym c.bound.ensures ∙ ap option_copied c.in-None.is)
+    (ap (λ bs. bound_to bs c.args.symbol) (sym c.as_slice.ensures.value) ∙ sym c.bound.ensures ∙ ap option_copied c.in-None.is)
     (sym c.is_variable.ensures ∙ c.if-is_variable.true))
 
 pub returns-else-is_variable : goal.returns-else-is_variable

@@ -8,7 +8,7 @@ use Rattle.ref_search.proofs.searching.fit_label.Goals as goal
 pub returns-in-None-clause-first : goal.returns-in-None-clause-first
 returns-in-None-clause-first c = λ kinds text opened.
     frame_none kinds text c.args.db.now opened (option_copied c.args.given) c.args.wanted.now c.args.label c.frame_of.result c.in-None.is
-        (told c.args.db.now c.args.label c.frames.result.now (option_copied c.frame_of.result) c.frames.ensures c.frame_of.ensures)
+    (told c.args.db.now c.args.label c.frames.result.now (option_copied c.frame_of.result) c.frames.ensures c.frame_of.ensures)
 
 pub returns-in-Some-clause-first : goal.returns-in-Some-clause-first
 returns-in-Some-clause-first c =
@@ -16,8 +16,8 @@ returns-in-Some-clause-first c =
     let kept = c.requires.candidate.1 in
     frame_some c.frames_are_whole.ensures c.args.db.now (option_copied c.args.given) c.args.wanted.now c.args.label p kept c.frame_of.result c.in-Some.frame c.in-Some.is
     (told c.args.db.now c.args.label c.frames.result.now
-        (option_copied c.frame_of.result) c.frames.ensures c.frame_of.ensures) c.vars.result.now c.tree.result.now c.hyp_trees.result.now
-        (c.vars.ensures p kept) (c.tree.ensures p kept) (c.hyp_trees.ensures p kept)
+    (option_copied c.frame_of.result) c.frames.ensures c.frame_of.ensures) c.vars.result.now c.tree.result.now c.hyp_trees.result.now
+    (c.vars.ensures p kept) (c.tree.ensures p kept) (c.hyp_trees.ensures p kept)
     c.fit_to.result c.fit_to.ensures.fit
 
 pub returns-in-Some-clause-sound : goal.returns-in-Some-clause-sound

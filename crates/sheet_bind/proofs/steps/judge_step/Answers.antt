@@ -46,5 +46,5 @@ returns c =
     ∙ ap (λ (e : Contents). earlier a (option_map (fault t.line) (first_true (word_tests e g.provable g.theorem g.setting c.args.hyps.now c.in_ok-known.known t)))) c.frames-frames.ensures
     ∙ ap (λ (k : Bool). earlier a (option_map (fault t.line) (first_true (word_tests g.opened.contents g.provable g.theorem g.setting c.args.hyps.now k t)))) known in
     IfOk-weaker c.judge_tree.result (λ (r : StepJudged). IsTreeJudged (IsTreeIn g t) t.line b (option_map found r.first) r.tree)
-        (λ (r : StepJudged). IsStepJudged g c.args.hyps.now t a (option_map found r.first) r.tree)
+    (λ (r : StepJudged). IsStepJudged g c.args.hyps.now t a (option_map found r.first) r.tree)
     (λ r x. asks_tree g c.args.hyps.now t a b (option_map found r.first) r.tree words (sym (c.if-not-asks_for_tree.ensures ∙ ap (λ (k : Bool). asks g.provable k t) known)) x) c.judge_tree.ensures

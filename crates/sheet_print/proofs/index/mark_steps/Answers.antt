@@ -11,18 +11,20 @@ overflow_add-number c = omega (arith, steps_before c.args.items.now c.loop-place
 
 pub loop-place-preserved : goal.loop-place-preserved
 loop-place-preserved c = elim c.match-item.branch [
-  | in-Comment w ↦ rw (w.number-is, w.marks-is)
-      (comment_counted c.args.items.now c.loop-place.place c.index-items-place.result _ c.loop-place.number c.loop-place-test.true
-          c.index-items-place.is w.in-Comment.is c.loop-place.invariant.0,
-          c.loop-place.invariant.1)
+  | in-Comment w ↦ rw (w.number-is, w.marks-is) (
+    comment_counted c.args.items.now c.loop-place.place c.index-items-place.result _ c.loop-place.number c.loop-place-test.true
+        c.index-items-place.is w.in-Comment.is c.loop-place.invariant.0,
+    c.loop-place.invariant.1,
+  )
   | in-Step w ↦ let count =
       step_counted c.args.items.now c.loop-place.place c.index-items-place.result _ c.loop-place.number c.loop-place-test.true c.index-items-place.is
-          w.in-Step.is c.loop-place.invariant.0 in
+      w.in-Step.is c.loop-place.invariant.0 in
       elim w.if-number-stride-eq0.branch [
-        | then-number-stride-eq0 v ↦ rw (w.number-is, w.marks-is, v.marks-is)
-            (count,
-                marked c.args.items.now c.loop-place.marks _ _ _ c.loop-place.invariant.1
-                    (below c.loop-place-test.true, sym c.loop-place.invariant.0) v.note.ensures)
+        | then-number-stride-eq0 v ↦ rw (w.number-is, w.marks-is, v.marks-is) (
+          count,
+          marked c.args.items.now c.loop-place.marks _ _ _ c.loop-place.invariant.1
+              (below c.loop-place-test.true, sym c.loop-place.invariant.0) v.note.ensures,
+        )
         | else-number-stride-eq0 v ↦ rw (w.number-is, w.marks-is, v.marks-is) (count, c.loop-place.invariant.1)
       ]
 ]

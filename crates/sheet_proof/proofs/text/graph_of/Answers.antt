@@ -41,8 +41,8 @@ returns c =
     IfOk-weaker c.build.result (Proves d c.as_slice.result.now c.as_slice-2.result.now (c.in-Ok.count - 1)) (IsGraphOf d c.args.theorem.now es)
     (λ nodes p kinds text opened.
     p kinds text es opened
-        (subst (StandFor (book kinds text d) es) (sym (c.as_slice-2.ensures.value ∙ c.in_ok-steps.ensures))
-            (stand_for d c.args.items c.requires.sound c.requires.provable kinds text opened))
+    (subst (StandFor (book kinds text d) es) (sym (c.as_slice-2.ensures.value ∙ c.in_ok-steps.ensures))
+    (stand_for d c.args.items c.requires.sound c.requires.provable kinds text opened))
     ∙ ap (λ hyps. place_proof (step_proofs (book kinds text d) hyps es) (place.Step (c.in-Ok.count - 1))) c.as_slice.ensures
     ∙ last_is (book kinds text d) c.args.theorem.now es c.requires.provable.front c.requires.provable.last (c.in-Ok.count - 1) c.requires.provable.whole root.0)
     c.build.ensures

@@ -6,5 +6,5 @@ use Rattle.sheet_read.proofs.forms.split_at_commas.Goals as goal
 pub returns : goal.returns
 returns c =
     map_from_collect _ c.collect.ensures.ran
-        (YieldsList-from_slice_split _ (λ b. eqb b 44) c.args.bytes.now c.split.ensures.rest c.split.ensures.done c.split.ensures.closure
-            (λ x b q k. search (rules, tests)))
+    (YieldsList-from_slice_split _ (λ b. eqb b 44) c.args.bytes.now c.split.ensures.rest c.split.ensures.done c.split.ensures.closure
+    (λ x b q k. search (rules, tests)))

@@ -7,5 +7,5 @@ use Rattle.sheet_read.proofs.lines.lines_not_blank.Goals as goal
 pub loop-line-init : goal.loop-line-init
 loop-line-init c =
     keeps-first (lines_in c.new-lines.result.items) c.into_iter-line-iterator.result c.args.text.now
-        (ap (λ (ls : List TextLine). lines_in ls) c.new-lines.ensures.items)
-        (c.into_iter-line-iterator.ensures.into_iter_gives ∙ c.lines_with_terminator-line-items.ensures.value)
+    (ap (λ (ls : List TextLine). lines_in ls) c.new-lines.ensures.items)
+    (c.into_iter-line-iterator.ensures.into_iter_gives ∙ c.lines_with_terminator-line-items.ensures.value)

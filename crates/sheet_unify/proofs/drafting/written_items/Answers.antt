@@ -13,11 +13,11 @@ pub returns-in-Ok-found_items-clause-sound : goal.returns-in-Ok-found_items-clau
 returns-in-Ok-found_items-clause-sound c =
     let t = c.requires.texts in
     sound_draft c.has_database_facts.ensures c.mandatory_variables_stand.ensures c.frames_have_own_expressions.ensures c.args.options.now.kinds
-        t.database t.text c.args.db.now c.args.sheet.now c.args.bound.now t.opened
+    t.database t.text c.args.db.now c.args.sheet.now c.args.bound.now t.opened
     c.in-Ok.filled (c.in-Ok.ensures.filled t.database t.text t.opened t.bound_sheet) c.args.options.now.dv c.in-Ok-found_items.items c.in-Ok-found_items.ensures
 
 pub returns-in-Ok-found_items-clause-drafted : goal.returns-in-Ok-found_items-clause-drafted
 returns-in-Ok-found_items-clause-drafted c = λ database text opened bound_sheet.
     is_draft c.has_database_facts.ensures c.mandatory_variables_stand.ensures c.frames_have_own_expressions.ensures c.args.options.now.kinds database
-        text c.args.db.now c.args.sheet.now c.args.bound.now opened
+    text c.args.db.now c.args.sheet.now c.args.bound.now opened
     c.in-Ok.filled (c.in-Ok.ensures.filled database text opened bound_sheet) c.args.options.now c.in-Ok-found_items.items c.in-Ok-found_items.ensures

@@ -9,9 +9,9 @@ pub returns-in-Ok-written_proof-clause-proof : goal.returns-in-Ok-written_proof-
 returns-in-Ok-written_proof-clause-proof c =
     let d = c.args.db.now in
     proof_fits d c.args.options.now c.args.written.now
-        (steps_in
-            (items_in d
-                c.args.items)) c.in-Ok.theorem c.in-Ok.ensures c.in-Ok-written_proof.proof c.in-Ok-written_proof.ensures.text c.in-Ok-written_proof.ensures.few
+    (steps_in
+    (items_in d
+    c.args.items)) c.in-Ok.theorem c.in-Ok.ensures c.in-Ok-written_proof.proof c.in-Ok-written_proof.ensures.text c.in-Ok-written_proof.ensures.few
 
 pub returns-clause-fault : goal.returns-clause-fault
 returns-clause-fault c =

@@ -20,20 +20,20 @@ text_of-requires-clause-provable c =
     let t = c.requires.texts in
     provable c.args.db.now c.args.options.now c.args.sheet.now c.args.bound.now c.args.items t.database t.text t.opened t.bound_sheet (c.requires.drafted t.database t.text t.opened t.bound_sheet)
     c.in-Ok.report c.in-Ok.finished
-        (reported_of c.args.db.now c.args.options.now c.args.bound.now c.as_slice.result.now c.args.items c.in-Ok.report c.in-Ok.finished
-            c.as_slice.ensures c.in-Ok.ensures)
+    (reported_of c.args.db.now c.args.options.now c.args.bound.now c.as_slice.result.now c.args.items c.in-Ok.report c.in-Ok.finished
+    c.as_slice.ensures c.in-Ok.ensures)
 
 pub returns-in-Ok-text_of-clause-outcome : goal.returns-in-Ok-text_of-clause-outcome
 returns-in-Ok-text_of-clause-outcome c = λ database text opened bound_sheet.
     outcome_answered c.args.db.now c.args.options.now c.args.sheet.now c.args.bound.now c.args.items database text opened bound_sheet
     (c.requires.drafted database text opened bound_sheet) c.in-Ok.report c.in-Ok.finished
-        (reported_of c.args.db.now c.args.options.now c.args.bound.now c.as_slice.result.now c.args.items c.in-Ok.report c.in-Ok.finished
-            c.as_slice.ensures c.in-Ok.ensures)
+    (reported_of c.args.db.now c.args.options.now c.args.bound.now c.as_slice.result.now c.args.items c.in-Ok.report c.in-Ok.finished
+    c.as_slice.ensures c.in-Ok.ensures)
     (c.answer_is_fixed.ensures (book c.args.options.now.kinds database c.args.db.now) text c.args.options.now) c.in-Ok-text_of.text c.requires.checked c.in-Ok-text_of.ensures.text
 
 pub returns-in-Err-text_of-clause-fault : goal.returns-in-Err-text_of-clause-fault
 returns-in-Err-text_of-clause-fault c = λ database text opened bound_sheet.
     fault_answered c.args.db.now c.args.options.now c.args.sheet.now c.args.bound.now c.args.items database text opened bound_sheet
     (c.requires.drafted database text opened bound_sheet) c.in-Ok.report c.in-Ok.finished
-        (reported_of c.args.db.now c.args.options.now c.args.bound.now c.as_slice.result.now c.args.items c.in-Ok.report c.in-Ok.finished
-            c.as_slice.ensures c.in-Ok.ensures) c.in-Err-text_of.fault c.requires.checked c.in-Err-text_of.ensures.fault
+    (reported_of c.args.db.now c.args.options.now c.args.bound.now c.as_slice.result.now c.args.items c.in-Ok.report c.in-Ok.finished
+    c.as_slice.ensures c.in-Ok.ensures) c.in-Err-text_of.fault c.requires.checked c.in-Err-text_of.ensures.fault

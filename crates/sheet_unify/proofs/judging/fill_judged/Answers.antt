@@ -27,7 +27,7 @@ returns-in-Err-TooLong-clause-fault c =
     let counts = c.bound_is_counted.ensures in
     let long = c.long_is_first.ensures in
     refused_by h c.args.sheet.now c.chain_tells.ensures counts.counted counts.short c.fronts_are_counted.ensures long.first long.short
-        c.long_formula_is_answered.ensures c.in-Err-TooLong.name c.in-Err-TooLong.tokens
+    c.long_formula_is_answered.ensures c.in-Err-TooLong.name c.in-Err-TooLong.tokens
     (subst (IsFillFault h c.args.sheet.now) c.in-Err-TooLong.field-0-is c.in-Err-TooLong.ensures.fault)
 
 pub unreachable-requires : goal.unreachable-requires

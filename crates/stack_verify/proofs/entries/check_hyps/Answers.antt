@@ -9,20 +9,21 @@ pub returns-in_err-check_hyp-clause-fault : goal.returns-in_err-check_hyp-clause
 returns-in_err-check_hyp-clause-fault c =
     let hyps = c.args.hyps.now in let symbols = c.args.symbols.now in let spans = c.args.spans.now in
     let here =
-        entry_at hyps symbols spans c.loop-place.place c.index-hyps-place.result c.formula_in-found.result.now _ c.requires.each
-            c.loop-place-test.true c.index-hyps-place.is c.formula_in-found.ensures in
+    entry_at hyps symbols spans c.loop-place.place c.index-hyps-place.result c.formula_in-found.result.now _ c.requires.each
+    c.loop-place-test.true c.index-hyps-place.is c.formula_in-found.ensures in
     let p = err_from_is_err_and c.from_residual.result c.from_residual.ensures.1 in
     rw (p.1, p.2)
-        (hyp_faulty (entries_of hyps symbols spans) c.loop-place.place
-            (c.index-hyps-place.result,
-                c.formula_in-found.result.now) c.in_err-check_hyp.field-0.0 here c.loop-place.invariant c.in_err-check_hyp.ensures.fault)
+    (hyp_faulty (entries_of hyps symbols spans) c.loop-place.place (
+      c.index-hyps-place.result,
+      c.formula_in-found.result.now,
+    ) c.in_err-check_hyp.field-0.0 here c.loop-place.invariant c.in_err-check_hyp.ensures.fault)
 
 pub loop-place-preserved : goal.loop-place-preserved
 loop-place-preserved c =
     let hyps = c.args.hyps.now in let symbols = c.args.symbols.now in let spans = c.args.spans.now in
     let here =
-        entry_at hyps symbols spans c.loop-place.place c.index-hyps-place.result c.formula_in-found.result.now _ c.requires.each
-            c.loop-place-test.true c.index-hyps-place.is c.formula_in-found.ensures in
+    entry_at hyps symbols spans c.loop-place.place c.index-hyps-place.result c.formula_in-found.result.now _ c.requires.each
+    c.loop-place-test.true c.index-hyps-place.is c.formula_in-found.ensures in
     let es = entries_of hyps symbols spans in
     next_more (differs_in_formula es) es c.loop-place.place (c.index-hyps-place.result, c.formula_in-found.result.now) here c.in_ok-check_hyp.ensures.fine c.loop-place.invariant
 

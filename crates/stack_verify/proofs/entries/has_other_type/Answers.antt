@@ -9,14 +9,14 @@ returns-then-differs_in_type c =
     let hyps = c.args.hyps.now in let symbols = c.args.symbols.now in let spans = c.args.spans.now in
     let here = entry_at hyps symbols spans c.loop-place.place c.index-hyps-place.result c.formula_in.result.now _ c.requires.each c.loop-place-test.true c.index-hyps-place.is c.formula_in.ensures in
     found_some differs_in_type (entries_of hyps symbols spans) c.loop-place.place (c.index-hyps-place.result, c.formula_in.result.now) here
-        (sym c.differs_in_type.ensures ∙ c.if-differs_in_type.true) c.loop-place.invariant
+    (sym c.differs_in_type.ensures ∙ c.if-differs_in_type.true) c.loop-place.invariant
 
 pub loop-place-preserved : goal.loop-place-preserved
 loop-place-preserved c =
     let hyps = c.args.hyps.now in let symbols = c.args.symbols.now in let spans = c.args.spans.now in
     let here = entry_at hyps symbols spans c.loop-place.place c.index-hyps-place.result c.formula_in.result.now _ c.requires.each c.loop-place-test.true c.index-hyps-place.is c.formula_in.ensures in
     next_more differs_in_type (entries_of hyps symbols spans) c.loop-place.place (c.index-hyps-place.result, c.formula_in.result.now) here
-        (sym c.differs_in_type.ensures ∙ c.if-differs_in_type.false) c.loop-place.invariant
+    (sym c.differs_in_type.ensures ∙ c.if-differs_in_type.false) c.loop-place.invariant
 
 pub returns : goal.returns
 returns c =

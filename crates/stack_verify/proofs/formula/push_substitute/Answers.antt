@@ -7,9 +7,9 @@ pub returns-in_ok-push-in-None : goal.returns-in_ok-push-in-None
 returns-in_ok-push-in-None c =
     c.in_ok-push-in-None.ensures.items
     ∙ ap (λ (x : List Sym). c.args.out.now.items ++ x)
-        (sym
-            (stands_for_itself c.args.hyps.now c.args.symbols.now c.args.spans.now c.args.symbol c.requires.each
-                (sym c.find_float.ensures ∙ c.in-None.is)))
+    (sym
+    (stands_for_itself c.args.hyps.now c.args.symbols.now c.args.spans.now c.args.symbol c.requires.each
+    (sym c.find_float.ensures ∙ c.in-None.is)))
 
 pub returns-in_ok-extend_from_slice-in-Some : goal.returns-in_ok-extend_from_slice-in-Some
 returns-in_ok-extend_from_slice-in-Some c =

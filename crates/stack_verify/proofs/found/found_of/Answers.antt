@@ -12,9 +12,9 @@ returns-in-None-frame c = λ frames label h f. no_frame frames c.args.theorem.no
 pub returns-then-frame-theorem : goal.returns-then-frame-theorem
 returns-then-frame-theorem c =
     λ frames label h f. frame_found frames c.args.theorem.now label c.in-Some-frame.frame (sym c.in-None.is ∙ h)
-        (ap option_copied (sym c.in-Some-frame.is) ∙ f) c.if-frame-theorem.true
+    (ap option_copied (sym c.in-Some-frame.is) ∙ f) c.if-frame-theorem.true
 
 pub returns-else-frame-theorem : goal.returns-else-frame-theorem
 returns-else-frame-theorem c =
     λ frames label h f. late_frame frames c.args.theorem.now label c.in-Some-frame.frame.now (sym c.in-None.is ∙ h)
-        (ap option_copied (sym c.in-Some-frame.is) ∙ f) c.if-frame-theorem.false
+    (ap option_copied (sym c.in-Some-frame.is) ∙ f) c.if-frame-theorem.false

@@ -15,8 +15,8 @@ returns-in-Some-clause-others c = name_there c.args.others.now c.args.name.now c
 pub returns-in-Some-clause-step : goal.returns-in-Some-clause-step
 returns-in-Some-clause-step c =
     c.unmarked.ensures
-        ∙ ap (λ (n : ℕ). step (what.Listed n) false)
-            (sym (number_is c.args.others.now c.args.name.now c.in-Some.number (sym c.number.ensures ∙ c.in-Some.is)))
+    ∙ ap (λ (n : ℕ). step (what.Listed n) false)
+    (sym (number_is c.args.others.now c.args.name.now c.in-Some.number (sym c.number.ensures ∙ c.in-Some.is)))
 
 pub returns-in_ok-number-in-None-clause-others : goal.returns-in_ok-number-in-None-clause-others
 returns-in_ok-number-in-None-clause-others c = name_new c.args.others.now c.add.new.self c.args.name.now (sym c.number.ensures ∙ c.in-None.is) c.in_ok-number-in-None.ensures.added

@@ -8,25 +8,25 @@ use Rattle.step_chain.proofs.candidate.accept.Goals as goal
 pub returns-in-None-clause-taken : goal.returns-in-None-clause-taken
 returns-in-None-clause-taken c =
     taken_none c.args.db.now c.args.label c.frame_of-frame.result.now c.tree.result.now c.as_slice-2.result.now c.frame_of-frame.ensures
-        c.tree.ensures
-        (λ p e. subst (λ ts. ts ≡ p.hyps) (sym c.as_slice-2.ensures) (c.hyp_trees.ensures p e))
+    c.tree.ensures
+    (λ p e. subst (λ ts. ts ≡ p.hyps) (sym c.as_slice-2.ensures) (c.hyp_trees.ensures p e))
     c.grammar.result.now c.as_slice.result.now c.args.formulas.now c.args.formula c.args.places.now c.args.arena.now c.take.new.arena c.grammar.ensures c.as_slice.ensures
     (subst
-        (λ (r : Option
-            (List
-                ℕ)). IsTaken c.grammar.result.now c.as_slice.result.now c.tree.result.now c.as_slice-2.result.now c.args.formulas.now c.args.formula c.args.places.now c.args.arena.now c.take.new.arena r) c.in-None.is c.in_ok-nodes.ensures.taken)
+    (λ (r : Option
+    (List
+    ℕ)). IsTaken c.grammar.result.now c.as_slice.result.now c.tree.result.now c.as_slice-2.result.now c.args.formulas.now c.args.formula c.args.places.now c.args.arena.now c.take.new.arena r) c.in-None.is c.in_ok-nodes.ensures.taken)
 
 pub returns-in-Some-clause-taken : goal.returns-in-Some-clause-taken
 returns-in-Some-clause-taken c =
     taken_some c.args.db.now c.args.label c.frame_of-frame.result.now c.tree.result.now c.as_slice-2.result.now c.frame_of-frame.ensures
-        c.tree.ensures
-        (λ p e. subst (λ ts. ts ≡ p.hyps) (sym c.as_slice-2.ensures) (c.hyp_trees.ensures p e))
+    c.tree.ensures
+    (λ p e. subst (λ ts. ts ≡ p.hyps) (sym c.as_slice-2.ensures) (c.hyp_trees.ensures p e))
     c.grammar.result.now c.as_slice.result.now c.args.formulas.now c.args.formula c.args.places.now c.args.arena.now c.take.new.arena c.grammar.ensures c.as_slice.ensures
     c.kept_of.result c.in-Some.order c.in_ok-nodes.nodes.hyps.items c.in_ok-nodes.nodes.variables.items c.kept_of.ensures c.in_ok-nodes.ensures.variables c.in_ok-nodes.ensures.hyps
     (subst
-        (λ (r : Option
-            (List
-                ℕ)). IsTaken c.grammar.result.now c.as_slice.result.now c.tree.result.now c.as_slice-2.result.now c.args.formulas.now c.args.formula c.args.places.now c.args.arena.now c.take.new.arena r) c.in-Some.is c.in_ok-nodes.ensures.taken)
+    (λ (r : Option
+    (List
+    ℕ)). IsTaken c.grammar.result.now c.as_slice.result.now c.tree.result.now c.as_slice-2.result.now c.args.formulas.now c.args.formula c.args.places.now c.args.arena.now c.take.new.arena r) c.in-Some.is c.in_ok-nodes.ensures.taken)
 
 pub returns-in-Some-clause-kept_in : goal.returns-in-Some-clause-kept_in
 returns-in-Some-clause-kept_in c =

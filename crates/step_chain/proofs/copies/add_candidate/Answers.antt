@@ -37,7 +37,7 @@ returns-clause-root c =
     root_is rows nodes hyps c.args.tree.now c.args.trees.now c.deref-2.result.now c.add_copies.new.arena.nodes c.add_tree.new.arena.nodes c.in_ok-root.root two
     (copied_is rows nodes hyps c.args.tree.now c.args.trees.now c.deref.result.now c.add_copies.new.arena.nodes one c.in_ok-add_copies.ensures.nodes)
     (without_works rows c.new-works.result c.deref-2.result.now c.args.tree.now c.add_copies.new.arena.nodes c.add_tree.new.arena.nodes
-        c.in_ok-root.root c.new-works.ensures c.in_ok-root.ensures.added)
+    c.in_ok-root.root c.new-works.ensures c.in_ok-root.ensures.added)
 
 pub returns-clause-hyps : goal.returns-clause-hyps
 returns-clause-hyps c =
@@ -49,12 +49,12 @@ returns-clause-hyps c =
     let two = table_is rows nodes hyps c.args.tree.now c.args.trees.now c.count.result items c.deref-2.result.now c.count.ensures.count c.in_ok-variables.ensures c.deref-2.ensures.value in
     let three = table_is rows nodes hyps c.args.tree.now c.args.trees.now c.count.result items c.deref-3.result.now c.count.ensures.count c.in_ok-variables.ensures c.deref-3.ensures.value in
     roots_are rows nodes hyps c.args.tree.now c.args.trees.now c.deref-2.result.now c.deref-3.result.now c.add_copies.new.arena.nodes
-        c.add_tree.new.arena.nodes c.add_trees.new.arena.nodes c.in_ok-root.root c.in_ok-hyps.hyps.items two three
+    c.add_tree.new.arena.nodes c.add_trees.new.arena.nodes c.in_ok-root.root c.in_ok-hyps.hyps.items two three
     (copied_is rows nodes hyps c.args.tree.now c.args.trees.now c.deref.result.now c.add_copies.new.arena.nodes one c.in_ok-add_copies.ensures.nodes)
     (without_works rows c.new-works.result c.deref-2.result.now c.args.tree.now c.add_copies.new.arena.nodes c.add_tree.new.arena.nodes
-        c.in_ok-root.root c.new-works.ensures c.in_ok-root.ensures.added)
+    c.in_ok-root.root c.new-works.ensures c.in_ok-root.ensures.added)
     (all_without_works rows c.new-works.result c.deref-3.result.now c.args.trees.now c.add_tree.new.arena.nodes c.add_trees.new.arena.nodes
-        c.in_ok-hyps.hyps.items c.new-works.ensures c.in_ok-hyps.ensures.listed)
+    c.in_ok-hyps.hyps.items c.new-works.ensures c.in_ok-hyps.ensures.listed)
 
 pub returns-clause-grows : goal.returns-clause-grows
 returns-clause-grows c =

@@ -9,7 +9,7 @@ loop-tree-preserved c =
     record {
       listed =
           listed_more c.args.grammar.now c.args.works.now c.args.variables.now c.args.arena.now.nodes c.loop-tree.arena c.add_tree.new.arena
-              c.args.trees.now c.loop-tree.tree-index c.tree-item.result c.loop-tree.ids.items c.push.new.self.items c.in_ok-id.id
+          c.args.trees.now c.loop-tree.tree-index c.tree-item.result c.loop-tree.ids.items c.push.new.self.items c.in_ok-id.id
           c.loop-tree.invariant.listed c.in_ok-id.ensures.added c.tree-item.is c.loop-tree-test.true c.in_ok-push.ensures.items;
       grown = grown_more c.args.arena.now c.loop-tree.arena c.add_tree.new.arena c.loop-tree.invariant.grown c.in_ok-id.ensures.grows;
       works_in = works_in_more _ _ _ longer c.loop-tree.invariant.works_in;

@@ -12,7 +12,7 @@ returns-in-Var-clause-begun t c = ap (with_leaves (begun c.args.arena.now c.args
 pub returns-in-Work-clause-begun : goal.returns-in-Work-clause-begun
 returns-in-Work-clause-begun t c =
     ok_leaves c.add_work.result (begun c.args.arena.now c.args.works.now) (begun c.add_work.new.arena c.add_work.new.works) _ _
-        (sym (ap open_leaves c.in-Work.is ∙ open_leaves-Work c.in-Work.code c.in-Work.number)) c.add_work.ensures.begun
+    (sym (ap open_leaves c.in-Work.is ∙ open_leaves-Work c.in-Work.code c.in-Work.number)) c.add_work.ensures.begun
 
 pub returns-in-Fresh-clause-begun : goal.returns-in-Fresh-clause-begun
 returns-in-Fresh-clause-begun t c = ap (with_leaves (begun c.args.arena.now c.args.works.now)) (sym (ap open_leaves c.in-Fresh.is ∙ open_leaves-Fresh c.in-Fresh.field-0 c.in-Fresh.field-1))
@@ -21,7 +21,7 @@ pub loop-child-preserved : goal.loop-child-preserved
 loop-child-preserved t c = record {
   is_begun =
       tree_more (begun c.args.arena.now c.args.works.now) c.as_slice-child-items.result.now c.loop-child.child-index c.child-item.result
-          (begun c.loop-child.arena c.loop-child.works) (begun c.add_works.new.arena c.add_works.new.works)
+      (begun c.loop-child.arena c.loop-child.works) (begun c.add_works.new.arena c.add_works.new.works)
       c.loop-child-test.true c.child-item.is c.loop-child.invariant.is_begun c.in_ok-add_works-in-Node.ensures.begun;
   grown = grown_more c.args.arena.now c.loop-child.arena c.add_works.new.arena c.loop-child.invariant.grown c.in_ok-add_works-in-Node.ensures.grows;
 }

@@ -10,7 +10,7 @@ loop-k-preserved c =
     record {
       listed =
           formula_more c.args.grammar.now c.args.works.now c.args.logic c.args.arena.now.nodes c.loop-k.arena c.add_formula.new.arena
-              c.args.blanks.now c.args.steps.now c.loop-k.k c.index-steps-k.result c.loop-k.ids.items c.push.new.self.items c.in_ok-id.id
+          c.args.blanks.now c.args.steps.now c.loop-k.k c.index-steps-k.result c.loop-k.ids.items c.push.new.self.items c.in_ok-id.id
           (omega (arith, c.requires.count, c.loop-k-test.true)) c.loop-k-test.true c.loop-k.invariant.listed c.in_ok-id.ensures.added c.in_ok-push.ensures.items;
       grown = grown_more c.args.arena.now c.loop-k.arena c.add_formula.new.arena c.loop-k.invariant.grown c.in_ok-id.ensures.grows;
       works_in = works_in_more _ _ _ longer c.loop-k.invariant.works_in;

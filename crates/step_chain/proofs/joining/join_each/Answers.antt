@@ -17,13 +17,13 @@ loop-pair-preserved c =
     let kept = c.loop-pair.invariant.kept in
     let more = c.in-Ok.ensures.bindings in
     let all : c.unify.new.arena.links ≡ c.args.arena.now.links ++ (kept.more ++ more.0) =
-        more.1 ∙ ap (λ (ls : List Link). ls ++ more.0) kept.links ∙ append_assoc c.args.arena.now.links kept.more more.0 in
+    more.1 ∙ ap (λ (ls : List Link). ls ++ more.0) kept.links ∙ append_assoc c.args.arena.now.links kept.more more.0 in
     record {
       kept = record { nodes = c.unify.ensures.nodes ∙ kept.nodes; ready = c.unify.ensures.ready ∙ sym c.requires.ready; more = kept.more ++ more.0; links = all };
       solved = c.unify.ensures.solved;
       joined =
           joins_after c.args.arena.now.nodes c.args.arena.now.links c.loop-pair.arena.links pairs k p
-              (same_default pairs k zero_pair p c.loop-pair-test.true) c.loop-pair-test.true c.loop-pair.invariant.joined
+          (same_default pairs k zero_pair p c.loop-pair-test.true) c.loop-pair-test.true c.loop-pair.invariant.joined
           c.loop-pair.arena.nodes c.unify.new.arena.nodes c.unify.new.arena.links kept.nodes (c.unify.ensures.nodes ∙ kept.nodes) c.in-Ok.ensures.solutions;
     }
 
@@ -35,5 +35,5 @@ returns-in-Err-clause-cannot c =
     let p = get_or pairs k zero_pair in
     let kept = c.loop-pair.invariant.kept in
     cannot_after c.args.arena.now.nodes c.args.arena.now.links c.loop-pair.arena.links pairs k p
-        (same_default pairs k zero_pair p c.loop-pair-test.true) c.loop-pair-test.true c.loop-pair.invariant.joined
+    (same_default pairs k zero_pair p c.loop-pair-test.true) c.loop-pair-test.true c.loop-pair.invariant.joined
     c.loop-pair.arena.nodes kept.nodes (λ trees s e. let impossible : false ≡ true = c.in-Err.ensures.fits.1 (trees, s, e) in absurd (cc))

@@ -8,6 +8,6 @@ pub returns-in-Err-TooLong-clause-read : goal.returns-in-Err-TooLong-clause-read
 returns-in-Err-TooLong-clause-read c =
     no_values c.args.trees.now c.args.i c.in-Err-TooLong.field-0-0
     (subst
-        (λ (f : TreeFault). OfAccepted c.args.trees.now c.args.i
-            (λ y. AreRead (constants_of c.args.trees.now) (values_of c.args.trees.now c.args.i y)
-                (Err f))) c.in-Err-TooLong.field-0-is c.in-Err-TooLong.ensures.read)
+    (λ (f : TreeFault). OfAccepted c.args.trees.now c.args.i
+    (λ y. AreRead (constants_of c.args.trees.now) (values_of c.args.trees.now c.args.i y)
+    (Err f))) c.in-Err-TooLong.field-0-is c.in-Err-TooLong.ensures.read)

@@ -15,4 +15,4 @@ returns-in-Err-clause-fault c =
 pub returns-in_ok-put_standing-in-Ok-clause-put : goal.returns-in_ok-put_standing-in-Ok-clause-put
 returns-in_ok-put_standing-in-Ok-clause-put c =
     standing_put c.args.trees.now c.args.i c.args.step.now c.args.verdict c.args.filling.now c.requires.next c.requires.judged
-        c.put_standing.new.filling c.in-Ok.tree c.in-Ok.ensures c.in_ok-put_standing-in-Ok.ensures
+    c.put_standing.new.filling c.in-Ok.tree c.in-Ok.ensures c.in_ok-put_standing-in-Ok.ensures

@@ -17,7 +17,7 @@ pub loop-k-preserved : goal.loop-k-preserved
 loop-k-preserved c =
     let n = c.hyps-k-end.result in
     read_more c.args.trees.now c.args.i c.args.first c.loop-k.k n c.loop-k.found.items
-        (subst (λ (h : Held). OfAccepted h c.args.i (λ y. n ≡ length y.assertion.hyps)) c.chain.ensures c.hyps-k-end.ensures.count) c.loop-k.invariant
+    (subst (λ (h : Held). OfAccepted h c.args.i (λ y. n ≡ length y.assertion.hyps)) c.chain.ensures c.hyps-k-end.ensures.count) c.loop-k.invariant
     c.loop-k-test.true c.push.new.self.items c.in-Ok.tree c.in-Ok.ensures c.in_ok-push-in-Ok.ensures.items
 
 pub returns-in-Err-TooLong : goal.returns-in-Err-TooLong
@@ -25,11 +25,11 @@ returns-in-Err-TooLong c =
     let n = c.hyps-k-end.result in
     let h = c.args.trees.now in
     subst
-        (λ (m : ℕ). OfAccepted h c.args.i
-            (λ y. AreWanted (constants_of h) (wanted_from (value_of h) c.args.i c.args.first y.assertion.hyps) c.loop-k.found.items (Some m)))
-        (sym c.in-Err-TooLong.tokens-is)
+    (λ (m : ℕ). OfAccepted h c.args.i
+    (λ y. AreWanted (constants_of h) (wanted_from (value_of h) c.args.i c.args.first y.assertion.hyps) c.loop-k.found.items (Some m)))
+    (sym c.in-Err-TooLong.tokens-is)
     (read_long h c.args.i c.args.first c.loop-k.k n c.loop-k.found.items
-        (subst (λ (k : Held). OfAccepted k c.args.i (λ y. n ≡ length y.assertion.hyps)) c.chain.ensures c.hyps-k-end.ensures.count) c.loop-k.invariant
+    (subst (λ (k : Held). OfAccepted k c.args.i (λ y. n ≡ length y.assertion.hyps)) c.chain.ensures c.hyps-k-end.ensures.count) c.loop-k.invariant
     c.loop-k-test.true c.in-Err-TooLong.tokens
     (subst (λ (f : TreeFault). OfAccepted h c.args.i (λ y. (e : Tree) → slice_get y.assertion.hyps c.loop-k.k ≡ Some e → IsRead (constants_of h) (instance (value_of h) c.args.i e) (Err f)))
     c.in-Err-TooLong.field-0-is c.in-Err-TooLong.ensures))
@@ -38,5 +38,5 @@ pub returns : goal.returns
 returns c =
     let n = c.hyps-k-end.result in
     read_all c.args.trees.now c.args.i c.args.first c.loop-k.k n c.loop-k.found.items
-        (subst (λ (h : Held). OfAccepted h c.args.i (λ y. n ≡ length y.assertion.hyps)) c.chain.ensures c.hyps-k-end.ensures.count) c.loop-k.invariant
+    (subst (λ (h : Held). OfAccepted h c.args.i (λ y. n ≡ length y.assertion.hyps)) c.chain.ensures c.hyps-k-end.ensures.count) c.loop-k.invariant
     c.loop-k-test.false

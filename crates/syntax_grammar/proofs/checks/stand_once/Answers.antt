@@ -13,6 +13,7 @@ returns-then-stand_first c =
 
 pub returns-else-stand_first : goal.returns-else-stand_first
 returns-else-stand_first c =
-    let order = slot_order c.args.items.now in
-    (λ h. absurd (both_ways c.stand_first.result c.if-stand_first.false h),
-        λ h. absurd (both_ways c.stand_first.result c.if-stand_first.false (c.stand_first.ensures ∙ first_of_once order c.args.slots h)))
+    let order = slot_order c.args.items.now in (
+      λ h. absurd (both_ways c.stand_first.result c.if-stand_first.false h),
+      λ h. absurd (both_ways c.stand_first.result c.if-stand_first.false (c.stand_first.ensures ∙ first_of_once order c.args.slots h)),
+    )

@@ -6,7 +6,7 @@ pub loop-last-init : goal.loop-last-init
 loop-last-init c =
     let terms = c.args.terms.now in
     walk_begins terms.nodes terms.bound c.args.root c.args.walk.now c.open.new.self c.requires.root c.requires.room c.requires.idle c.requires.solved
-        (sym c.is_settled.ensures ∙ c.if-is_settled.false)
+    (sym c.is_settled.ensures ∙ c.if-is_settled.false)
     (ap (λ walk. walk.states) c.open.ensures) (ap (λ walk. walk.path) c.open.ensures)
 
 pub step-requires-clause-last : goal.step-requires-clause-last

@@ -17,12 +17,12 @@ pub loop-child-preserved : goal.loop-child-preserved
 loop-child-preserved c =
     let s = scan_ahead (length c.args.terms.now.nodes) (marks_of c.args.walk.now.states) c.children-child-items.result.now c.loop-child.child-index _ c.loop-child-test.true c.loop-child.invariant in
     scan_next (length c.args.terms.now.nodes) (marks_of c.args.walk.now.states) c.children-child-items.result.now c.loop-child.child-index _ s
-        (sym c.is_settled-in-loop-child.ensures ∙ c.if-not-is_settled.false)
+    (sym c.is_settled-in-loop-child.ensures ∙ c.if-not-is_settled.false)
 
 pub returns : goal.returns
 returns c =
     let free : bound_at c.args.terms.now.bound c.args.node ≡ None = sym c.target.ensures ∙ c.in_default.is in
     rw (free, ← c.children-child-items.ensures)
-        (scanned_all (length c.args.terms.now.nodes)
-            (marks_of
-                c.args.walk.now.states) c.children-child-items.result.now c.loop-child.child-index c.loop-child-test.false c.loop-child.invariant)
+    (scanned_all (length c.args.terms.now.nodes)
+    (marks_of
+    c.args.walk.now.states) c.children-child-items.result.now c.loop-child.child-index c.loop-child-test.false c.loop-child.invariant)

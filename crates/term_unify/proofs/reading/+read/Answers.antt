@@ -18,8 +18,8 @@ loop-k-preserved t c =
 pub returns-in-Var-clause-reads : goal.returns-in-Var-clause-reads
 returns-in-Var-clause-reads t c = λ trees sol.
     read_Var c.args.arena.now.nodes c.args.arena.now.links c.args.id.0 c.follow-end.result.0 c.follow-end.ensures.end c.follow-end.ensures.below trees
-        sol c.in-Var.sym c.in-Var.code
-        (sym c.look.ensures ∙ c.in-Var.is)
+    sol c.in-Var.sym c.in-Var.code
+    (sym c.look.ensures ∙ c.in-Var.is)
 
 pub returns-in-Var-clause-fresh : goal.returns-in-Var-clause-fresh
 returns-in-Var-clause-fresh t c = fresh_Var c.args.arena.now.nodes c.args.arena.now.links c.in-Var.sym c.in-Var.code
@@ -35,8 +35,8 @@ returns-in-Free-clause-fresh t c =
 pub returns-after-loop-k-clause-reads : goal.returns-after-loop-k-clause-reads
 returns-after-loop-k-clause-reads t c = λ trees sol.
     rw c.from_vec.ensures
-        (read_Node c.args.arena.now.nodes c.args.arena.now.links c.args.id.0 c.follow-end.result.0 c.follow-end.ensures.end c.follow-end.ensures.below
-            trees sol c.in-Node.label c.in-Node.code c.in-Node.count c.loop-k.k c.loop-k.trees.items
+    (read_Node c.args.arena.now.nodes c.args.arena.now.links c.args.id.0 c.follow-end.result.0 c.follow-end.ensures.end c.follow-end.ensures.below
+    trees sol c.in-Node.label c.in-Node.code c.in-Node.count c.loop-k.k c.loop-k.trees.items
     (sym c.look.ensures ∙ c.in-Node.is) (omega arith) (c.loop-k.invariant.reads trees sol))
 
 pub returns-after-loop-k-clause-fresh : goal.returns-after-loop-k-clause-fresh

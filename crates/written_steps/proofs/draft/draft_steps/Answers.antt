@@ -10,5 +10,5 @@ loop-item-preserved c = elim c.match-item.branch [
       (sym c.item-item.is ∙ w.in-Step.is) refl c.loop-item.invariant w.in_ok-push.ensures.items)
   | in_default w ↦ rw w.steps-is
       (comment_more c.args.items.now c.loop-item.item-index c.item-item.result c.loop-item.steps.items c.loop-item-test.true
-          (ap step_of (sym c.item-item.is ∙ w.in_default.is)) c.loop-item.invariant)
+      (ap step_of (sym c.item-item.is ∙ w.in_default.is)) c.loop-item.invariant)
 ]

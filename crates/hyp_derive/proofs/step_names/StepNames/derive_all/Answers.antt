@@ -16,6 +16,6 @@ pub returns-in_err-push-clause-some : goal.returns-in_err-push-clause-some
 returns-in_err-push-clause-some c =
     let names = c.loop.names.items ++ c.in_ok-derive.field-0 ∷ [] in
     let are =
-        derived_more c.args.self.now c.loop.self c.derive.new.self c.loop.names.items names c.loop.counter c.in_ok-derive.field-0 c.loop.invariant
-            c.in_ok-derive.ensures.name c.in_ok-derive.ensures.added refl in
+    derived_more c.args.self.now c.loop.self c.derive.new.self c.loop.names.items names c.loop.counter c.in_ok-derive.field-0 c.loop.invariant
+    c.in_ok-derive.ensures.name c.in_ok-derive.ensures.added refl in
     on_each_err c.from_residual-in_err-push.result (c.loop.counter + 1, omega arith, derived_some c.args.self.now c.derive.new.self names (c.loop.counter + 1) are)

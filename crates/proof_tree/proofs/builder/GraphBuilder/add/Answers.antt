@@ -23,5 +23,5 @@ returns c =
     c.self.invariant.0 inside (record { put = c.in_ok-number.ensures.keys; stored = c.in_ok-number.ensures.stored }) in
     subst (λ ns. Adds ns (nodes_of_keys c.insert_full.new.self.keys) (proof_over ns c.args.label.now c.args.below.items) c.in_ok-number.number) c.self.view_is
     (subst
-        (λ l. Adds (nodes_of_keys c.self.inside.keys.keys) (nodes_of_keys c.insert_full.new.self.keys)
-            (proof_over (nodes_of_keys c.self.inside.keys.keys) l c.args.below.items) c.in_ok-number.number) c.in_ok-label.ensures.items adds)
+    (λ l. Adds (nodes_of_keys c.self.inside.keys.keys) (nodes_of_keys c.insert_full.new.self.keys)
+    (proof_over (nodes_of_keys c.self.inside.keys.keys) l c.args.below.items) c.in_ok-number.number) c.in_ok-label.ensures.items adds)

@@ -8,4 +8,4 @@ returns-then-contains c = λ list are place. places_there list c.args.self.now.n
 pub returns : goal.returns
 returns c = λ list are place.
     places_new list c.args.self.now.names c.add_name.new.names c.args.self.now.places.items c.push.new.self.items c.args.name.now c.args.place
-        c.in_ok-add_name.ensures c.in_ok-push.ensures.items place are
+    c.in_ok-add_name.ensures c.in_ok-push.ensures.items place are

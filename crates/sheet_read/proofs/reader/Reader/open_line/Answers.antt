@@ -14,7 +14,7 @@ returns-in-Step-clause-fault c =
     let l = line_in c.args.line.now in
     subst (λ (k : LineKind). IfErr c.step.result (λ e. IsFault e (fault_with k c.args.self.now l (lines_in c.args.behind.now)))) (sym c.in-Step.is)
     (subst
-        (λ (ms : List Line). IfErr c.step.result
-            (λ e. IsFault e
-                (option_map (λ code. fault l.number code)
-                    (step_code c.args.self.now.names (step_of (tokens_in (statement l ms))))))) c.indented-in-Step.ensures c.step.ensures.fault)
+    (λ (ms : List Line). IfErr c.step.result
+    (λ e. IsFault e
+    (option_map (λ code. fault l.number code)
+    (step_code c.args.self.now.names (step_of (tokens_in (statement l ms))))))) c.indented-in-Step.ensures c.step.ensures.fault)

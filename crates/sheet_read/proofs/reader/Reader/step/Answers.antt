@@ -12,8 +12,8 @@ returns-clause-fault c =
     let head = c.in-Some.head in
     let st : step_of (tokens_in (statement (line_in c.args.line.now) (lines_in c.args.more.now))) ≡ Some (step_in_form head (targets c.formula_of.result.now)) =
     ap (λ (ts : List (List ℕ)). step_of ts) (sym c.in_ok-tokens.ensures ∙ ap targets (sym c.as_slice-words.ensures.value)) ∙ c.in-Some.ensures.form
-        ∙ ap (λ (ts : List (List ℕ)). Some (step_in_form head ts)) (sym c.formula_of.ensures) in
+    ∙ ap (λ (ts : List (List ℕ)). Some (step_in_form head ts)) (sym c.formula_of.ensures) in
     subst
-        (λ (o : Option StepForm). IfErr c.keep_step.result
-            (λ e. IsFault e (option_map (λ code. fault c.args.line.now.number code) (step_code c.args.self.now.names o))))
-        (sym st) c.keep_step.ensures.fault
+    (λ (o : Option StepForm). IfErr c.keep_step.result
+    (λ e. IsFault e (option_map (λ code. fault c.args.line.now.number code) (step_code c.args.self.now.names o))))
+    (sym st) c.keep_step.ensures.fault

@@ -10,4 +10,4 @@ judged_of-requires c = judged_below _ c.args.self.now c.self.view_is c.self.inva
 pub returns-clause-used : goal.returns-clause-used
 returns-clause-used c =
     judged_used _ c.args.self.now c.self.view_is c.self.invariant c.args.i c.judged_of.result.now
-        (ap (λ (ps : List Pushed). judged_in ps c.args.i) (sym c.as_slice.ensures.value) ∙ c.judged_of.ensures)
+    (ap (λ (ps : List Pushed). judged_in ps c.args.i) (sym c.as_slice.ensures.value) ∙ c.judged_of.ensures)

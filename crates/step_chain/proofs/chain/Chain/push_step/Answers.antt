@@ -14,17 +14,17 @@ pub invariant_of-self-2 : goal.invariant_of-self-2
 invariant_of-self-2 c =
     push_whole _ c.args.self.now c.self.view_is c.self.invariant c.as_slice.result.now c.as_slice.ensures c.args.i c.requires.next c.requires.step
     c.self.inside.arena c.judge.new.arena refl refl c.mark-mark.result c.mark-mark.ensures.nodes c.mark-mark.ensures.trail c.in_ok-judged.judged
-        c.in_ok-judged.ensures.next c.put.new.steps.items
-        (c.put.ensures
-            ∙ ap (λ (xs : List Pushed). xs ++ record { mark = c.mark-mark.result; judged = c.in_ok-judged.judged } ∷ []) c.reserve.ensures.items)
+    c.in_ok-judged.ensures.next c.put.new.steps.items
+    (c.put.ensures
+    ∙ ap (λ (xs : List Pushed). xs ++ record { mark = c.mark-mark.result; judged = c.in_ok-judged.judged } ∷ []) c.reserve.ensures.items)
 
 pub returns-clause-ok : goal.returns-clause-ok
 returns-clause-ok c =
     push_told _ c.args.self.now c.self.view_is c.self.invariant c.as_slice.result.now c.as_slice.ensures c.args.i c.requires.next c.requires.step
     c.self.inside.arena c.judge.new.arena refl refl c.mark-mark.result c.mark-mark.ensures.nodes c.mark-mark.ensures.trail c.in_ok-judged.judged
-        c.in_ok-judged.ensures.next c.put.new.steps.items
-        (c.put.ensures
-            ∙ ap
-                (λ (xs : List Pushed). xs
-                    ++ record { mark = c.mark-mark.result; judged = c.in_ok-judged.judged }
-                        ∷ []) c.reserve.ensures.items) c.verdict_of-verdict.result c.verdict_of-verdict.ensures
+    c.in_ok-judged.ensures.next c.put.new.steps.items
+    (c.put.ensures
+    ∙ ap
+    (λ (xs : List Pushed). xs
+    ++ record { mark = c.mark-mark.result; judged = c.in_ok-judged.judged }
+    ∷ []) c.reserve.ensures.items) c.verdict_of-verdict.result c.verdict_of-verdict.ensures

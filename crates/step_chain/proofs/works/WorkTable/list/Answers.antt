@@ -9,6 +9,6 @@ pub returns : goal.returns
 returns c =
     items_from_collect {E = AllocError} (Ok c.in_ok-works.works) c.in_ok-works.ensures.ran
     (YieldsList-from_map _ work_of
-        (YieldsList-at c.map.ensures.source (YieldsList-from_rest c.self.inside.nodes.entries c.iter.ensures.rest)) c.map.ensures.closure
-        (λ x r q k. search (rules, tests)))
+    (YieldsList-at c.map.ensures.source (YieldsList-from_rest c.self.inside.nodes.entries c.iter.ensures.rest)) c.map.ensures.closure
+    (λ x r q k. search (rules, tests)))
     ∙ c.self.view_is

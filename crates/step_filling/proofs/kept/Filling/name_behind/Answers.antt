@@ -8,13 +8,13 @@ use Rattle.step_filling.proofs.kept.Filling.name_behind.Goals as goal
 pub bounds-as_slice-count : goal.bounds-as_slice-count
 bounds-as_slice-count c =
     subst (λ (ns : List Name). c.args.count < length ns) (sym c.as_slice.ensures)
-        (names_count c.args.count _ c.self.inside.names c.in_ok-names.names refl c.in_ok-names.ensures.names)
+    (names_count c.args.count _ c.self.inside.names c.in_ok-names.names refl c.in_ok-names.ensures.names)
 
 pub offset_bounds-as_slice-count : goal.offset_bounds-as_slice-count
 offset_bounds-as_slice-count c =
     let below : c.args.count < length c.as_slice.result.now =
-        subst (λ (ns : List Name). c.args.count < length ns) (sym c.as_slice.ensures)
-            (names_count c.args.count _ c.self.inside.names c.in_ok-names.names refl c.in_ok-names.ensures.names) in
+    subst (λ (ns : List Name). c.args.count < length ns) (sym c.as_slice.ensures)
+    (names_count c.args.count _ c.self.inside.names c.in_ok-names.names refl c.in_ok-names.ensures.names) in
     first_of (omega arith, search rules)
 
 pub returns : goal.returns

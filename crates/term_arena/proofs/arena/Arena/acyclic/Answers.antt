@@ -19,5 +19,5 @@ returns-clause-solvable c =
     let requires = rw (← c.self.view_is) at c.requires in
     rw (← c.self.view_is) (since_exact now.terms.nodes now.terms.bound now.trail now.walk.states now.ready c.self.invariant
     0 c.settle_since.result requires.closed
-        (start_solution now.terms.nodes
-            (links_of now.trail.entries now.terms.bound) c.self.invariant.store) c.settle_since.ensures.settled c.settle_since.ensures.cycle)
+    (start_solution now.terms.nodes
+    (links_of now.trail.entries now.terms.bound) c.self.invariant.store) c.settle_since.ensures.settled c.settle_since.ensures.cycle)

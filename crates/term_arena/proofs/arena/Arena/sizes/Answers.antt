@@ -22,9 +22,9 @@ counted : (c : goal.After-from_vec) → AreSizes c.args.self.now.nodes c.args.se
 counted c =
     let now = c.self.inside in
     rw (← c.self.view_is, c.from_vec.ensures)
-        (all_sizes now.terms.nodes
-            (links_of now.trail.entries
-                now.terms.bound) now.terms.bound c.in_ok-sizes.sizes.items c.self.invariant.store c.self.invariant.table c.in_ok-sizes.ensures)
+    (all_sizes now.terms.nodes
+    (links_of now.trail.entries
+    now.terms.bound) now.terms.bound c.in_ok-sizes.sizes.items c.self.invariant.store c.self.invariant.table c.in_ok-sizes.ensures)
 
 pub returns-clause-sizes : goal.returns-clause-sizes
 returns-clause-sizes c = counted c

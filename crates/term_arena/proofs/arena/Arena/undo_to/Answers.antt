@@ -40,7 +40,7 @@ invariant_of-self c =
     let within : c.args.mark.nodes ≤ length c.self.inside.terms.nodes = rw (← c.self.view_is) at c.requires.nodes in
     rw (c.cut.ensures, end.1)
     (arena_cut now.terms.nodes now.terms.bound now.trail now.walk.states now.ready c.args.mark.nodes (omega (arith, within, ap length inv.nodes))
-        (subst (AreBelow c.args.mark.nodes) (sym links) kept) inv.whole).0
+    (subst (AreBelow c.args.mark.nodes) (sym links) kept) inv.whole).0
 
 pub returns : goal.returns
 returns c =
@@ -52,6 +52,6 @@ returns c =
     let kept : AreBelow c.args.mark.nodes (take c.args.mark.trail was) = rw (← c.self.view_is) at c.requires.kept in
     let within : c.args.mark.nodes ≤ length c.self.inside.terms.nodes = rw (← c.self.view_is) at c.requires.nodes in
     let same =
-        (arena_cut now.terms.nodes now.terms.bound now.trail now.walk.states now.ready c.args.mark.nodes (omega (arith, within, ap length inv.nodes))
-            (subst (AreBelow c.args.mark.nodes) (sym links) kept) inv.whole).1 in
+    (arena_cut now.terms.nodes now.terms.bound now.trail now.walk.states now.ready c.args.mark.nodes (omega (arith, within, ap length inv.nodes))
+    (subst (AreBelow c.args.mark.nodes) (sym links) kept) inv.whole).1 in
     rw (← c.self.view_is, c.cut.ensures, end.1, same, links, inv.nodes, inv.ready) refl

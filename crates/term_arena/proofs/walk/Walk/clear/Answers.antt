@@ -9,9 +9,16 @@ invariant_of-self c =
     let none = no_entries c.back_to.new.self.entries (omega (arith, c.in_default.ensures.0, ap (λ noted. length noted.entries) c.in_default.ensures.1)) in
     walk_fresh next.new.stamps.items next.result c.back_to.new.self next.ensures.started next.ensures.limit
     (λ i. omega (arith, next.ensures.past i)) (fresh_states next.new.stamps.items next.result next.ensures.started next.ensures.past) none
-    (omega
-        (arith, c.self.invariant.room, c.loop.invariant.room, next.ensures.count, ap length c.loop.invariant.stamps, ap length none,
-            ap (λ noted. noted.spare) c.in_default.ensures.1, c.in_default.ensures.0))
+    (omega (
+      arith,
+      c.self.invariant.room,
+      c.loop.invariant.room,
+      next.ensures.count,
+      ap length c.loop.invariant.stamps,
+      ap length none,
+      ap (λ noted. noted.spare) c.in_default.ensures.1,
+      c.in_default.ensures.0,
+    ))
 
 pub returns-clause-fresh : goal.returns-clause-fresh
 returns-clause-fresh c =

@@ -9,5 +9,5 @@ returns c =
     let now = c.self.inside in
     let within : c.args.i < length now.stamps.items = omega (arith, rw (← c.self.view_is) at c.requires, length-map now.stamps.items (state_of now.round)) in
     rw (← c.self.view_is)
-        (ap (λ stamp. eqb stamp (now.round + 1)) (get_or_read now.stamps.items c.args.i c.index.result.now within c.index.ensures 0)
-            ∙ settled_read now.stamps.items now.round now.path c.args.i c.self.invariant)
+    (ap (λ stamp. eqb stamp (now.round + 1)) (get_or_read now.stamps.items c.args.i c.index.result.now within c.index.ensures 0)
+    ∙ settled_read now.stamps.items now.round now.path c.args.i c.self.invariant)

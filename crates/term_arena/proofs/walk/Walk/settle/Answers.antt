@@ -11,6 +11,8 @@ invariant_of-self c =
 pub returns-in-Some : goal.returns-in-Some
 returns-in-Some c =
     let now = c.self.inside in
-    rw (← c.self.view_is)
-        (c.in-Some.i, ap reverse c.in-Some.ensures.0 ∙ reverse_push c.back_to.new.self.entries c.in-Some.i,
-            states_settled now.stamps.items now.round now.path now.path c.in-Some.i c.self.invariant)
+    rw (← c.self.view_is) (
+      c.in-Some.i,
+      ap reverse c.in-Some.ensures.0 ∙ reverse_push c.back_to.new.self.entries c.in-Some.i,
+      states_settled now.stamps.items now.round now.path now.path c.in-Some.i c.self.invariant,
+    )
