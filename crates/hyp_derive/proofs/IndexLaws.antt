@@ -8,11 +8,11 @@ use Rattle.std.proofs.lemmas.Bool.Decides.{nat_tests}
 use Rattle.std.proofs.lemmas.Iterator.Adapters.{position_from-zero}
 use Rattle.std.proofs.lemmas.List.{length-append}
 use Rattle.mm_base.specs.declared.tree.Tree.{Tree}
+use Rattle.mm_base.specs.declared.rows.Rows.{Rows}
+use Rattle.mm_base.specs.Rows.{row_at}
 use Rattle.solve_model.specs.Trees.{same_tree}
 use Rattle.solve_laws.specs.Replacements.{SameTreeDecides}
-use Rattle.hyp_derive.specs.declared.places.Places.{Places}
 use Rattle.hyp_derive.specs.Hashing.{hash_of}
-use Rattle.hyp_derive.specs.Places.{places_at}
 use Rattle.hyp_derive.specs.Indexing.{numbers_from, has_hash, is_at, IsIndexOf}
 
 -- ---- one element more
@@ -77,14 +77,14 @@ module _ {X : Type 0} (p sel : X → Bool) (selected : (x : X) → p x ≡ true 
 same_hash : (decides : SameTreeDecides) (t u : Tree) → same_tree t u ≡ true → (hash_of u == hash_of t) ≡ true
 same_hash decides t u e = let same : hash_of u ≡ hash_of t = ap hash_of (sym ((decides t u).0 e)) in grind (arith, nat_tests)
 
-pub first_is : (decides : SameTreeDecides) (places : Places) (trees slice : List Tree) (row : List ℕ) (t : Tree) (hash : ℕ) → IsIndexOf places trees → slice ≡ trees → hash ≡ hash_of t
-    → row ≡ places_at places hash → find (is_at slice t) row ≡ position (same_tree t) trees
+pub first_is : (decides : SameTreeDecides) (places : Rows ℕ) (trees slice : List Tree) (row : List ℕ) (t : Tree) (hash : ℕ) → IsIndexOf places trees → slice ≡ trees → hash ≡ hash_of t
+    → row ≡ row_at places hash → find (is_at slice t) row ≡ position (same_tree t) trees
 first_is decides places trees slice row t hash index same is at =
     ap (λ (xs : List Tree). find (is_at xs t) row) same ∙ ap (find (is_at trees t)) (at ∙ index.at hash ∙ ap (λ q. numbers_from (has_hash q) 0 trees) is)
     ∙ found_at (same_tree t) (has_hash (hash_of t)) (same_hash decides t) trees
 
-pub index_more : (places places' : Places) (trees trees' : List Tree) (t : Tree) (hash place : ℕ) → IsIndexOf places trees → trees' ≡ trees ++ t ∷ [] → hash ≡ hash_of t → place ≡ length trees
-    → place + 1 < 2 ^ 32 → ((q : ℕ) → places_at places' q ≡ cond (hash == q) (places_at places q ++ place ∷ []) (places_at places q)) → IsIndexOf places' trees'
+pub index_more : (places places' : Rows ℕ) (trees trees' : List Tree) (t : Tree) (hash place : ℕ) → IsIndexOf places trees → trees' ≡ trees ++ t ∷ [] → hash ≡ hash_of t → place ≡ length trees
+    → place + 1 < 2 ^ 32 → ((q : ℕ) → row_at places' q ≡ cond (hash == q) (row_at places q ++ place ∷ []) (row_at places q)) → IsIndexOf places' trees'
 index_more places places' trees trees' t hash place index more is at room added = subst (IsIndexOf places') (sym more) (record {
   small = omega (arith, length-append trees (t ∷ []), at, room);
   at = λ q.
@@ -95,5 +95,5 @@ index_more places places' trees trees' t hash place index more is at room added 
       ∙ sym (numbers_push (has_hash q) trees t 0);
 })
 
-pub index_same : (places places' : Places) (trees trees' : List Tree) → IsIndexOf places trees → trees' ≡ trees → ((q : ℕ) → places_at places' q ≡ places_at places q) → IsIndexOf places' trees'
+pub index_same : (places places' : Rows ℕ) (trees trees' : List Tree) → IsIndexOf places trees → trees' ≡ trees → ((q : ℕ) → row_at places' q ≡ row_at places q) → IsIndexOf places' trees'
 index_same places places' trees trees' index same kept = subst (IsIndexOf places') (sym same) (record { small = index.small; at = λ q. kept q ∙ index.at q })

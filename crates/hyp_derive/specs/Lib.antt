@@ -2,4 +2,3 @@ pub mod Filling
 pub mod Hashing
 pub mod Indexing
 pub mod Naming
-pub mod Places

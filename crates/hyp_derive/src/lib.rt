@@ -5,7 +5,6 @@ mod filling;
 mod hash;
 mod indexed;
 mod naming;
-mod places;
 mod step_names;
 mod tree_index;
 

@@ -3,8 +3,7 @@ ghost use Rattle.solve_model.specs.Trees.{same_tree};
 ghost use Rattle.hyp_derive.specs.Indexing.{is_at};
 
 use crate::hash::tree_hash;
-use crate::places::Places;
-use mm_base::{List, Memory, Tree, is_same};
+use mm_base::{List, Memory, Rows, Tree, is_same};
 use solve_laws::same_trees_are_equal;
 use std::alloc::Global;
 use std::marker::Model;
@@ -14,7 +13,7 @@ use std::marker::Model;
 pub struct TreeIndex {
     alloc: Global,
     trees: Vec<Tree>,
-    places: Places,
+    places: Rows<u32>,
 }
 
 impl Model for TreeIndex {
@@ -61,7 +60,7 @@ impl TreeIndex {
         TreeIndex {
             alloc,
             trees: Vec::new(alloc),
-            places: Places::new(alloc),
+            places: Rows::new(alloc),
         }
     }
 

@@ -8,4 +8,5 @@ pub mod Outside
 pub mod OutsideExamples
 pub mod Pairs
 pub mod SameTrees
+pub mod Rows
 pub mod Trees

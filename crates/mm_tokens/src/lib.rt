@@ -6,6 +6,6 @@ mod scan;
 mod token;
 mod words;
 
-pub use scan::tokens;
+pub use scan::{is_close_comment, is_open_comment, tokens};
 pub use token::{Token, TokenFault, TokenKind};
 pub use words::{is_white, next_word};

@@ -66,13 +66,15 @@ fn keyword_kind(word: &[u8]) -> Option<TokenKind>
     }
 }
 
-fn is_open_comment(word: &[u8]) -> bool
+/// Whether the word opens a comment.
+pub fn is_open_comment(word: &[u8]) -> bool
     ensures { result ≡ bytes_eq word.now (codes "$(") }
 {
     word == b"$(".as_slice()
 }
 
-fn is_close_comment(word: &[u8]) -> bool
+/// Whether the word closes a comment.
+pub fn is_close_comment(word: &[u8]) -> bool
     ensures { result ≡ bytes_eq word.now (codes "$)") }
 {
     word == b"$)".as_slice()

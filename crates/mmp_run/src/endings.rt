@@ -35,7 +35,7 @@ pub fn refuse_line(alloc: Global, status: Status, text: Bytes) -> Result<Ending,
 pub fn refuse(alloc: Global, status: Status, text: &str) -> Result<Ending, Memory>
     ensures { IfOk result (λ end. end ≡ refusal status text.now) }
 {
-    let text = List::from_vec(Vec::from_slice(alloc, text.as_bytes())?);
+    let text = List::copy_of(alloc, text.as_bytes())?;
     refuse_line(alloc, status, text)
 }
 

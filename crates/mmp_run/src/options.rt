@@ -220,8 +220,8 @@ pub fn make_options(alloc: Global, choice: Choice<'_>) -> Result<Options, Memory
     Ok(Options {
         style: choice.style,
         kinds: Kinds {
-            provable: List::from_vec(Vec::from_slice(alloc, named_or(choice.provable, b"|-"))?),
-            logic: List::from_vec(Vec::from_slice(alloc, named_or(choice.logic, b"wff"))?),
+            provable: List::copy_of(alloc, named_or(choice.provable, b"|-"))?,
+            logic: List::copy_of(alloc, named_or(choice.logic, b"wff"))?,
         },
         dv: choice.dv,
     })

@@ -13,7 +13,6 @@ ghost use Rattle.proof_tree.specs.Given.{item_at};
 ghost use Rattle.proof_tree.specs.Walks.{AreUses, IsOrder};
 
 use crate::graph::{ProofGraph, ProofNode};
-use crate::labels::name_copied;
 use crate::order::{Part, first_uses, push_parts, uses};
 use mm_base::{List, Memory, Name};
 use names::Names;
@@ -261,7 +260,7 @@ fn names_listed(alloc: Global, names: &Names) -> Result<List<Name>, Memory>
 {
     let mut list = Vec::new(alloc);
     for number in 0..names.count() {
-        list.push(name_copied(alloc, names.name(number))?)?;
+        list.push(List::copy_of(alloc, names.name(number))?)?;
     }
     Ok(List::from_vec(list))
 }

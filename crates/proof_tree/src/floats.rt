@@ -4,8 +4,7 @@ ghost use Rattle.std.specs.Prelude.{◌≡◌, drop, nat_eq, IfOk, OnOk};
 ghost use Rattle.std.specs.HashMap.{get};
 ghost use Rattle.proof_tree.specs.Given.{AreFloats, PutsFloat, PutsName, PutsOne};
 
-use crate::labels::name_copied;
-use mm_base::{Memory, Name, Sym};
+use mm_base::{List, Memory, Name, Sym};
 use mm_model::Hyp;
 use std::alloc::Global;
 use std::collections::HashMap;
@@ -67,6 +66,6 @@ fn put_name(
     if labels.contains_key(&symbol) {
         return Ok(());
     }
-    labels.insert(symbol, name_copied(alloc, name)?)?;
+    labels.insert(symbol, List::copy_of(alloc, name)?)?;
     Ok(())
 }

@@ -42,12 +42,6 @@ fn counts(alloc: Global, nodes: &[ProofNode]) -> Result<Vec<u64>, Memory>
     Ok(counts)
 }
 
-pub(crate) fn name_copied(alloc: Global, name: &[u8]) -> Result<Name, Memory>
-    ensures { IfOk result (λ copy. copy ≡ name.now) }
-{
-    Ok(List::from_vec(name.to_vec(alloc)?))
-}
-
 /// The labels of the last node's proof from the last one to the first: a proof's label, and then the labels of the proofs
 /// of its hypotheses, those of the last one first.
 fn backwards(alloc: Global, nodes: &[ProofNode]) -> Result<Vec<Name>, Memory>
@@ -61,7 +55,7 @@ fn backwards(alloc: Global, nodes: &[ProofNode]) -> Result<Vec<Name>, Memory>
     pending.push((nodes.len() - 1) as u32)?;
     while let Some(number) = pending.pop() {
         let node = &nodes[number as usize];
-        labels.push(name_copied(alloc, node.label.as_slice())?)?;
+        labels.push(List::copy_of(alloc, node.label.as_slice())?)?;
         pending.extend_from_slice(node.below.as_slice())?;
     }
     Ok(labels)

@@ -29,7 +29,7 @@ ax-2 $a |- ( ( ph -> ( ps -> ch ) ) -> ( ( ph -> ps ) -> ( ph -> ch ) ) ) $.\n\
 pub fn database(alloc: Global) -> Result<Bytes, Memory>
     ensures { IfOk result (λ text. text ≡ trial_database) }
 {
-    Ok(List::from_vec(Vec::from_slice(alloc, DATABASE.as_bytes())?))
+    List::copy_of(alloc, DATABASE.as_bytes())
 }
 
 /// The worksheet of so many blocks. It has some hundred bytes a block.

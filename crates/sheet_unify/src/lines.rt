@@ -122,6 +122,6 @@ pub fn report_lines(
     for line in report.as_slice() {
         lines.push(report_line(alloc, db.frames(), line)?)?;
     }
-    lines.push(List::from_vec(Vec::from_slice(alloc, last_line(finished))?))?;
+    lines.push(List::copy_of(alloc, last_line(finished))?)?;
     Ok(List::from_vec(lines))
 }

@@ -8,20 +8,8 @@ ghost use Rattle.stack_verify.specs.Proofs.{names_in, proof_names};
 
 use crate::formula::Span;
 use mm_base::Memory;
-use mm_tokens::next_word;
+use mm_tokens::{is_close_comment, is_open_comment, next_word};
 use std::alloc::Global;
-
-fn is_open_comment(word: &[u8]) -> bool
-    ensures { result ≡ bytes_eq word.now (codes "$(") }
-{
-    word == b"$(".as_slice()
-}
-
-fn is_close_comment(word: &[u8]) -> bool
-    ensures { result ≡ bytes_eq word.now (codes "$)") }
-{
-    word == b"$)".as_slice()
-}
 
 fn is_end(word: &[u8]) -> bool
     ensures { result ≡ bytes_eq word.now (codes "$.") }

@@ -1,52 +1,10 @@
-ghost use Rattle.std.specs.Prelude.{◌≡◌, ◌==◌, ◌++◌, ◌∷◌, [], ℕ, IfOk, OnOk, if◌then◌else◌};
-ghost use Rattle.syntax_grammar.specs.Index.{rows_at, IsIndex};
+ghost use Rattle.std.specs.Prelude.{◌≡◌, IfOk};
+ghost use Rattle.syntax_grammar.specs.Index.{IsIndex};
 ghost use Rattle.syntax_grammar.specs.Selections as spec;
 
-use mm_base::{List, Memory, Sym, Typecode};
+use mm_base::{Memory, Rows, Sym, Typecode};
 use mm_model::{Item, Production};
 use std::alloc::Global;
-use std::collections::HashMap;
-
-/// Numbers of productions by a key, in their order.
-#[derive(Debug, Drop)]
-pub struct RowIndex {
-    rows: HashMap<u32, List<usize>>,
-}
-
-impl RowIndex {
-    /// An index with no numbers.
-    fn new(alloc: Global) -> RowIndex
-        ensures { (q : ℕ) → rows_at result q ≡ [] }
-    {
-        RowIndex {
-            rows: HashMap::new(alloc),
-        }
-    }
-
-    /// The numbers at a key. It takes constant time.
-    pub fn at(&self, key: u32) -> &[usize]
-        ensures { result.now ≡ rows_at self.now key }
-    {
-        match self.rows.get(&key) {
-            None => &[],
-            Some(numbers) => numbers.as_slice(),
-        }
-    }
-
-    /// Adds a number at a key, behind those that are there.
-    fn add(&mut self, alloc: Global, key: u32, row: usize) -> Result<(), Memory>
-        ensures { OnOk result ((q : ℕ) → rows_at self.new q
-            ≡ (if key == q then rows_at self.old q ++ row ∷ [] else rows_at self.old q)) }
-    {
-        let mut numbers = match self.rows.remove(&key) {
-            None => Vec::new(alloc),
-            Some(numbers) => numbers.into_vec(),
-        };
-        numbers.push(row)?;
-        self.rows.insert(key, List::from_vec(numbers))?;
-        Ok(())
-    }
-}
 
 /// The constant that items begin with.
 fn const_of(items: &[Item]) -> Option<Sym>
@@ -120,63 +78,63 @@ fn lone_sym(row: &Production) -> Option<Sym>
 }
 
 /// The productions by label.
-pub fn label_index(alloc: Global, rows: &[Production]) -> Result<RowIndex, Memory>
+pub fn label_index(alloc: Global, rows: &[Production]) -> Result<Rows<usize>, Memory>
     ensures { IfOk result (IsIndex spec.has_label rows.now) }
 {
-    let mut index = RowIndex::new(alloc);
+    let mut index = Rows::new(alloc);
     for number in 0..rows.len() {
-        index.add(alloc, rows[number].label.0, number)?;
+        index.add(alloc, u64::from(rows[number].label.0), number)?;
     }
     Ok(index)
 }
 
 /// The productions by the constant that they begin with.
-pub fn const_index(alloc: Global, rows: &[Production]) -> Result<RowIndex, Memory>
+pub fn const_index(alloc: Global, rows: &[Production]) -> Result<Rows<usize>, Memory>
     ensures { IfOk result (IsIndex spec.begins_const rows.now) }
 {
-    let mut index = RowIndex::new(alloc);
+    let mut index = Rows::new(alloc);
     for number in 0..rows.len() {
         if let Some(sym) = first_const(&rows[number]) {
-            index.add(alloc, sym.0, number)?;
+            index.add(alloc, u64::from(sym.0), number)?;
         }
     }
     Ok(index)
 }
 
 /// The productions by the typecode of the slot that they begin with.
-pub fn slot_index(alloc: Global, rows: &[Production]) -> Result<RowIndex, Memory>
+pub fn slot_index(alloc: Global, rows: &[Production]) -> Result<Rows<usize>, Memory>
     ensures { IfOk result (IsIndex spec.begins_slot rows.now) }
 {
-    let mut index = RowIndex::new(alloc);
+    let mut index = Rows::new(alloc);
     for number in 0..rows.len() {
         if let Some(code) = first_code(&rows[number]) {
-            index.add(alloc, code.0.0, number)?;
+            index.add(alloc, u64::from(code.0.0), number)?;
         }
     }
     Ok(index)
 }
 
 /// The productions by their next constant.
-pub fn next_index(alloc: Global, rows: &[Production]) -> Result<RowIndex, Memory>
+pub fn next_index(alloc: Global, rows: &[Production]) -> Result<Rows<usize>, Memory>
     ensures { IfOk result (IsIndex spec.has_next rows.now) }
 {
-    let mut index = RowIndex::new(alloc);
+    let mut index = Rows::new(alloc);
     for number in 0..rows.len() {
         if let Some(sym) = next_const(&rows[number]) {
-            index.add(alloc, sym.0, number)?;
+            index.add(alloc, u64::from(sym.0), number)?;
         }
     }
     Ok(index)
 }
 
 /// The productions that have no next constant, by the symbol that they begin with.
-pub fn lone_index(alloc: Global, rows: &[Production]) -> Result<RowIndex, Memory>
+pub fn lone_index(alloc: Global, rows: &[Production]) -> Result<Rows<usize>, Memory>
     ensures { IfOk result (IsIndex spec.is_lone rows.now) }
 {
-    let mut index = RowIndex::new(alloc);
+    let mut index = Rows::new(alloc);
     for number in 0..rows.len() {
         if let Some(sym) = lone_sym(&rows[number]) {
-            index.add(alloc, sym.0, number)?;
+            index.add(alloc, u64::from(sym.0), number)?;
         }
     }
     Ok(index)

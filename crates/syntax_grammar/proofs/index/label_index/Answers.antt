@@ -12,4 +12,4 @@ loop-number-preserved c =
     let r = c.index-rows-number.result in
     let at = slice_get-get_or rows n r c.loop-number-test.true ∙ ap (λ x. Some x) (sym c.index-rows-number.is) in
     index_turn has_label rows n r at c.loop-number.index c.add.new.self (get_or rows n r).label.0
-    (λ q. ap (λ (x : Production). has_label q x) c.index-rows-number.is) c.in_ok-add.ensures c.loop-number.invariant
+    (λ q. ap (λ (x : Production). has_label q x) c.index-rows-number.is) c.in_ok-add.ensures.added c.loop-number.invariant

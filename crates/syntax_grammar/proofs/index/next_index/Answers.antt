@@ -14,7 +14,7 @@ loop-number-preserved c =
     let at = slice_get-get_or rows n r c.loop-number-test.true ∙ ap (λ x. Some x) (sym c.index-rows-number.is) in
     elim c.match-next_const.branch [
       | in-Some+in_ok-add w ↦ subst (IsIndex has_next (take (n + 1) rows)) (sym w.index-is)
-          (index_turn has_next rows n r at c.loop-number.index w.add.new.self w.in-Some.sym.0 (λ q. ap (is_sym q) (sym w.in-Some.ensures)) w.in_ok-add.ensures c.loop-number.invariant)
+          (index_turn has_next rows n r at c.loop-number.index w.add.new.self w.in-Some.sym.0 (λ q. ap (is_sym q) (sym w.in-Some.ensures)) w.in_ok-add.ensures.added c.loop-number.invariant)
       | in_default w ↦ subst (IsIndex has_next (take (n + 1) rows)) (sym w.index-is)
           (index_skip has_next rows n r at c.loop-number.index (λ q. ap (is_sym q) (sym w.in_default.ensures)) c.loop-number.invariant)
     ]
