@@ -11,6 +11,7 @@ ORDER = [
     ("mm_base", "What every other definition speaks of: trees, files, faults of devices.", [
         ("Trees", "trees in general", ""),
         ("SameTrees", "two typecodes, or two trees, are equal", ""),
+        ("Limits", "the sizes past which an input or an output is refused, and up to which places are tried in all orders", "FORMAT, Limits"),
         ("Pairs", "pairs of distinct variables", "book 4.2.4"),
         ("Outside", "what a store and a sink tell, and the causes of their faults", ""),
         ("Files", "files as a list of names and bytes", ""),
@@ -20,7 +21,6 @@ ORDER = [
     ("mm_model", "The database language.", [
         ("Words", "words of a text", "book 4.1.1; FORMAT, Databases"),
         ("Faults", "which of several faults is the first", "FORMAT, Faults of a database"),
-        ("Limits", "the sizes past which an input or an output is refused", "FORMAT, Limits"),
         ("Labels", "labels", "book 4.1.1"),
         ("Names", "names and numbers of symbols and labels", ""),
         ("Tokens", "tokens, comments, and the faults 1 to 4", "book 4.1.1, 4.1.2; FORMAT, Faults of a database"),

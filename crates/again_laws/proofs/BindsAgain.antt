@@ -9,9 +9,9 @@ use Rattle.std.proofs.lemmas.Bool.Decides.{nat_tests}
 use Rattle.mm_base.specs.declared.symbols.Label.{Label}
 use Rattle.mm_base.specs.declared.symbols.Typecode.{Typecode}
 use Rattle.mm_base.specs.declared.tree.Tree.{Tree}
+use Rattle.mm_base.specs.Limits.{most_work_size}
 use Rattle.mm_model.specs.declared.frames.Frame.{Frame}
 use Rattle.mm_model.specs.declared.rows.Leaf.{Leaf}
-use Rattle.mm_model.specs.Limits.{most_work_size}
 use Rattle.mm_model.specs.Texts.{text}
 use Rattle.mm_model.specs.Book.{Database, logic_code}
 use Rattle.model_laws.specs.DatabaseLaws.{HasPlaces, HasSymbols, HasDatabaseFacts, HavePlaces, HaveSymbols}

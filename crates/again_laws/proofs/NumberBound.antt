@@ -13,9 +13,9 @@ use Rattle.mm_base.specs.declared.symbols.Typecode.{Typecode}
 use Rattle.mm_base.specs.declared.tree.Tree.{Tree}
 use Rattle.mm_base.specs.Trees.{Each}
 use Rattle.mm_base.proofs.TreeInduction.{tree_ind}
+use Rattle.mm_base.specs.Limits.{most_database_bytes, most_work_size}
 use Rattle.mm_model.specs.declared.rows.Leaf.{Leaf}
 use Rattle.mm_model.specs.declared.rows.Leaf.TheVariants as leaf
-use Rattle.mm_model.specs.Limits.{most_database_bytes, most_work_size}
 use Rattle.mm_model.specs.Sizes.{nodes}
 use Rattle.mm_model.specs.Texts.{text}
 use Rattle.mm_model.specs.Book.{Database, symbol_of, symbol_name}

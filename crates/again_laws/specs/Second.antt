@@ -1,7 +1,7 @@
 -- The written sheet as it is read again: it binds, with the trees that were written, and is not too much.
 use Rattle.std.specs.Prelude.{◌≡◌, ℕ, ◌<◌, ◌≤◌, ◌^◌, List, Contains, Some}
 use Rattle.mm_base.specs.declared.symbols.Typecode.{Typecode}
-use Rattle.mm_model.specs.Limits.{most_work_size}
+use Rattle.mm_base.specs.Limits.{most_work_size}
 use Rattle.mm_model.specs.Book.{Database}
 use Rattle.sheet_text.specs.declared.sheet.Sheet.{Sheet}
 use Rattle.sheet_text.specs.Reads.{unnumbered}

@@ -2,8 +2,8 @@
 use Rattle.std.specs.Prelude.{◌≡◌, ◌<◌, ◌==◌, ◌&&◌, nat_lt, nat_le, ℕ, true, List, Some, None}
 use Rattle.std.proofs.Common.{sym, ap, subst, ◌∙◌, arith, inl, inr, ltb-true, leb-true, eqb-true}
 use Rattle.std.proofs.lemmas.Bool.{and_parts, or_cases}
+use Rattle.mm_base.specs.Limits.{most_work_size}
 use Rattle.mm_model.specs.Faults.{Fault, comes_first}
-use Rattle.mm_model.specs.Limits.{most_work_size}
 use Rattle.mm_model.specs.Rows.{IsGrammar}
 use Rattle.mm_model.specs.Book.{Database}
 use Rattle.sheet_text.specs.declared.sheet.Sheet.{Sheet}

@@ -6,9 +6,9 @@ use Rattle.std.proofs.Common.{sym, ap, subst, ◌∙◌, arith, ltb-true, ltb-fa
 use Rattle.std.proofs.lemmas.List.{length-map}
 use Rattle.mm_base.specs.declared.symbols.Label.{Label}
 use Rattle.mm_base.specs.declared.tree.Tree.{Tree}
+use Rattle.mm_base.specs.Limits.{most_sheet_bytes}
 use Rattle.mm_model.specs.declared.frames.Hyp.{Hyp}
 use Rattle.mm_model.specs.Labels.{is_label}
-use Rattle.mm_model.specs.Limits.{most_sheet_bytes}
 use Rattle.mm_model.specs.Names.{Name, has_twice}
 use Rattle.mm_model.specs.Words.{is_white}
 use Rattle.mm_model.specs.BookFacts.{IsDatabase}

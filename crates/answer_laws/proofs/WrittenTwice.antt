@@ -5,8 +5,8 @@ use Rattle.std.specs.Option.{option_map_or}
 use Rattle.std.proofs.Common.{sym, ap, subst, ◌∙◌}
 use Rattle.mm_base.specs.declared.symbols.Typecode.{Typecode}
 use Rattle.mm_base.specs.declared.tree.Tree.{Tree}
+use Rattle.mm_base.specs.Limits.{most_work_size}
 use Rattle.mm_model.specs.declared.frames.Hyp.{Hyp}
-use Rattle.mm_model.specs.Limits.{most_work_size}
 use Rattle.mm_model.specs.Book.{Database}
 use Rattle.proof_model.specs.Proofs.{Proof}
 use Rattle.solve_model.specs.declared.bound.Bound.{Bound}

@@ -4,6 +4,7 @@ use Rattle.std.specs.Prelude.{Some, None, option_map, option_and_then, decimal, 
 use Rattle.std.specs.List.{list_all, prefix_len, range_with_len, starts_with}
 use Rattle.std.specs.Option.{option_map_or}
 use Rattle.std.specs.Str.{bytes_eq}
+use Rattle.mm_base.specs.Limits.{most_trial_blocks}
 use Rattle.mm_model.specs.Names.{Name, contains, has_twice}
 use Rattle.written_model.specs.declared.options.DvMode.TheVariants as dv
 use Rattle.written_model.specs.declared.options.Options.{Options}
@@ -99,10 +100,6 @@ unify_of is_in_place words options = None
 abbrev pub verify_of : List Name → Option Command
 verify_of (database ∷ theorem ∷ []) = if_names (database ∷ theorem ∷ []) (verify (record { database = database; theorem = theorem }))
 verify_of words = None
-
--- the most blocks that a trial may have
-abbrev pub most_trial_blocks : ℕ
-most_trial_blocks = 1000
 
 -- a number from 1, in decimal
 unfoldable pub trial_number : Name → Option ℕ

@@ -1,6 +1,7 @@
 //! The faults of the labels in the brackets.
 
-ghost use Rattle.std.specs.Prelude.{◌≡◌, ℕ, ◌≤◌, ◌<◌, ◌^◌, List, [], length, None, false, IfOk, IfErr, OnOk};
+ghost use Rattle.std.specs.Prelude.{◌≡◌, ℕ, ◌≤◌, ◌<◌, List, [], length, None, false, IfOk, IfErr, OnOk};
+ghost use Rattle.mm_base.specs.Limits.{most_database_bytes};
 ghost use Rattle.mm_model.specs.Names.{contains};
 ghost use Rattle.proof_model.specs.ProofCode.{label_fault};
 ghost use Rattle.compressed_proof.specs.Parts.{IsLabelFault, IsFaultAt};
@@ -12,7 +13,7 @@ use std::alloc::Global;
 
 /// The names of a list, for look-ups.
 fn names_of(alloc: Global, list: &[Name]) -> Result<Names, Memory>
-    requires { length list.now ≤ 2 ^ 28 }
+    requires { length list.now ≤ most_database_bytes }
     ensures { IfOk result (λ names. (name : List ℕ) → contains names name ≡ contains list.now name) }
 {
     let mut names = Names::new(alloc);
@@ -51,7 +52,7 @@ fn check_each(
     listed: &Names,
     before: &mut Names,
 ) -> Result<(), CodeFault>
-    requires labels { length labels.now ≤ 2 ^ 28 }
+    requires labels { length labels.now ≤ most_database_bytes }
     requires none_before { before.old ≡ [] }
     ensures sound { (mandatory : List (List ℕ)) → ((name : List ℕ) → contains listed.now name ≡ contains mandatory name) →
         OnOk result (label_fault mandatory labels.now ≡ None) }
@@ -72,8 +73,8 @@ pub(crate) fn check_labels(
     labels: &[Name],
     mandatory: &[Name],
 ) -> Result<(), CodeFault>
-    requires labels { length labels.now ≤ 2 ^ 28 }
-    requires mandatory { length mandatory.now ≤ 2 ^ 28 }
+    requires labels { length labels.now ≤ most_database_bytes }
+    requires mandatory { length mandatory.now ≤ most_database_bytes }
     ensures sound { OnOk result (label_fault mandatory.now labels.now ≡ None) }
     ensures fault { IfErr result (λ e. IsLabelFault mandatory.now labels.now e) }
 {

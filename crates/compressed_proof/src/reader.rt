@@ -1,6 +1,7 @@
 //! Reading a whole text.
 
-ghost use Rattle.std.specs.Prelude.{◌≡◌, ◌≤◌, ◌^◌, length, None, IfOk, IfErr, OnOk};
+ghost use Rattle.std.specs.Prelude.{◌≡◌, ◌≤◌, length, None, IfOk, IfErr, OnOk};
+ghost use Rattle.mm_base.specs.Limits.{most_database_bytes};
 ghost use Rattle.proof_model.specs.ProofCode.{Spells, code_fault};
 ghost use Rattle.compressed_proof.specs.Decoded.{IsFault};
 
@@ -15,8 +16,8 @@ use std::alloc::Global;
 /// The code that a text spells for these mandatory hypotheses, or the first fault of the text. It takes time and memory in
 /// proportion to the text and the mandatory labels.
 pub fn decode(alloc: Global, text: &[u8], mandatory: &List<Name>) -> Result<Code, CodeFault>
-    requires text { length text.now ≤ 2 ^ 28 }
-    requires mandatory { length mandatory.now ≤ 2 ^ 28 }
+    requires text { length text.now ≤ most_database_bytes }
+    requires mandatory { length mandatory.now ≤ most_database_bytes }
     ensures sound { OnOk result (code_fault text.now mandatory.now ≡ None) }
 
     // The code is the one that the text spells: no text spells two.

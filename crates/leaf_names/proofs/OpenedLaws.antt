@@ -1,9 +1,9 @@
 -- The names over the database of a text.
 use Rattle.std.specs.Prelude.{◌≡◌, ◌≤◌, ◌^◌, ℕ, List, length, flat_map}
 use Rattle.std.proofs.Common.{sym, ap, subst, ◌∙◌, arith}
+use Rattle.mm_base.specs.Limits.{most_work_size}
 use Rattle.mm_model.specs.declared.rows.Production.{Production}
 use Rattle.mm_model.specs.Names.{Name}
-use Rattle.mm_model.specs.Limits.{most_work_size}
 use Rattle.mm_frames.specs.Contents.{Contents}
 use Rattle.mm_database.specs.Books.{database_of}
 use Rattle.model_laws.specs.DatabaseLaws.{HasDatabaseFacts}

@@ -1,7 +1,7 @@
 -- What is counted is few beside the numbers that a work variable may have.
 use Rattle.std.specs.Prelude.{◌≤◌, ◌^◌, ℕ, List, length}
 use Rattle.mm_base.specs.declared.kinds.Kinds.{Kinds}
-use Rattle.mm_model.specs.Limits.{most_work_size}
+use Rattle.mm_base.specs.Limits.{most_work_size}
 use Rattle.mm_database.specs.Books.{database_of}
 use Rattle.mm_database.specs.Opened.{Opened, IsOpened}
 use Rattle.sheet_text.specs.declared.sheet.Sheet.{Sheet}

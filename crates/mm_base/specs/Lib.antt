@@ -2,11 +2,12 @@ pub mod Calls
 pub mod Files
 pub mod formers
 pub mod Host
+pub mod Limits
 pub mod MemSink
 pub mod MemStore
 pub mod Outside
 pub mod OutsideExamples
 pub mod Pairs
-pub mod SameTrees
 pub mod Rows
+pub mod SameTrees
 pub mod Trees

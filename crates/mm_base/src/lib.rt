@@ -22,8 +22,8 @@ pub use errors::{Failed, Memory, ReadStop, ReplaceStop};
 pub use host::{HostSink, HostStore};
 pub use kinds::Kinds;
 pub use limits::{
-    MOST_DATABASE_BYTES, MOST_FORMULA_TOKENS, MOST_PROOF_LABELS, MOST_SHEET_BYTES, MOST_WORK_SIZE,
-    MOST_WORK_VARIABLE,
+    MOST_DATABASE_BYTES, MOST_FORMULA_TOKENS, MOST_ORDERED_PLACES, MOST_PROOF_LABELS,
+    MOST_SHEET_BYTES, MOST_TRIAL_BLOCKS, MOST_WORK_SIZE, MOST_WORK_VARIABLE,
 };
 pub use list::{Bytes, List, Name};
 pub use memory_sink::MemSink;

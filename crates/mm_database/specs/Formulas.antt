@@ -5,6 +5,7 @@ use Rattle.std.specs.Option.{option_map_or}
 use Rattle.mm_base.specs.declared.symbols.Sym.{Sym}
 use Rattle.mm_base.specs.declared.symbols.Typecode.{Typecode}
 use Rattle.mm_base.specs.declared.tree.Tree.{Tree}
+use Rattle.mm_base.specs.Limits.{most_formula_tokens}
 use Rattle.mm_model.specs.declared.rows.Leaf.{Leaf}
 use Rattle.mm_model.specs.declared.rows.Leaf.TheVariants as leaf
 use Rattle.mm_model.specs.declared.rows.Production.{Production}
@@ -35,7 +36,7 @@ pub record IsOneTree (rows : List Production) (place : ℕ) (leaves : List Leaf)
 abbrev pub is_assertion : Option Sym → List Sym → Bool
 is_assertion None formula = false
 is_assertion (Some s) [] = false
-is_assertion (Some s) (c ∷ rest) = c.0 == s.0 && nat_le (length (c ∷ rest)) 4096
+is_assertion (Some s) (c ∷ rest) = c.0 == s.0 && nat_le (length (c ∷ rest)) most_formula_tokens
 
 -- the formula is one of an assertion, and has this one tree at the place
 pub record IsReadBy (kinds : KindCodes) (rows : List Production) (constants : List ℕ) (place : ℕ) (vars : List FrameVariable) (formula : List Sym) (t : Tree) : Type 0 where

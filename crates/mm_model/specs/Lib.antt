@@ -6,7 +6,6 @@ pub mod Frames
 pub mod FramesExamples
 pub mod Labels
 pub mod LabelsExamples
-pub mod Limits
 pub mod Names
 pub mod NamesExamples
 pub mod Productions

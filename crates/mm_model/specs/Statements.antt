@@ -1,8 +1,9 @@
 -- The statements of a database as a flat list, what is active, and the faults 10 to 30 (Metamath book, section 4.2).
-use Rattle.std.specs.Prelude.{ℕ, ◌^◌, Bool, true, false, not, ◌&&◌, ◌||◌, ◌==◌, List, [], ◌∷◌, ◌++◌, length, take, drop, nat_lt, nat_le, nat_eq}
+use Rattle.std.specs.Prelude.{ℕ, Bool, true, false, not, ◌&&◌, ◌||◌, ◌==◌, List, [], ◌∷◌, ◌++◌, length, take, drop, nat_lt, nat_le, nat_eq}
 use Rattle.std.specs.Prelude.{Option, Some, None, if◌then◌else◌, map, reverse, flat_map, filter, take_while, codes}
 use Rattle.std.specs.List.{list_any, list_all, ends_with, prefix_len}
 use Rattle.std.specs.Str.{bytes_eq}
+use Rattle.mm_base.specs.Limits.{most_database_bytes}
 use Rattle.mm_model.specs.Faults.{Fault, fault, or_else, first_fault_within}
 use Rattle.mm_model.specs.Words.{Word}
 use Rattle.mm_model.specs.Tokens.{tokens, token_fault}
@@ -281,4 +282,4 @@ statement_fault text =
 -- the first fault of a database: 30 where it is too long, else that of its tokens, else that of its statements
 abbrev pub database_fault : List ℕ → Option Fault
 database_fault text =
-    if nat_lt (2 ^ 28) (length text) then Some (fault (2 ^ 28) 30) else or_else (token_fault text) (statement_fault text)
+    if nat_lt most_database_bytes (length text) then Some (fault most_database_bytes 30) else or_else (token_fault text) (statement_fault text)

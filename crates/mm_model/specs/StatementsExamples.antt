@@ -1,8 +1,8 @@
 -- Small databases, computed.
 use Rattle.std.specs.Prelude.{◌≡◌, ℕ, true, List, length, nat_lt, if◌then◌else◌, Some, None, codes, refl}
 use Rattle.std.proofs.Common.{ap}
+use Rattle.mm_base.specs.Limits.{most_database_bytes}
 use Rattle.mm_model.specs.Faults.{fault, or_else}
-use Rattle.mm_model.specs.Limits.{most_database_bytes}
 use Rattle.mm_model.specs.Tokens.{token_fault}
 use Rattle.mm_model.specs.Statements.{database_fault, statement_fault, statements}
 

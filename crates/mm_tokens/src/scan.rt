@@ -1,8 +1,9 @@
 //! Reading the tokens: from word to word, past the comments.
 
-ghost use Rattle.std.specs.Prelude.{◌≡◌, ◌==◌, ◌≤◌, ◌^◌, not, ◌&&◌, length, map, IfOk, IfErr, OnOk, Ok, None, Option, false, codes, position, unwrap_or, MatchResult};
+ghost use Rattle.std.specs.Prelude.{◌≡◌, ◌==◌, ◌≤◌, not, ◌&&◌, length, map, IfOk, IfErr, OnOk, Ok, None, Option, false, codes, position, unwrap_or, MatchResult};
 ghost use Rattle.std.specs.List.{list_any};
 ghost use Rattle.std.specs.Str.{bytes_eq};
+ghost use Rattle.mm_base.specs.Limits.{most_database_bytes};
 ghost use Rattle.mm_model.specs.Words.{words};
 ghost use Rattle.mm_model.specs.Faults.{Fault, earlier};
 ghost use Rattle.mm_model.specs.Tokens.{keywords, is_bad_byte, bad_byte, words_fault, token_fault, tokens as tokens_of};
@@ -94,7 +95,7 @@ fn kind_of(word: &[u8]) -> TokenKind
 
 /// Reads from word to word.
 fn read_words(alloc: Global, text: &[u8]) -> Result<Vec<Token>, TokenFault>
-    requires { length text.now ≤ 2 ^ 28 }
+    requires { length text.now ≤ most_database_bytes }
     ensures { MatchResult result (λ ts. read_words false (length text.now) (words text.now) ≡ Ok ts.items)
         (λ e. FailsWith e (read_words false (length text.now) (words text.now))) }
 {
@@ -129,7 +130,7 @@ fn read_words(alloc: Global, text: &[u8]) -> Result<Vec<Token>, TokenFault>
 
 /// The tokens, or the first fault of the words.
 fn scan(alloc: Global, text: &[u8]) -> Result<Vec<Token>, TokenFault>
-    requires { length text.now ≤ 2 ^ 28 }
+    requires { length text.now ≤ most_database_bytes }
     ensures tokens { IfOk result (λ ts. ts.items ≡ map token_of (tokens_of text.now)) }
     ensures no_fault { OnOk result (words_fault text.now ≡ None) }
     ensures first_fault { IfErr result (λ e. IsFault e (words_fault text.now)) }
@@ -155,7 +156,7 @@ fn first_of(bad: u32, other: TokenFault) -> TokenFault
 
 /// The first fault, where the words' first is known.
 fn with_bad_byte(text: &[u8], other: TokenFault) -> TokenFault
-    requires { length text.now ≤ 2 ^ 28 }
+    requires { length text.now ≤ most_database_bytes }
     ensures { (f : Option Fault) → IsFault other f → IsFault result (earlier (bad_byte text.now) f) }
 {
     match first_bad_byte(text) {
@@ -167,7 +168,7 @@ fn with_bad_byte(text: &[u8], other: TokenFault) -> TokenFault
 /// The tokens outside comments, in order, or the first fault of the text. It takes time in proportion to the text, and
 /// memory in proportion to the tokens.
 pub fn tokens(alloc: Global, text: &[u8]) -> Result<List<Token>, TokenFault>
-    requires { length text.now ≤ 2 ^ 28 }
+    requires { length text.now ≤ most_database_bytes }
     ensures tokens { IfOk result (λ ts. ts ≡ map token_of (tokens_of text.now)) }
     ensures no_fault { OnOk result (token_fault text.now ≡ None) }
 

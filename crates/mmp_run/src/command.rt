@@ -10,6 +10,7 @@ ghost use Rattle.mmp_run.specs.Shown.{names_in, names_shown, options_shown, show
 
 use crate::options::{Choice, choose};
 use itoa::Buffer;
+use mm_base::MOST_TRIAL_BLOCKS;
 
 /// What the words ask for.
 #[derive(Clone, Copy)]
@@ -28,9 +29,6 @@ pub enum Command<'a> {
     /// To try the program by itself, with so many blocks.
     Trial(u32),
 }
-
-/// The most blocks that a trial may have.
-pub const MOST_BLOCKS: u32 = 1000;
 
 // A word that may name a file or a label.
 fn is_name_word(word: &str) -> bool
@@ -63,7 +61,7 @@ fn count_options(words: &[String]) -> usize
 fn read_blocks(word: &str) -> Option<u32>
     ensures { result ≡ line.trial_number word.now }
 {
-    for blocks in 1..MOST_BLOCKS + 1 {
+    for blocks in 1..MOST_TRIAL_BLOCKS + 1 {
         let mut buffer = Buffer::new();
         if buffer.format(blocks) == word {
             return Some(blocks);

@@ -1,5 +1,6 @@
-ghost use Rattle.std.specs.Prelude.{◌≡◌, ◌≤◌, ◌^◌, IfOk};
+ghost use Rattle.std.specs.Prelude.{◌≡◌, ◌≤◌, IfOk};
 ghost use Rattle.mm_base.specs.Outside.{NoneFell};
+ghost use Rattle.mm_base.specs.Limits.{most_database_bytes};
 ghost use Rattle.mmp_run.specs.Found.{IsFound};
 
 use mm_base::{Bytes, List, Memory, ReadStop, Store};
@@ -20,7 +21,7 @@ pub fn read_file<S: Store>(
     name: &str,
     most: u64,
 ) -> Result<Found, Memory>
-    requires { most ≤ 2 ^ 28 }
+    requires { most ≤ most_database_bytes }
     ensures found { IfOk result (IsFound (S.told store.old) most name.now (S.read_faults store.old name.now) (S.read_faults store.new name.now)) }
     ensures same_files { S.told store.new ≡ S.told store.old }
     ensures read_faults { NoneFell (S.read_faults store.old) (S.read_faults store.new) }

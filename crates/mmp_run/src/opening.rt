@@ -1,7 +1,8 @@
 //! Opening the file of a database.
 
-ghost use Rattle.std.specs.Prelude.{◌≡◌, ◌<◌, ◌≤◌, ◌^◌, ℕ, List, Option, length, IfOk, IfSome, IsSomeAnd};
+ghost use Rattle.std.specs.Prelude.{◌≡◌, ◌<◌, ◌≤◌, ℕ, List, Option, length, IfOk, IfSome, IsSomeAnd};
 ghost use Rattle.mm_base.specs.Outside.{Files, NoneFell, Rose};
+ghost use Rattle.mm_base.specs.Limits.{most_database_bytes};
 ghost use Rattle.mm_database.specs.Faults.{IsDbFault, IsTold};
 ghost use Rattle.mm_model.specs.Faults.{fault};
 ghost use Rattle.mm_model.specs.Statements.{database_fault};
@@ -27,7 +28,7 @@ pub enum Opened {
 
 // The ending that tells that a database is too big.
 fn refuse_size(alloc: Global) -> Result<Ending, Memory>
-    ensures { IfOk result (λ end. end ≡ refusal Status.Database (database_line (fault (2 ^ 28) 30))) }
+    ensures { IfOk result (λ end. end ≡ refusal Status.Database (database_line (fault most_database_bytes 30))) }
 {
     refuse(
         alloc,
@@ -55,7 +56,7 @@ fn refuse_fault(alloc: Global, text: &[u8], fault: DbFault) -> Result<Ending, Me
 // The ending that tells that the file of a database is too big.
 fn open_big(alloc: Global) -> Result<Opened, Memory>
     ensures { IfOk result (λ opened. (told : Option Files) (before now : List ℕ → ℕ) (name : List ℕ)
-        → IfSome told (λ files. IsSomeAnd (files name) (λ text. 2 ^ 28 < length text)) → IsOpened told before now name opened) }
+        → IfSome told (λ files. IsSomeAnd (files name) (λ text. most_database_bytes < length text)) → IsOpened told before now name opened) }
 {
     let end = refuse_size(alloc)?;
     Ok(Opened::Refused(end))
@@ -83,7 +84,7 @@ fn open_fault(alloc: Global, text: &[u8], fault: DbFault) -> Result<Opened, Memo
 
 // Judges the text of a database.
 fn open_text(alloc: Global, text: Bytes) -> Result<Opened, Memory>
-    requires { length text ≤ 2 ^ 28 }
+    requires { length text ≤ most_database_bytes }
     ensures { IfOk result (λ opened. (told : Option Files) (before now : List ℕ → ℕ) (name : List ℕ)
         → Has told name text → IsOpened told before now name opened) }
 {

@@ -1,7 +1,8 @@
 //! Opening the file of a worksheet.
 
-ghost use Rattle.std.specs.Prelude.{◌≡◌, ◌<◌, ◌≤◌, ◌^◌, ℕ, List, Option, Some, length, IfOk, IfSome, IsSome, IsSomeAnd};
+ghost use Rattle.std.specs.Prelude.{◌≡◌, ◌<◌, ◌≤◌, ℕ, List, Option, Some, length, IfOk, IfSome, IsSome, IsSomeAnd};
 ghost use Rattle.mm_base.specs.Outside.{Files, NoneFell, Rose};
+ghost use Rattle.mm_base.specs.Limits.{most_sheet_bytes};
 ghost use Rattle.sheet_read.specs.Faults.{IsFault};
 ghost use Rattle.sheet_text.specs.TextFaults.{line_fault};
 ghost use Rattle.fault_lines.specs.FaultLines.{refusal_line};
@@ -38,7 +39,7 @@ pub fn refuse_sheet(alloc: Global, fault: &UnifyFault) -> Result<Ending, Memory>
 // The ending that tells that the file of a worksheet is too big.
 fn open_big(alloc: Global) -> Result<OpenedSheet, Memory>
     ensures { IfOk result (λ opened. (told : Option Files) (before now : List ℕ → ℕ) (name : List ℕ)
-        → IfSome told (λ files. IsSomeAnd (files name) (λ text. 2 ^ 24 < length text)) → IsOpenedSheet told before now name opened) }
+        → IfSome told (λ files. IsSomeAnd (files name) (λ text. most_sheet_bytes < length text)) → IsOpenedSheet told before now name opened) }
 {
     let end = refuse_sheet(alloc, &UnifyFault::TooBig)?;
     Ok(OpenedSheet::Refused(end))
@@ -55,7 +56,7 @@ fn open_unread(alloc: Global, name: &str) -> Result<OpenedSheet, Memory>
 
 // The ending that tells the first fault of the text of a worksheet.
 fn open_fault(alloc: Global, text: &[u8], code: SheetCode, line: u32) -> Result<OpenedSheet, Memory>
-    requires short { length text.now ≤ 2 ^ 24 }
+    requires short { length text.now ≤ most_sheet_bytes }
     requires first { IsFault (SheetFault.At code line) (line_fault text.now) }
     ensures { IfOk result (λ opened. (told : Option Files) (before now : List ℕ → ℕ) (name : List ℕ)
         → Has told name text.now → IsOpenedSheet told before now name opened) }
@@ -67,7 +68,7 @@ fn open_fault(alloc: Global, text: &[u8], code: SheetCode, line: u32) -> Result<
 
 // Judges the text of a worksheet.
 fn open_text(alloc: Global, text: &[u8]) -> Result<OpenedSheet, Memory>
-    requires { length text.now ≤ 2 ^ 24 }
+    requires { length text.now ≤ most_sheet_bytes }
     ensures { IfOk result (λ opened. (told : Option Files) (before now : List ℕ → ℕ) (name : List ℕ)
         → Has told name text.now → IsOpenedSheet told before now name opened) }
 {
@@ -80,7 +81,7 @@ fn open_text(alloc: Global, text: &[u8]) -> Result<OpenedSheet, Memory>
 
 // Judges the bytes of the file of a worksheet.
 fn open_bytes(alloc: Global, text: Bytes) -> Result<OpenedSheet, Memory>
-    requires { length text ≤ 2 ^ 24 }
+    requires { length text ≤ most_sheet_bytes }
     ensures { IfOk result (λ opened. (told : Option Files) (before now : List ℕ → ℕ) (name : List ℕ)
         → Has told name text → IsOpenedSheet told before now name opened) }
 {

@@ -1,8 +1,9 @@
 //! The trial of the program by itself.
 
-ghost use Rattle.std.specs.Prelude.{◌≡◌, ◌≤◌, ◌^◌, ℕ, List, [], None, count_by, length, option_map, IfOk};
+ghost use Rattle.std.specs.Prelude.{◌≡◌, ◌≤◌, ℕ, List, [], None, count_by, length, option_map, IfOk};
 ghost use Rattle.std.specs.List.{after_first, flat_map};
 ghost use Rattle.std.specs.Str.{bytes_eq};
+ghost use Rattle.mm_base.specs.Limits.{most_sheet_bytes};
 ghost use Rattle.call_answers.specs.Endings.{status_of as status_of_end};
 ghost use Rattle.call_answers.specs.Trial.{IsTried, is_fits, letters_in, letter_count, proof_line, trial_options, trial_report};
 ghost use Rattle.mm_database.specs.Faults.{IsDbFault, IsTold};
@@ -61,7 +62,7 @@ fn letters_of(alloc: Global, tokens: &[&[u8]]) -> Result<Vec<u8>, Memory>
 
 // The number of the letters in the proof of a written text.
 fn count_letters(alloc: Global, text: &[u8]) -> Result<usize, Memory>
-    requires { length text.now ≤ 2 ^ 24 }
+    requires { length text.now ≤ most_sheet_bytes }
     ensures { IfOk result (λ count. count ≡ letter_count (proof_line text.now)) }
 {
     match proof_tokens(alloc, text)? {
@@ -103,7 +104,7 @@ fn report_text(
 
 // The ending that tells an outcome.
 fn end_outcome(alloc: Global, outcome: &Outcome) -> Result<Ending, Memory>
-    requires { length outcome.now.text ≤ 2 ^ 24 }
+    requires { length outcome.now.text ≤ most_sheet_bytes }
     ensures told { IfOk result (TellsOutcome outcome.now) }
     ensures ending { IfOk result IsTextEnding }
 {

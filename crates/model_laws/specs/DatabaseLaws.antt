@@ -5,6 +5,7 @@ use Rattle.mm_base.specs.declared.symbols.Sym.{Sym}
 use Rattle.mm_base.specs.declared.symbols.Label.{Label}
 use Rattle.mm_base.specs.declared.symbols.Typecode.{Typecode}
 use Rattle.mm_base.specs.declared.kinds.Kinds.{Kinds}
+use Rattle.mm_base.specs.Limits.{most_database_bytes}
 use Rattle.mm_model.specs.declared.frames.Hyp.{Hyp}
 use Rattle.mm_model.specs.declared.frames.Frame.{Frame}
 use Rattle.mm_model.specs.declared.rows.Production.{Production}
@@ -13,7 +14,6 @@ use Rattle.mm_model.specs.Labels.{is_label}
 use Rattle.mm_model.specs.Names.{Name}
 use Rattle.mm_model.specs.Words.{is_white}
 use Rattle.mm_model.specs.Productions.{TypedVariable, typed_variables, essentials, item_of}
-use Rattle.mm_model.specs.Limits.{most_database_bytes}
 use Rattle.mm_model.specs.Rows.{IsGrammar}
 use Rattle.mm_model.specs.Texts.{row_of}
 use Rattle.mm_model.specs.Book.{Database, IsDatabaseOf}

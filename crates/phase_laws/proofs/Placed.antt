@@ -4,9 +4,9 @@ use Rattle.std.specs.List.{AllByRecursion, AllZip, list_all}
 use Rattle.std.proofs.Common.{sym, subst, cond, arith, ltb-true}
 use Rattle.std.proofs.lemmas.Bool.{and_parts}
 use Rattle.std.proofs.lemmas.Bool.Decides.{nat_tests}
+use Rattle.mm_base.specs.Limits.{most_sheet_bytes}
 use Rattle.mm_model.specs.Book.{Database}
 use Rattle.mm_model.specs.Faults.{fault}
-use Rattle.mm_model.specs.Limits.{most_sheet_bytes}
 use Rattle.sheet_text.specs.declared.sheet.Given.{Given}
 use Rattle.sheet_text.specs.declared.sheet.Given.TheVariants as given
 use Rattle.sheet_text.specs.declared.sheet.SheetStep.{SheetStep}

@@ -1,7 +1,7 @@
 -- The places of a worksheet that was bound.
 use Rattle.std.specs.Prelude.{◌≡◌, ◌<◌, ◌≤◌, ◌^◌, ℕ, List, length, None}
+use Rattle.mm_base.specs.Limits.{most_sheet_bytes}
 use Rattle.mm_model.specs.Book.{Database}
-use Rattle.mm_model.specs.Limits.{most_sheet_bytes}
 use Rattle.sheet_text.specs.declared.sheet.Sheet.{Sheet}
 use Rattle.sheet_text.specs.Layout.{steps}
 use Rattle.sheet_text.specs.Reads.{Reads}

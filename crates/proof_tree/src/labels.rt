@@ -1,5 +1,6 @@
 ghost use Rattle.std.specs.Prelude.{◌≡◌, ◌++◌, ◌+◌, ◌<◌, ◌≤◌, ◌^◌, ◌-◌, ℕ, length, map, fold, min, slice_index_or, reverse, IfOk, IfErr};
 ghost use Rattle.std.specs.List.{AllByRecursion};
+ghost use Rattle.mm_base.specs.Limits.{most_proof_labels};
 ghost use Rattle.proof_model.specs.Proofs.{postorder};
 ghost use Rattle.proof_tree.specs.declared.graph.ProofNode.{ProofNode as NodeOf};
 ghost use Rattle.proof_tree.specs.Graphs.{NameEarlier, IsTold, node_proofs, proof_at, root_proof, label_count, added_count};
@@ -79,7 +80,7 @@ fn listed(alloc: Global, nodes: &[ProofNode]) -> Result<List<Name>, Memory>
 /// them.
 pub fn normal(alloc: Global, graph: &ProofGraph) -> Result<List<Name>, NormalFault>
     ensures labels { IfOk result (λ labels. labels ≡ postorder (root_proof graph.now)) }
-    ensures few { IfOk result (λ labels. length labels ≤ 2 ^ 20) }
+    ensures few { IfOk result (λ labels. length labels ≤ most_proof_labels) }
     ensures too_long { IfErr result (IsTold (root_proof graph.now)) }
 {
     let nodes = graph.nodes();

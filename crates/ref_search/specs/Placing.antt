@@ -4,6 +4,7 @@ use Rattle.std.specs.List.{range_with_len}
 use Rattle.mm_base.specs.declared.symbols.Sym.{Sym}
 use Rattle.mm_base.specs.declared.symbols.Pair.{Pair}
 use Rattle.mm_base.specs.declared.tree.Tree.{Tree}
+use Rattle.mm_base.specs.Limits.{most_ordered_places}
 use Rattle.mm_model.specs.declared.frames.Frame.{Frame}
 use Rattle.mm_model.specs.Productions.{typed_variables}
 use Rattle.mm_model.specs.Book.{Assertion}
@@ -46,7 +47,7 @@ pub record IsFirstFit (a : Assertion) (given : Option (List Pair)) (bs : List Bi
 
 -- the orders of so many: all where there are at most six, else as they are listed
 abbrev pub orders_of : ℕ → List (List ℕ)
-orders_of n = if nat_le n 6 then orders n (range_with_len 0 n) else range_with_len 0 n ∷ []
+orders_of n = if nat_le n most_ordered_places then orders n (range_with_len 0 n) else range_with_len 0 n ∷ []
 
 -- the assertion's trees become the wanted ones, the hypotheses in this order
 abbrev pub FitsWanted : Assertion → Option (List Pair) → Wanted → List ℕ → List Tree → Type 0

@@ -12,7 +12,7 @@ use crate::completing::complete;
 use crate::matching::matches;
 use crate::shapes::may_become;
 use crate::wanted::Wanted;
-use mm_base::{List, Memory, Pair, Sym, Tree};
+use mm_base::{List, MOST_ORDERED_PLACES, Memory, Pair, Sym, Tree};
 use mm_model::Frame;
 use std::alloc::Global;
 
@@ -161,9 +161,6 @@ fn listed<'w>(
     }
 }
 
-/// The most hypotheses that are tried in each order.
-const MOST_ORDERED: usize = 6;
-
 /// The first order in which an assertion with these trees fits, where it has as many `$e` as there are wanted hypotheses.
 /// Where its conclusion has another shape than the wanted formula it takes no memory.
 pub fn fit_to(
@@ -192,7 +189,7 @@ pub fn fit_to(
     }
     let patterns = hyps.as_slice();
     let trees = wanted.hyps.as_slice();
-    if places.len() <= MOST_ORDERED {
+    if places.len() <= MOST_ORDERED_PLACES {
         place(
             alloc,
             frame,

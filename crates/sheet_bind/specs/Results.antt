@@ -1,9 +1,9 @@
 -- What `bind_sheet` answers.
 use Rattle.std.specs.Prelude.{◌≡◌, ◌-◌, ◌^◌, ◌<◌, ◌≤◌, ℕ, List, [], fold, length, map, min, sum, Some, None, is_some}
 use Rattle.mm_base.specs.declared.symbols.Pair.{Pair}
+use Rattle.mm_base.specs.Limits.{most_work_size}
 use Rattle.mm_model.specs.Book.{Database}
 use Rattle.mm_model.specs.Faults.{fault}
-use Rattle.mm_model.specs.Limits.{most_work_size}
 use Rattle.mm_database.specs.Opened.{Opened}
 use Rattle.sheet_text.specs.declared.sheet.Sheet.{Sheet}
 use Rattle.solve_model.specs.declared.bound.Bound.{Bound}

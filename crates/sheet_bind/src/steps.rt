@@ -1,5 +1,6 @@
 ghost use Rattle.std.specs.Prelude.{◌≡◌, ◌⊎◌, ◌≤◌, true, [], ◌∷◌, ◌++◌, length, drop, fold, option_map, Option, None, IfOk, OnOk};
 ghost use Rattle.mm_base.specs.declared.tree.Tree.{Tree};
+ghost use Rattle.mm_base.specs.Limits.{most_formula_tokens};
 ghost use Rattle.mm_model.specs.Faults as spec;
 ghost use Rattle.sheet_bind.specs.Found.{found};
 ghost use Rattle.sheet_bind.specs.Judging.{scene, state_of, start_of, IsTreeIn, IsTreeJudged, IsStepJudged, IsStepAdded, IsAdded, IsJudged, Runs, is_worth, bound_of, with_pair, put_step, AreTrees, with_trees, tree_in};
@@ -127,7 +128,7 @@ fn judge_tree(
     step: &SheetStep,
 ) -> Result<StepJudged, Memory>
     requires some { 1 ≤ length step.now.formula }
-    requires short { length step.now.formula ≤ 4096 }
+    requires short { length step.now.formula ≤ most_formula_tokens }
     ensures { IfOk result (λ r. IsTreeJudged (IsTreeIn (scene db.now [] [] setting.now) step.now) step.now.line (option_map found first) (option_map found r.first) r.tree) }
 {
     let tokens = behind_first(step.formula.as_slice());

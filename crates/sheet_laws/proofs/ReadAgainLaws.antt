@@ -1,8 +1,8 @@
 -- A text reads as one sheet at most, so a layout reads as its sheet alone.
 use Rattle.std.proofs.Common.{◌≡◌, ◌≤◌, ℕ, false, ltb, List, length, Some, sym, ap, ◌∙◌, arith}
 use Rattle.std.proofs.lemmas.Bool.Decides.{nat_tests}
+use Rattle.mm_base.specs.Limits.{most_sheet_bytes}
 use Rattle.mm_model.specs.Faults.{fault}
-use Rattle.mm_model.specs.Limits.{most_sheet_bytes}
 use Rattle.sheet_text.specs.declared.sheet.Sheet.{Sheet}
 use Rattle.sheet_text.specs.Layout.{layout}
 use Rattle.sheet_text.specs.Reads.{ReadsAs, unnumbered}

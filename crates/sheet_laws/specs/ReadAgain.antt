@@ -1,6 +1,6 @@
 -- A layout, read again.
 use Rattle.std.specs.Prelude.{◌≡◌, ◌≤◌, ℕ, List, length, Option, None}
-use Rattle.mm_model.specs.Limits.{most_sheet_bytes}
+use Rattle.mm_base.specs.Limits.{most_sheet_bytes}
 use Rattle.sheet_text.specs.declared.sheet.Sheet.{Sheet}
 use Rattle.sheet_text.specs.Layout.{layout}
 use Rattle.sheet_text.specs.Reads.{Reads, unnumbered}

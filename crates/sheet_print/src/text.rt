@@ -3,8 +3,8 @@
 ghost use Rattle.std.specs.Prelude.{◌≡◌, ℕ, List, [], ◌∷◌, ◌++◌, map, flat_map, if◌then◌else◌, unwrap_or, codes, IfOk, OnOk, length, ◌≤◌};
 ghost use Rattle.std.specs.Option.{option_copied};
 ghost use Rattle.std.specs.List.{join_with_byte};
+ghost use Rattle.mm_base.specs.Limits.{most_sheet_bytes};
 ghost use Rattle.sheet_text.specs.Layout.{ended, header_line, step_names, step_of_item, place_text, step_token, spaced, item_lines, pair_line, proof_lines, layout as layout_of};
-ghost use Rattle.mm_model.specs.Limits.{most_sheet_bytes};
 ghost use Rattle.sheet_text.specs.Reads.{ReadsAs};
 ghost use Rattle.sheet_text.specs.Spellable.{IsSpellable};
 ghost use Rattle.written_model.specs.ReadBack.{IsOneLine};

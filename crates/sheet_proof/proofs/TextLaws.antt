@@ -4,9 +4,9 @@ use Rattle.std.specs.List.{last_or}
 use Rattle.std.proofs.Common.{sym, ap, ◌∙◌, arith, append-nil, length-append}
 use Rattle.std.proofs.Math.Nat.{min_comm}
 use Rattle.std.proofs.lemmas.Grind.{fold-append}
+use Rattle.mm_base.specs.Limits.{most_proof_labels}
 use Rattle.fault_lines.specs.Refusals.{told_number}
 use Rattle.mm_database.specs.Opened.{Opened}
-use Rattle.mm_model.specs.Limits.{most_proof_labels}
 use Rattle.mm_model.specs.Names.{Name}
 use Rattle.mm_model.specs.Book.{Database}
 use Rattle.proof_model.specs.declared.theorem.Theorem.{Theorem}

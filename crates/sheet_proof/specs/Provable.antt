@@ -2,8 +2,8 @@
 use Rattle.std.specs.Prelude.{◌≡◌, ◌<◌, ℕ, true, List, [], ◌∷◌, ◌++◌, length, slice_get, slice_index_or, unwrap_or, Contains, Some, None, codes}
 use Rattle.mm_base.specs.declared.kinds.Kinds.{Kinds}
 use Rattle.mm_base.specs.declared.symbols.Pair.{Pair}
+use Rattle.mm_base.specs.Limits.{most_proof_labels}
 use Rattle.mm_database.specs.Opened.{Opened, IsOpened}
-use Rattle.mm_model.specs.Limits.{most_proof_labels}
 use Rattle.fault_lines.specs.Refusals.{told_number}
 use Rattle.proof_model.specs.declared.theorem.Theorem.{Theorem}
 use Rattle.proof_model.specs.Proofs.{postorder}

@@ -2,8 +2,8 @@
 use Rattle.std.specs.Prelude.{◌≡◌, ℕ, true, ◌==◌, if◌then◌else◌, nat_lt, List, [], ◌∷◌, ◌++◌, length, map, Option, Some, None, codes, refl, flat_map}
 use Rattle.std.specs.List.{slice_split}
 use Rattle.std.proofs.Common.{ap}
+use Rattle.mm_base.specs.Limits.{most_sheet_bytes}
 use Rattle.mm_model.specs.Faults.{Fault, fault}
-use Rattle.mm_model.specs.Limits.{most_sheet_bytes}
 use Rattle.sheet_text.specs.Layout.{ended}
 use Rattle.sheet_text.specs.TextFaults.{text_fault, line_fault}
 

@@ -3,8 +3,8 @@ use Rattle.std.specs.Prelude.{ℕ, Bool, false, not, ◌&&◌, ◌||◌, ◌==�
 use Rattle.std.specs.Option.{option_map_or}
 use Rattle.std.specs.Str.{bytes_eq}
 use Rattle.std.specs.List.{list_any}
+use Rattle.mm_base.specs.Limits.{most_sheet_bytes}
 use Rattle.mm_model.specs.Faults.{Fault, fault, earlier, or_else, first_fault}
-use Rattle.mm_model.specs.Limits.{most_sheet_bytes}
 use Rattle.mm_model.specs.Names.{contains, has_twice}
 use Rattle.sheet_text.specs.Lines.{Line, begins, tokens, lines_not_blank, line_past_end}
 use Rattle.sheet_text.specs.SheetStatements.{Statement, statements, line_of, tokens_in, is_word, is_footer, is_distinct, is_proof, is_comment, ends_proof}

@@ -2,8 +2,8 @@
 use Rattle.std.specs.Prelude.{◌≡◌, ◌<◌, ◌≤◌, ◌↔◌, ℕ, true, IsTrue, List, [], ◌∷◌, length, Contains, Some, None, refl}
 use Rattle.std.specs.List.{AllZip}
 use Rattle.std.proofs.Common.{◌+◌, arith, inl, inr, add-one}
+use Rattle.mm_base.specs.Limits.{most_sheet_bytes, most_work_size, most_proof_labels}
 use Rattle.mm_model.specs.Book.{Database}
-use Rattle.mm_model.specs.Limits.{most_sheet_bytes, most_work_size, most_proof_labels}
 use Rattle.fault_lines.specs.Refusals.{Refusal, written_two_trees, too_much_written, proof_too_long, too_large, told_number}
 use Rattle.solve_model.specs.Bound.{work_size}
 use Rattle.solve_model.specs.Firsts.{IsFirstIn}

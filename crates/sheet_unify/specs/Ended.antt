@@ -1,7 +1,7 @@
 -- What is told at the end of a worksheet: the first fault of what is to be written, its text and its report.
 use Rattle.std.specs.Prelude.{◌≡◌, ◌<◌, ◌↔◌, ℕ, Bool, true, IsTrue, List, length, map, Contains, Option, Some, None, IfSome, if◌then◌else◌}
+use Rattle.mm_base.specs.Limits.{most_sheet_bytes, most_work_size, most_proof_labels}
 use Rattle.mm_model.specs.Book.{Database}
-use Rattle.mm_model.specs.Limits.{most_sheet_bytes, most_work_size, most_proof_labels}
 use Rattle.mm_database.specs.Opened.{Opened, IsOpened}
 use Rattle.fault_lines.specs.Refusals.{Refusal, proof_too_long, too_large, told_number}
 use Rattle.proof_model.specs.Proofs.{postorder}

@@ -1,8 +1,8 @@
 -- What is made of a worksheet on the way to its answer.
 use Rattle.std.specs.Prelude.{◌≡◌, ◌≤◌, ◌↔◌, ℕ, Bool, IsTrue, List}
 use Rattle.mm_base.specs.declared.kinds.Kinds.{Kinds}
+use Rattle.mm_base.specs.Limits.{most_work_size}
 use Rattle.mm_model.specs.Book.{Database}
-use Rattle.mm_model.specs.Limits.{most_work_size}
 use Rattle.mm_database.specs.Opened.{Opened, IsOpened}
 use Rattle.sheet_text.specs.declared.sheet.Sheet.{Sheet}
 use Rattle.sheet_text.specs.Layout.{step_names}

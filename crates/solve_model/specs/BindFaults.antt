@@ -4,9 +4,9 @@ use Rattle.std.specs.Option.{option_map_or}
 use Rattle.std.specs.List.{list_any, list_all}
 use Rattle.std.specs.Str.{bytes_eq}
 use Rattle.mm_base.specs.declared.symbols.Sym.{Sym}
+use Rattle.mm_base.specs.Limits.{most_formula_tokens}
 use Rattle.mm_model.specs.Faults.{Fault}
 use Rattle.mm_model.specs.Labels.{is_label_byte}
-use Rattle.mm_model.specs.Limits.{most_formula_tokens}
 use Rattle.mm_model.specs.Names.{Name}
 use Rattle.mm_model.specs.Book.{Database, label_of, symbol_of}
 use Rattle.sheet_text.specs.declared.sheet.Sheet.{Sheet}

@@ -6,6 +6,7 @@ use Rattle.mm_base.specs.declared.symbols.Typecode.{Typecode}
 use Rattle.mm_base.specs.declared.tree.Tree.{Tree}
 use Rattle.mm_base.specs.declared.tree.Tree.TheVariants.{Var, Fresh}
 use Rattle.mm_base.specs.Trees.{code_of}
+use Rattle.mm_base.specs.Limits.{most_ordered_places}
 use Rattle.mm_model.specs.Typed.{IsTyped}
 use Rattle.mm_model.specs.Productions.{TypedVariable}
 use Rattle.mm_model.specs.Book.{Database, Assertion, logic_code}
@@ -92,7 +93,7 @@ names_step (given.Step k) = true
 
 -- as many places as `$e`, two to six, and no `?`
 abbrev pub is_free : BoundStep → Assertion → Bool
-is_free s a = length s.places == length a.hyps && nat_le 2 (length s.places) && nat_le (length s.places) 6 && list_all names_step s.places
+is_free s a = length s.places == length a.hyps && nat_le 2 (length s.places) && nat_le (length s.places) most_ordered_places && list_all names_step s.places
 
 -- the orders of a candidate's places: the listed one, and where it is free all others
 abbrev pub orders_of : BoundStep → Assertion → List (List Given)

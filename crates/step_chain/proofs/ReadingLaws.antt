@@ -10,6 +10,7 @@ use Rattle.mm_base.specs.declared.symbols.Label.{Label}
 use Rattle.mm_base.specs.declared.symbols.Typecode.{Typecode}
 use Rattle.mm_base.specs.declared.tree.Tree.{Tree}
 use Rattle.mm_base.specs.declared.tree.Tree.TheVariants as tree
+use Rattle.mm_base.specs.Limits.{most_formula_tokens}
 use Rattle.term_model.specs.declared.shape.Id.{Id}
 use Rattle.term_model.specs.declared.shape.Shape.TheVariants as shape
 use Rattle.term_model.specs.Terms.{Term, Var, Free, Node, term_at, shape_of, children_of}
@@ -23,7 +24,7 @@ use Rattle.chain_laws.specs.Reading.{made, read, value_at, AreWorkNodes}
 use Rattle.chain_laws.proofs.Chained.{ranked_of}
 use Rattle.chain_laws.proofs.ReadValues.{read_tokens}
 use Rattle.step_chain.specs.declared.reading.TreeFault.TheVariants as fault
-use Rattle.step_chain.specs.Readings.{kept, AreNames, IsReadable, IsReadOff, most_tokens}
+use Rattle.step_chain.specs.Readings.{kept, AreNames, IsReadable, IsReadOff}
 
 -- ---- the least of one work variable more
 
@@ -168,11 +169,11 @@ module _ (nodes : List Term) (links : List Link) (works : List WorkNode) (names 
   tokens_are constants have own = is ∙ one_more_token (size_at sizes i) (tokens constants (value_at nodes links works i))
       (read_tokens nodes links works store h.solved own constants sizes i have h.sizes_are inside)
 
-  pub read_long : most_tokens < n → IsReadOff nodes links works i (Err (fault.TooLong n))
+  pub read_long : most_formula_tokens < n → IsReadOff nodes links works i (Err (fault.TooLong n))
   read_long more constants have own = (tokens_are constants have own, more)
 
-  pub read_short : (n ≤ most_tokens) → (t : Tree) → t ≡ value_at nodes links works i → IsReadOff nodes links works i (Ok t)
-  read_short few t e constants have own = (e, (let same = tokens_are constants have own in subst (λ (k : ℕ). k ≤ most_tokens) same few))
+  pub read_short : (n ≤ most_formula_tokens) → (t : Tree) → t ≡ value_at nodes links works i → IsReadOff nodes links works i (Ok t)
+  read_short few t e constants have own = (e, (let same = tokens_are constants have own in subst (λ (k : ℕ). k ≤ most_formula_tokens) same few))
 
   pub deep_enough : (depth : ℕ) → depth ≡ length nodes → IsAbove nodes links depth i
   deep_enough depth e = let ranked = ranked_of nodes links store h.solved.solution in (ranked.0, ranked.1, subst (λ (d : ℕ). get_or ranked.0 (end_of links i) 0 < d) (sym e) (ranked.1.few i inside))

@@ -3,6 +3,7 @@ use Rattle.std.specs.Prelude.{◌≡◌, ℕ, ◌+◌, ◌≤◌, ◌⊎◌, Lis
 use Rattle.std.specs.List.{AllByRecursion}
 use Rattle.mm_base.specs.declared.symbols.Label.{Label}
 use Rattle.mm_base.specs.declared.tree.Tree.{Tree}
+use Rattle.mm_base.specs.Limits.{most_formula_tokens}
 use Rattle.mm_model.specs.Productions.{TypedVariable}
 use Rattle.solve_model.specs.Solutions.{copy, Asked}
 use Rattle.solve_model.specs.Verdicts.{accepted}
@@ -13,7 +14,7 @@ use Rattle.chain_laws.specs.Reading.{value_at, AreWorkNodes}
 use Rattle.step_chain.specs.declared.judged.Accepted.{Accepted}
 use Rattle.step_chain.specs.declared.reading.TreeFault.{TreeFault}
 use Rattle.step_chain.specs.declared.reading.TreeFault.TheVariants.{TooLong, Memory}
-use Rattle.step_chain.specs.Readings.{most_tokens, Readable, IsRead}
+use Rattle.step_chain.specs.Readings.{Readable, IsRead}
 use Rattle.step_chain.specs.Held.{Held, judgements_of, OfEachBook, IsHeld}
 use Rattle.step_chain.specs.Values.{accepted_at, value_of}
 
@@ -31,7 +32,7 @@ OfKept h i P = (x : Accepted) → accepted_at h i ≡ Some x → P x
 
 -- the tree can be told
 abbrev pub IsShort : (Label → ℕ) → Tree → Type 0
-IsShort constants t = saturated (tokens constants t + 1) ≤ most_tokens
+IsShort constants t = saturated (tokens constants t + 1) ≤ most_formula_tokens
 
 -- the first of the trees that is too long has so many tokens
 abbrev pub IsFirstLong : (Label → ℕ) → List Tree → ℕ → Type 0

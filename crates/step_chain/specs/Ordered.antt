@@ -1,6 +1,7 @@
 -- The places of a candidate in their orders.
 use Rattle.std.specs.Prelude.{◌≡◌, ℕ, ◌<◌, ◌==◌, ◌&&◌, Bool, List, [], ◌∷◌, length, map, nat_le, if◌then◌else◌, slice_get, slice_index_or, Option, Some, None}
 use Rattle.std.specs.List.{list_all, range_with_len}
+use Rattle.mm_base.specs.Limits.{most_ordered_places}
 use Rattle.sheet_text.specs.declared.sheet.Given.{Given}
 use Rattle.sheet_text.specs.declared.sheet.Given.TheVariants as given
 use Rattle.solve_model.specs.Firsts.{orders}
@@ -13,7 +14,7 @@ use Rattle.step_chain.specs.Joined.{pairs_of}
 
 -- as many places as `$e`, two to six, and no `?`
 abbrev pub may_reorder : List Given → ℕ → Bool
-may_reorder places hyps = length places == hyps && nat_le 2 (length places) && nat_le (length places) 6 && list_all names_step places
+may_reorder places hyps = length places == hyps && nat_le 2 (length places) && nat_le (length places) most_ordered_places && list_all names_step places
 
 abbrev pub place_at : List Given → ℕ → Given
 place_at places n = slice_index_or places n given.Gap

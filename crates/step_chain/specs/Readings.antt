@@ -2,6 +2,7 @@
 use Rattle.std.specs.Prelude.{◌≡◌, ℕ, ◌+◌, ◌<◌, ◌≤◌, nat_le, List, length, slice_index_or, if◌then◌else◌, Option, Some, None, Result, Ok, Err}
 use Rattle.mm_base.specs.declared.symbols.Label.{Label}
 use Rattle.mm_base.specs.declared.tree.Tree.{Tree}
+use Rattle.mm_base.specs.Limits.{most_formula_tokens}
 use Rattle.term_model.specs.Terms.{Term}
 use Rattle.term_model.specs.Links.{Link}
 use Rattle.term_model.specs.Store.{IsSolved}
@@ -11,10 +12,6 @@ use Rattle.chain_laws.specs.Leaves.{least_at}
 use Rattle.chain_laws.specs.Reading.{value_at, AreWorkNodes}
 use Rattle.step_chain.specs.declared.reading.TreeFault.{TreeFault}
 use Rattle.step_chain.specs.declared.reading.TreeFault.TheVariants.{TooLong, Memory}
-
--- the most tokens of a formula, with its typecode
-abbrev pub most_tokens : ℕ
-most_tokens = 4096
 
 -- the one of lesser number, or the first
 abbrev pub kept : Option WorkNode → WorkNode → WorkNode
@@ -41,8 +38,8 @@ pub record IsReadable (nodes : List Term) (links : List Link) (works : List Work
 
 -- the tree is read, unless it has too many tokens with a typecode
 abbrev pub IsRead : (Label → ℕ) → Tree → Result Tree TreeFault → Type 0
-IsRead constants t (Ok u) = (u ≡ t) × (saturated (tokens constants t + 1) ≤ most_tokens)
-IsRead constants t (Err (TooLong n)) = (n ≡ saturated (tokens constants t + 1)) × (most_tokens < n)
+IsRead constants t (Ok u) = (u ≡ t) × (saturated (tokens constants t + 1) ≤ most_formula_tokens)
+IsRead constants t (Err (TooLong n)) = (n ≡ saturated (tokens constants t + 1)) × (most_formula_tokens < n)
 IsRead constants t (Err Memory) = Unit {0}
 
 -- what was read of a node of a store, where the work variables have free nodes and productions their labels' constants

@@ -12,13 +12,10 @@ ghost use Rattle.step_chain.specs.Ordered.{may_reorder, place_at, formula_at, on
 
 use crate::joining::join_all;
 use hyp_order::{first_order, next_order};
-use mm_base::{List, Memory};
+use mm_base::{List, MOST_ORDERED_PLACES, Memory};
 use sheet_text::Given;
 use std::alloc::Global;
 use term_arena::{Arena, Id};
-
-/// The most places that are tried in each order.
-const MOST_ORDERED: usize = 6;
 
 /// The orders of so many places.
 const MOST_ORDERS: u32 = 720;
@@ -49,7 +46,7 @@ pub fn is_free(places: &[Given], hyps: usize) -> bool
     if count < 2 {
         return false;
     }
-    if count > MOST_ORDERED {
+    if count > MOST_ORDERED_PLACES {
         return false;
     }
     all_steps(places)

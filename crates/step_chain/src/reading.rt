@@ -6,13 +6,10 @@ ghost use Rattle.step_chain.specs.Grown.{AreWorksIn};
 ghost use Rattle.step_chain.specs.Readings.{kept, AreNames};
 
 use chain_laws::WorkNode;
-use mm_base::{List, Memory, Tree, Typecode};
+use mm_base::{List, MOST_FORMULA_TOKENS, Memory, Tree, Typecode};
 use std::alloc::Global;
 use std::marker::Model;
 use term_arena::{Arena, Id, Shape};
-
-/// The most tokens of a formula, with its typecode.
-const MOST_TOKENS: u64 = 4_096;
 
 /// Why a tree is not answered.
 #[derive(Clone, Copy, Debug, PartialEq, Eq)]
@@ -157,7 +154,7 @@ impl<'a, 'w> Trees<'a, 'w> {
     {
         let depth = self.arena.count();
         let tokens = self.sizes.as_slice()[id.0 as usize].saturating_add(1);
-        if tokens > MOST_TOKENS {
+        if tokens > MOST_FORMULA_TOKENS {
             return Err(TreeFault::TooLong(tokens));
         }
         match read(self.alloc, self.arena, self.works, &self.names, id, depth) {

@@ -1,7 +1,7 @@
 -- There is no fault of what is to be written, or a first one.
 use Rattle.std.specs.Prelude.{◌≡◌, ◌<◌, ◌≤◌, ◌⊎◌, ℕ, true, List, length, Contains, Option, Some, None, refl}
 use Rattle.std.proofs.Common.{arith, inl, inr}
-use Rattle.mm_model.specs.Limits.{most_formula_tokens, most_sheet_bytes, most_work_size, most_proof_labels}
+use Rattle.mm_base.specs.Limits.{most_formula_tokens, most_sheet_bytes, most_work_size, most_proof_labels}
 use Rattle.mm_model.specs.Book.{Database}
 use Rattle.solve_model.specs.Bound.{work_size}
 use Rattle.solve_model.specs.Firsts.{IsFirstOrNone, IsFirstIn}

@@ -21,8 +21,8 @@ use Rattle.answer_laws.proofs.Plain.{ArePlain}
 use Rattle.answer_laws.proofs.PlainAssertions.{are_plain}
 use Rattle.writing_laws.specs.HasNames.{HasNaming}
 use Rattle.std.proofs.lemmas.Bool.{cases_lt}
+use Rattle.mm_base.specs.Limits.{most_sheet_bytes, most_work_size}
 use Rattle.mm_model.specs.Faults.{Fault, fault}
-use Rattle.mm_model.specs.Limits.{most_sheet_bytes, most_work_size}
 use Rattle.sheet_text.specs.Reads.{Reads, ReadsAs}
 use Rattle.sheet_text.specs.TextFaults.{line_fault, text_fault}
 use Rattle.solve_model.specs.Bound.{Binds, work_size}

@@ -1,6 +1,6 @@
 -- What was read, judged and solved becomes something.
 use Rattle.std.specs.Prelude.{◌≡◌, ◌≤◌, ℕ, List}
-use Rattle.mm_model.specs.Limits.{most_work_size}
+use Rattle.mm_base.specs.Limits.{most_work_size}
 use Rattle.mm_model.specs.Book.{Database}
 use Rattle.sheet_text.specs.declared.sheet.Sheet.{Sheet}
 use Rattle.sheet_text.specs.Reads.{ReadsAs}

@@ -4,10 +4,10 @@ use Rattle.mm_base.specs.declared.symbols.Typecode.{Typecode}
 use Rattle.mm_base.specs.declared.tree.Tree.{Tree}
 use Rattle.mm_base.specs.declared.tree.Tree.TheOpen.{Tree-F}
 use Rattle.mm_base.specs.declared.tree.Tree.TheFolds.{fold-Tree}
+use Rattle.mm_base.specs.Limits.{most_formula_tokens}
 use Rattle.mm_model.specs.declared.rows.Item.{Item}
 use Rattle.mm_model.specs.declared.rows.Item.TheVariants as item
 use Rattle.mm_model.specs.declared.rows.Production.{Production}
-use Rattle.mm_model.specs.Limits.{most_formula_tokens}
 use Rattle.mm_model.specs.Texts.{row_of}
 use Rattle.mm_model.specs.Book.{Database}
 use Rattle.solve_model.specs.Trees.{fresh, Occurs}

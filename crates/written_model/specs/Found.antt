@@ -6,6 +6,7 @@ use Rattle.mm_base.specs.declared.symbols.Label.{Label}
 use Rattle.mm_base.specs.declared.symbols.Pair.{Pair}
 use Rattle.mm_base.specs.declared.tree.Tree.{Tree}
 use Rattle.mm_base.specs.Trees.{code_of}
+use Rattle.mm_base.specs.Limits.{most_ordered_places}
 use Rattle.mm_model.specs.Names.{label}
 use Rattle.mm_model.specs.Productions.{TypedVariable}
 use Rattle.mm_model.specs.Book.{Database, label_name, position_of}
@@ -31,7 +32,7 @@ is_to_be_searched es e = not e.hyp && is_none e.reference && is_ground e.tree &&
 
 -- its places in all orders where it lists two to six, else as they are listed
 abbrev pub search_orders : WrittenStep → List (List Given)
-search_orders e = if nat_le 2 (length e.places) && nat_le (length e.places) 6 then orders (length e.places) e.places else e.places ∷ []
+search_orders e = if nat_le 2 (length e.places) && nat_le (length e.places) most_ordered_places then orders (length e.places) e.places else e.places ∷ []
 
 -- a label and an order of the places
 pub record Choice : Type 0 where

@@ -4,9 +4,9 @@ use Rattle.std.specs.List.{AllZip, last_or}
 use Rattle.fault_lines.specs.Refusals.{Refusal, at_line, too_much, formula_too_long, written_two_trees, too_much_written, proof_too_long, too_large, told_number}
 use Rattle.mm_base.specs.declared.symbols.Pair.{Pair}
 use Rattle.mm_base.specs.declared.tree.Tree.{Tree}
+use Rattle.mm_base.specs.Limits.{most_formula_tokens, most_sheet_bytes, most_work_size, most_proof_labels}
 use Rattle.mm_model.specs.declared.rows.Leaf.{Leaf}
 use Rattle.mm_model.specs.declared.rows.Leaf.TheVariants as leaf
-use Rattle.mm_model.specs.Limits.{most_formula_tokens, most_sheet_bytes, most_work_size, most_proof_labels}
 use Rattle.mm_model.specs.Names.{Name}
 use Rattle.mm_model.specs.Texts.{text}
 use Rattle.mm_model.specs.Faults.{Fault}

@@ -23,8 +23,8 @@ place-requires-clause-inside c =
     (subst (λ ts. AllByRecursion (λ k. k < length ts) (range_with_len 0 (length c.args.wanted.now.hyps))) (sym c.as_slice-trees.ensures)
     (subst (λ n. AllByRecursion (λ k. k < n) (range_with_len 0 (length c.args.wanted.now.hyps))) (omega arith) (in_range 0 (length c.args.wanted.now.hyps))))
 
-pub returns-then-places-le-MOST_ORDERED-clause-fit : goal.returns-then-places-le-MOST_ORDERED-clause-fit
-returns-then-places-le-MOST_ORDERED-clause-fit c =
+pub returns-then-places-le-MOST_ORDERED_PLACES-clause-fit : goal.returns-then-places-le-MOST_ORDERED_PLACES-clause-fit
+returns-then-places-le-MOST_ORDERED_PLACES-clause-fit c =
     let n = length c.args.wanted.now.hyps in
     let count : length c.args.places.now ≡ n = ap length c.requires.places ∙ range_count 0 n in
     let many : length c.as_slice-patterns.result.now ≡ n = ap length c.as_slice-patterns.ensures ∙ c.requires.count in
@@ -32,7 +32,7 @@ returns-then-places-le-MOST_ORDERED-clause-fit c =
     c.args.wanted.now c.in_ok-matches.field-0 c.new-bindings.ensures.items c.as_slice.ensures (c.in_ok-matches.ensures c.requires.closed.formula) c.if-not-branch.false
     c.as_slice-patterns.result.now c.as_slice-trees.result.now c.args.places.now (orders (length c.as_slice-patterns.result.now) c.args.places.now) c.as_slice-patterns.ensures
     c.as_slice-trees.ensures
-    (ap (λ k. orders k c.args.places.now) many ∙ ap (orders n) c.requires.places ∙ sym (few_orders n (omega (arith, count, c.if-places-le-MOST_ORDERED.true)))) c.place.result
+    (ap (λ k. orders k c.args.places.now) many ∙ ap (orders n) c.requires.places ∙ sym (few_orders n (omega (arith, count, c.if-places-le-MOST_ORDERED_PLACES.true)))) c.place.result
     c.place.ensures.first
 
 pub returns-clause-fit : goal.returns-clause-fit
@@ -42,4 +42,4 @@ returns-clause-fit c =
     taken_fit (option_copied c.args.given) c.args.frame.now c.args.vars.now c.as_slice.result.now c.new-bindings.result.items c.matches.new.bindings.items c.args.tree.now c.args.hyps.now
     c.args.wanted.now c.in_ok-matches.field-0 c.new-bindings.ensures.items c.as_slice.ensures (c.in_ok-matches.ensures c.requires.closed.formula) c.if-not-branch.false
     c.as_slice-patterns.result.now c.as_slice-trees.result.now c.args.places.now (c.args.places.now ∷ []) c.as_slice-patterns.ensures c.as_slice-trees.ensures
-    (ap (λ ps. ps ∷ []) c.requires.places ∙ sym (many_orders n (omega (arith, count, c.if-places-le-MOST_ORDERED.false)))) c.listed.result c.listed.ensures.first
+    (ap (λ ps. ps ∷ []) c.requires.places ∙ sym (many_orders n (omega (arith, count, c.if-places-le-MOST_ORDERED_PLACES.false)))) c.listed.result c.listed.ensures.first

@@ -1,6 +1,6 @@
 use Rattle.std.proofs.Common.{◌≡◌, List, ℕ, subst, sym, length, ◌≤◌}
 use Rattle.std.specs.Option.{option_copied}
-use Rattle.mm_model.specs.Limits.{most_sheet_bytes}
+use Rattle.mm_base.specs.Limits.{most_sheet_bytes}
 use Rattle.sheet_text.specs.Layout.{layout}
 use Rattle.sheet_text.specs.Reads.{ReadsAs}
 use Rattle.sheet_laws.specs.ReadAgain.{ReadsOnlyAs}

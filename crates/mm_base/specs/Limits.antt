@@ -1,4 +1,4 @@
--- The sizes past which an input or an output is refused.
+-- The sizes past which an input or an output is refused, and up to which a step's places are tried in all orders.
 use Rattle.std.specs.Prelude.{ℕ, ◌^◌}
 
 -- the bytes of a database
@@ -20,3 +20,11 @@ most_work_size = 2 ^ 24
 -- the labels of a normal proof
 abbrev pub most_proof_labels : ℕ
 most_proof_labels = 2 ^ 20
+
+-- the places of a step that are tried in all orders
+abbrev pub most_ordered_places : ℕ
+most_ordered_places = 6
+
+-- the blocks of a trial
+abbrev pub most_trial_blocks : ℕ
+most_trial_blocks = 1000
