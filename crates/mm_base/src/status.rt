@@ -1,9 +1,9 @@
 /// The status that the program ends with, as its number, from 0.
 #[derive(Clone, Copy, Debug, PartialEq, Eq)]
 pub enum Status {
-    /// The worksheet is finished, and was written with its proof; or a proof was accepted.
+    /// The worksheet is finished, and was written with its proof, or was tried and not written; or a proof was accepted.
     Finished,
-    /// The worksheet was written, and is not finished.
+    /// The worksheet is not finished. It was written, or was tried and not written.
     Unfinished,
     /// The database has a fault.
     Database,

@@ -79,7 +79,7 @@ abbrev pub proof_text : Database → ProofStyle → Theorem → List WrittenStep
 proof_text db style.Normal theorem es = spaced (postorder (qed_proof db theorem es))
 proof_text db style.Compressed theorem es = spelled (length theorem.mandatory) (code_of_proof theorem.mandatory (qed_proof db theorem es))
 
--- what a worksheet becomes: what was read, with 0 for each line number; its place and trees; the judgements of its steps;
+-- what a worksheet becomes: what was read, but for the numbers of lines; its place and trees; the judgements of its steps;
 -- the most general valuation; the names of new work variables; what is written; and whether it is finished
 pub record Writing : Type 0 where
   pub read : Sheet
