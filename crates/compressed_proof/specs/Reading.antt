@@ -1,4 +1,4 @@
--- Reading letters from the front, with the first fault that is met.
+-- Reading letters from the front, with the first fault that is met. This is part of the proof, and not of the claim.
 use Rattle.std.specs.Prelude.{◌≡◌, ℕ, suc, ◌+◌, ◌-◌, ◌*◌, Bool, true, false, ◌==◌, List, [], ◌∷◌, ◌++◌, nat_lt, Result, Ok, Err, if◌then◌else◌}
 use Rattle.compressed_proof.specs.Decoded.{capped}
 use Rattle.proof_model.specs.ProofCode.{is_last, is_leading}

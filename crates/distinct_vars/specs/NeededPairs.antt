@@ -1,4 +1,4 @@
--- Needed pairs, put in one after the other.
+-- Needed pairs, put in one after the other. This is part of the proof, and not of the claim.
 use Rattle.std.specs.Prelude.{ℕ, List, [], map, fold, if◌then◌else◌}
 use Rattle.std.specs.BTreeSet.{insert_key}
 use Rattle.std.specs.Ordering.{nat_cmp}

@@ -1,4 +1,4 @@
--- The least variable of a tree from a number on, and the least one that two trees share.
+-- The least variable of a tree from a number on, and the least one that two trees share. This is part of the proof, and not of the claim.
 use Rattle.std.specs.Prelude.{◌≡◌, ℕ, ◌≤◌, ◌==◌, Bool, true, ◌&&◌, List, nat_lt, nat_le, if◌then◌else◌, Option, Some, None}
 use Rattle.std.specs.List.{list_any}
 use Rattle.mm_base.specs.declared.symbols.Sym.{Sym}

@@ -1,4 +1,4 @@
--- New trees, one wanted tree after the other.
+-- New trees, one wanted tree after the other. This is part of the proof, and not of the claim.
 use Rattle.std.specs.Prelude.{List, [], ◌∷◌, ◌++◌, if◌then◌else◌}
 use Rattle.std.specs.List.{list_any}
 use Rattle.mm_base.specs.declared.tree.Tree.{Tree}

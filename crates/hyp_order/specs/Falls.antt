@@ -1,4 +1,4 @@
--- Lists of numbers that fall.
+-- Lists of numbers that fall. This is part of the proof, and not of the claim.
 use Rattle.std.specs.Prelude.{ℕ, ◌≤◌, List, [], ◌∷◌}
 
 -- no number is above a bound

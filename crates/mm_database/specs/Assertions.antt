@@ -1,4 +1,4 @@
--- Usable assertions, by their frames.
+-- Usable assertions, by their frames. This is part of the proof, and not of the claim.
 use Rattle.std.specs.Prelude.{ℕ, ◌≡◌, List, map, Option, Some, None}
 use Rattle.std.specs.List.{AllZip}
 use Rattle.mm_base.specs.declared.tree.Tree.{Tree}

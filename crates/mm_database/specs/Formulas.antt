@@ -1,4 +1,4 @@
--- What is asked of a formula of an assertion, by its frame.
+-- What is asked of a formula of an assertion, by its frame. This is part of the proof, and not of the claim.
 use Rattle.std.specs.Prelude.{ℕ, ◌≡◌, ◌==◌, ◌&&◌, Bool, true, false, List, [], ◌∷◌, drop, length, nat_lt, nat_le, slice_get, if◌then◌else◌, Option, Some, None, option_map}
 use Rattle.std.specs.List.{filter_map}
 use Rattle.std.specs.Option.{option_map_or}

@@ -1,4 +1,4 @@
--- The productions of frames, as the code makes them.
+-- The productions of frames, as the code makes them. This is part of the proof, and not of the claim.
 use Rattle.std.specs.Prelude.{ℕ, ◌==◌, Bool, false, List, [], ◌∷◌, map, position, if◌then◌else◌, Option, Some, None, option_and_then}
 use Rattle.std.specs.List.{filter_map, list_all}
 use Rattle.mm_base.specs.declared.symbols.Sym.{Sym}

@@ -1,4 +1,4 @@
--- The variables of a frame, as the code keeps them.
+-- The variables of a frame, as the code keeps them. This is part of the proof, and not of the claim.
 use Rattle.std.specs.Prelude.{◌==◌, List, [], ◌∷◌, find, if◌then◌else◌, Option, Some, None, option_map}
 use Rattle.std.specs.List.{filter_map}
 use Rattle.mm_base.specs.declared.symbols.Sym.{Sym}

@@ -1,4 +1,4 @@
--- What a call may answer, before anything is written.
+-- What a call may answer, before anything is written. This is part of the proof, and not of the claim.
 use Rattle.std.specs.Prelude.{◌≡◌, ◌≢◌, ℕ, List, [], Option, MatchOption, Some, IfSome, IsNone, false}
 use Rattle.call_answers.specs.declared.ending.Ending.{Ending}
 use Rattle.call_answers.specs.CallAnswers.{CallAnswer, database_of, no_files}

@@ -1,4 +1,4 @@
--- What a store found under a name.
+-- What a store found under a name. This is part of the proof, and not of the claim.
 use Rattle.std.specs.Prelude.{◌≡◌, ◌<◌, ◌≤◌, ℕ, List, length, Option, Some, IfSome, IsSomeAnd}
 use Rattle.mm_base.specs.Outside.{Files, Rose}
 use Rattle.mmp_run.specs.declared.files.Found.{Found}

@@ -1,4 +1,4 @@
--- The endings that say one line.
+-- The endings that say one line. This is part of the proof, and not of the claim.
 use Rattle.std.specs.Prelude.{ℕ, List, []}
 use Rattle.call_answers.specs.declared.ending.Ending.{Ending}
 use Rattle.call_answers.specs.CommandLine.{usage_line}

@@ -1,4 +1,4 @@
--- What the texts of a database and of a worksheet give.
+-- What the texts of a database and of a worksheet give. This is part of the proof, and not of the claim.
 use Rattle.std.specs.Prelude.{◌≡◌, ℕ, List, [], Some, None, false}
 use Rattle.call_answers.specs.declared.ending.Ending.{Ending}
 use Rattle.call_answers.specs.Endings.{Refuses, Unifies}

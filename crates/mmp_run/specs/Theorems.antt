@@ -1,4 +1,4 @@
--- Theorems of a database by their labels.
+-- Theorems of a database by their labels. This is part of the proof, and not of the claim.
 use Rattle.std.specs.Prelude.{◌≡◌, List, ℕ, Some}
 use Rattle.mm_base.specs.declared.symbols.Label.{Label}
 use Rattle.mm_model.specs.declared.frames.Frame.{Frame}

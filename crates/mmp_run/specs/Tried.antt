@@ -1,4 +1,4 @@
--- What a trial tells.
+-- What a trial tells. This is part of the proof, and not of the claim.
 use Rattle.std.specs.Prelude.{◌≡◌, ℕ, Bool, List, [], count_by, flat_map, length, map, codes}
 use Rattle.std.specs.Borrow.{Bor}
 use Rattle.std.specs.Str.{bytes_eq}

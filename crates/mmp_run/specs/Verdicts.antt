@@ -1,4 +1,4 @@
--- What the program says of a proof.
+-- What the program says of a proof. This is part of the proof, and not of the claim.
 use Rattle.fault_lines.specs.FaultLines.{code_faults, proof_faults}
 use Rattle.call_answers.specs.Verified as said
 use Rattle.mmp_run.specs.declared.verify.Verdict.{Verdict}

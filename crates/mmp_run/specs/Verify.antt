@@ -1,4 +1,4 @@
--- What the text of a database and a label give.
+-- What the text of a database and a label give. This is part of the proof, and not of the claim.
 use Rattle.std.specs.Prelude.{◌≡◌, ℕ, List, []}
 use Rattle.call_answers.specs.declared.ending.Ending.{Ending}
 use Rattle.call_answers.specs.Verified.{Verdict, no_theorem, bad_code, refused, accepted, IsVerdict}

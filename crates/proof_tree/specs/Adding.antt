@@ -1,4 +1,4 @@
--- Graphs that grow.
+-- Graphs that grow. This is part of the proof, and not of the claim.
 use Rattle.std.specs.Prelude.{◌≡◌, ℕ, ◌<◌, List, ◌++◌, length, map, Option, Some, None, option_map}
 use Rattle.std.specs.List.{AllByRecursion}
 use Rattle.proof_model.specs.Proofs.{Proof, by, proofs}

@@ -1,4 +1,4 @@
--- The parts of a code, as they are made.
+-- The parts of a code, as they are made. This is part of the proof, and not of the claim.
 use Rattle.std.specs.Prelude.{◌≡◌, ℕ, ◌+◌, Bool, false, not, ◌&&◌, ◌||◌, ◌==◌, nat_le, List, [], ◌∷◌, ◌++◌, length, position, slice_get, slice_set}
 use Rattle.std.specs.Prelude.{slice_index_or, unwrap_or, if◌then◌else◌, Option, Some, None, is_some}
 use Rattle.std.specs.Option.{option_and_then}

@@ -1,4 +1,4 @@
--- Nodes in the form that is found by its hash.
+-- Nodes in the form that is found by its hash. This is part of the proof, and not of the claim.
 use Rattle.std.specs.Prelude.{List, map}
 use Rattle.proof_tree.specs.declared.graph.ProofNode.{ProofNode}
 use Rattle.proof_tree.specs.declared.builder.Key.{Key}

@@ -1,4 +1,4 @@
--- Ways through a proof: by parts that are pending, and each subproof once.
+-- Ways through a proof: by parts that are pending, and each subproof once. This is part of the proof, and not of the claim.
 use Rattle.std.specs.Prelude.{◌≡◌, ℕ, ◌+◌, ◌-◌, ◌^◌, ◌<◌, Bool, List, [], ◌∷◌, ◌++◌, length, map, flat_map, min, reverse, count_by, nat_eq, slice_index_or, if◌then◌else◌}
 use Rattle.std.specs.List.{AllByRecursion, list_any}
 use Rattle.proof_model.specs.Proofs.{Proof, same_proof, subproofs}

@@ -1,4 +1,4 @@
--- Lists that are made element by element.
+-- Lists that are made element by element. This is part of the proof, and not of the claim.
 use Rattle.std.specs.Prelude.{List, [], ◌∷◌, ◌++◌, Option, Some, None}
 
 -- one element more, where there is one

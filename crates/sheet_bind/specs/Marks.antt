@@ -1,4 +1,4 @@
--- Tables by symbol number: which symbols are marked, and the typecodes of variables.
+-- Tables by symbol number: which symbols are marked, and the typecodes of variables. This is part of the proof, and not of the claim.
 use Rattle.std.specs.Prelude.{Bool, true, List, [], ◌∷◌, slice_set, slice_index_or, if◌then◌else◌, Option, Some, None, is_none}
 use Rattle.mm_base.specs.declared.symbols.Sym.{Sym}
 use Rattle.mm_base.specs.declared.symbols.Typecode.{Typecode}

@@ -1,4 +1,4 @@
--- The theorem's place in a database, and what is kept of it.
+-- The theorem's place in a database, and what is kept of it. This is part of the proof, and not of the claim.
 use Rattle.std.specs.Prelude.{ℕ, ◌==◌, ◌&&◌, not, Bool, false, List, [], ◌∷◌, ◌++◌, length, fold, replicate, if◌then◌else◌, Option, None, option_map, option_and_then}
 use Rattle.std.specs.List.{list_any}
 use Rattle.std.specs.Option.{option_map_or}

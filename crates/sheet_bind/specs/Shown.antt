@@ -1,4 +1,4 @@
--- What is kept of a database, as the database that the definitions see.
+-- What is kept of a database, as the database that the definitions see. This is part of the proof, and not of the claim.
 use Rattle.std.specs.Prelude.{ℕ, Bool, List, length}
 use Rattle.mm_base.specs.declared.kinds.Kinds.{Kinds}
 use Rattle.mm_base.specs.declared.symbols.Label.{Label}

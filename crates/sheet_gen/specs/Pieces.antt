@@ -1,4 +1,4 @@
--- Lines, piece by piece.
+-- Lines, piece by piece. This is part of the proof, and not of the claim.
 use Rattle.std.specs.Prelude.{ℕ, List, [], ◌∷◌, ◌++◌, flat_map, codes}
 use Rattle.mm_model.specs.Names.{Name}
 use Rattle.sheet_text.specs.Layout.{ended}

@@ -1,4 +1,4 @@
--- Marks among the items of a worksheet.
+-- Marks among the items of a worksheet. This is part of the proof, and not of the claim.
 use Rattle.std.specs.Prelude.{◌≡◌, ◌≤◌, List, length, take}
 use Rattle.sheet_text.specs.declared.sheet.SheetItem.{SheetItem}
 use Rattle.sheet_print.specs.declared.index.Mark.{Mark}

@@ -1,4 +1,4 @@
--- What proves the steps of a draft, each by those before it.
+-- What proves the steps of a draft, each by those before it. This is part of the proof, and not of the claim.
 use Rattle.std.specs.Prelude.{ℕ, Bool, false, ◌&&◌, ◌==◌, List, [], ◌∷◌, ◌++◌, length, fold, filter_map, unwrap_or, if◌then◌else◌, Option, Some, None}
 use Rattle.std.specs.List.{list_all}
 use Rattle.std.specs.Option.{option_map_or}

@@ -1,4 +1,4 @@
--- The text of a proof in a style.
+-- The text of a proof in a style. This is part of the proof, and not of the claim.
 use Rattle.std.specs.Prelude.{◌≡◌, ◌<◌, ◌^◌, ℕ, List, length, flat_map}
 use Rattle.std.specs.Prelude.{◌∷◌}
 use Rattle.mm_base.specs.declared.kinds.Kinds.{Kinds}

@@ -1,4 +1,4 @@
--- Filled steps with their new work variables named and their references found.
+-- Filled steps with their new work variables named and their references found. This is part of the proof, and not of the claim.
 use Rattle.std.specs.Prelude.{ℕ, List}
 use Rattle.std.specs.List.{AllZip}
 use Rattle.mm_base.specs.declared.kinds.Kinds.{Kinds}

@@ -1,4 +1,4 @@
--- What is told at the end of a worksheet: the first fault of what is to be written, its text and its report.
+-- What is told at the end of a worksheet: the first fault of what is to be written, its text and its report. This is part of the proof, and not of the claim.
 use Rattle.std.specs.Prelude.{◌≡◌, ◌<◌, ◌↔◌, ℕ, Bool, true, IsTrue, List, length, map, Contains, Option, Some, None, IfSome, if◌then◌else◌}
 use Rattle.mm_base.specs.Limits.{most_sheet_bytes, most_work_size, most_proof_labels}
 use Rattle.mm_model.specs.Book.{Database}

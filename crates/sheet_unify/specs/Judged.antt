@@ -1,4 +1,4 @@
--- A chain that has judged all steps of a bound worksheet, and what is answered of it.
+-- A chain that has judged all steps of a bound worksheet, and what is answered of it. This is part of the proof, and not of the claim.
 use Rattle.std.specs.Prelude.{◌≡◌, ◌≤◌, ℕ, List, length}
 use Rattle.mm_base.specs.declared.kinds.Kinds.{Kinds}
 use Rattle.mm_model.specs.Names.{typecode}

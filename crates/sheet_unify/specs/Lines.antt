@@ -1,4 +1,4 @@
--- Lines as they are put together: a first word, and each other one behind a space.
+-- Lines as they are put together: a first word, and each other one behind a space. This is part of the proof, and not of the claim.
 use Rattle.std.specs.Prelude.{ℕ, Bool, true, false, List, [], ◌∷◌, ◌++◌, flat_map, slice_index_or, decimal, Option, Some, None, codes}
 use Rattle.mm_base.specs.declared.symbols.Sym.{Sym}
 use Rattle.mm_base.specs.declared.symbols.Pair.{Pair}

@@ -1,4 +1,4 @@
--- The faults of a worksheet's text, and those over its database, as the unifier tells them.
+-- The faults of a worksheet's text, and those over its database, as the unifier tells them. This is part of the proof, and not of the claim.
 use Rattle.sheet_bind.specs.declared.faults.BindFault.{BindFault}
 use Rattle.sheet_bind.specs.declared.faults.BindFault.TheVariants as bound
 use Rattle.sheet_read.specs.declared.fault.SheetFault.{SheetFault}

@@ -1,4 +1,4 @@
--- The work size of the worksheet that is written.
+-- The work size of the worksheet that is written. This is part of the proof, and not of the claim.
 use Rattle.std.specs.Prelude.{ℕ, ◌+◌, List, length, map, sum}
 use Rattle.mm_model.specs.Sizes.{nodes}
 use Rattle.mm_database.specs.Opened.{Opened}

@@ -1,4 +1,4 @@
--- What is known of a theorem, for look-ups.
+-- What is known of a theorem, for look-ups. This is part of the proof, and not of the claim.
 use Rattle.std.specs.Prelude.{◌≡◌, ℕ, Bool, ◌&&◌, ◌||◌, ◌==◌, List, nat_eq}
 use Rattle.std.specs.List.{list_any}
 use Rattle.mm_base.specs.declared.symbols.Sym.{Sym}

@@ -1,4 +1,4 @@
--- A run of steps whose labels have been looked up.
+-- A run of steps whose labels have been looked up. This is part of the proof, and not of the claim.
 use Rattle.std.specs.Prelude.{ℕ, suc, List, [], ◌∷◌, length, slice_get, slice_index_or, Option, Some, None, Result, Ok, Err}
 use Rattle.mm_model.specs.declared.frames.Hyp.{Hyp}
 use Rattle.proof_model.specs.declared.code.What.{What}

@@ -1,4 +1,4 @@
--- What labels name, and that it was looked up.
+-- What labels name, and that it was looked up. This is part of the proof, and not of the claim.
 use Rattle.std.specs.Prelude.{◌≡◌, ◌<◌, ℕ, List, [], length, Option, option_and_then, position, slice_get, slice_index_or}
 use Rattle.std.specs.Str.{bytes_eq}
 use Rattle.mm_model.specs.declared.frames.Hyp.{Hyp}

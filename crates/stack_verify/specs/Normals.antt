@@ -1,4 +1,4 @@
--- The code of a normal proof, label by label.
+-- The code of a normal proof, label by label. This is part of the proof, and not of the claim.
 use Rattle.std.specs.Prelude.{◌≡◌, ℕ, List, [], ◌∷◌, ◌++◌, map, codes, if◌then◌else◌}
 use Rattle.mm_model.specs.Names.{contains}
 use Rattle.proof_model.specs.declared.code.Step.{Step}

@@ -1,4 +1,4 @@
--- Pairs of variables by what is known of the theorem.
+-- Pairs of variables by what is known of the theorem. This is part of the proof, and not of the claim.
 use Rattle.std.specs.Prelude.{Bool, not, ◌==◌, List, [], ◌∷◌, Option, Some, None, map, flat_map, filter, nat_eq}
 use Rattle.std.specs.List.{list_any}
 use Rattle.mm_base.specs.declared.symbols.Sym.{Sym}

@@ -1,4 +1,4 @@
--- The state that a stack stands for.
+-- The state that a stack stands for. This is part of the proof, and not of the claim.
 use Rattle.std.specs.Prelude.{List, [], ◌∷◌, length, All, Option, Some, None}
 use Rattle.proof_model.specs.Machine.{Formula, State}
 use Rattle.stack_verify.specs.declared.stack.Stack.{Stack}

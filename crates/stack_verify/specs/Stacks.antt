@@ -1,4 +1,4 @@
--- The stack as parts of one list of symbols.
+-- The stack as parts of one list of symbols. This is part of the proof, and not of the claim.
 use Rattle.std.specs.Prelude.{ℕ, ◌≤◌, List, map, reverse, slice_range}
 use Rattle.std.specs.List.{zip}
 use Rattle.mm_base.specs.declared.symbols.Sym.{Sym}

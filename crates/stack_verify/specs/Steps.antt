@@ -1,4 +1,4 @@
--- The steps, where the labels have been looked up.
+-- The steps, where the labels have been looked up. This is part of the proof, and not of the claim.
 use Rattle.std.specs.Prelude.{◌≡◌, ℕ, true, List, Option, Some, Result, Err}
 use Rattle.proof_model.specs.Machine.{MachineFault, Entry, State, underflow, type_differs, not_earlier, result_differs, unknown, hyp_differs, shared}
 use Rattle.proof_model.specs.Machine.{not_distinct, left_over, substituted, differs_in_formula}

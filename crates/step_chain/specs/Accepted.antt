@@ -1,4 +1,4 @@
--- A candidate of which the orders were tried, with what is kept of it.
+-- A candidate of which the orders were tried, with what is kept of it. This is part of the proof, and not of the claim.
 use Rattle.std.specs.Prelude.{◌≡◌, ℕ, List, [], ◌∷◌, ◌++◌, length, Option, Some, None, option_map}
 use Rattle.mm_base.specs.declared.symbols.Label.{Label}
 use Rattle.mm_model.specs.declared.rows.Production.{Production}

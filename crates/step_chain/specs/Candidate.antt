@@ -1,4 +1,4 @@
--- The nodes of a candidate, behind those of a store.
+-- The nodes of a candidate, behind those of a store. This is part of the proof, and not of the claim.
 use Rattle.std.specs.Prelude.{List, [], ◌++◌, length, map}
 use Rattle.mm_base.specs.declared.tree.Tree.{Tree}
 use Rattle.mm_model.specs.declared.frames.Hyp.{Hyp}

@@ -1,4 +1,4 @@
--- A candidate's own copies of variables.
+-- A candidate's own copies of variables. This is part of the proof, and not of the claim.
 use Rattle.std.specs.Prelude.{Bool, true, false, List, []}
 use Rattle.mm_model.specs.declared.frames.Hyp.{Hyp}
 use Rattle.mm_model.specs.Productions.{TypedVariable, typed_by}

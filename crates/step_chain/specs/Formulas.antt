@@ -1,4 +1,4 @@
--- The nodes of a worksheet's formulas: free nodes for its unknowns first, and behind them the formulas' trees.
+-- The nodes of a worksheet's formulas: free nodes for its unknowns first, and behind them the formulas' trees. This is part of the proof, and not of the claim.
 use Rattle.std.specs.Prelude.{◌≡◌, ℕ, ◌≤◌, List, [], ◌∷◌, ◌++◌, fold, length, Option, Some, None}
 use Rattle.mm_base.specs.declared.symbols.Typecode.{Typecode}
 use Rattle.mm_base.specs.declared.tree.Tree.{Tree}

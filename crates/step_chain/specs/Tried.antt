@@ -1,4 +1,4 @@
--- A candidate of which the orders were tried.
+-- A candidate of which the orders were tried. This is part of the proof, and not of the claim.
 use Rattle.std.specs.Prelude.{◌≡◌, ℕ, ◌⊎◌, List, [], ◌∷◌, ◌++◌, length, Option, None}
 use Rattle.mm_base.specs.declared.tree.Tree.{Tree}
 use Rattle.mm_model.specs.declared.frames.Hyp.{Hyp}

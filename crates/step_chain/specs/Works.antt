@@ -1,4 +1,4 @@
--- The table of work variables.
+-- The table of work variables. This is part of the proof, and not of the claim.
 use Rattle.std.specs.Prelude.{ℕ}
 use Rattle.chain_laws.specs.declared.leaves.WorkNode.{WorkNode}
 

@@ -1,4 +1,4 @@
--- What is told of a step of a draft.
+-- What is told of a step of a draft. This is part of the proof, and not of the claim.
 use Rattle.std.specs.Prelude.{List, option_and_then, Option, None, Some}
 use Rattle.mm_base.specs.declared.symbols.Pair.{Pair}
 use Rattle.mm_database.specs.Opened.{Opened}

@@ -1,4 +1,4 @@
--- Marks of the steps below `qed`, and whether a marked step is done.
+-- Marks of the steps below `qed`, and whether a marked step is done. This is part of the proof, and not of the claim.
 use Rattle.std.specs.Prelude.{◌≡◌, ◌<◌, ◌⊎◌, ◌↔◌, ℕ, IsTrue, Bool, true, false, not, ◌&&◌, ◌||◌, List, length, fold, slice_get, slice_set}
 use Rattle.std.specs.Prelude.{slice_index_or, if◌then◌else◌, Option, Some, codes}
 use Rattle.mm_base.specs.declared.symbols.Pair.{Pair}

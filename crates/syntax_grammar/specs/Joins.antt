@@ -1,4 +1,4 @@
--- Which typecodes chains join, as a list of pairs.
+-- Which typecodes chains join, as a list of pairs. This is part of the proof, and not of the claim.
 use Rattle.std.specs.Prelude.{◌&&◌, ◌||◌, Bool, List, ◌∷◌, map, filter}
 use Rattle.std.specs.List.{list_any}
 use Rattle.mm_base.specs.declared.symbols.Typecode.{Typecode}
