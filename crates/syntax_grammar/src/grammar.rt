@@ -113,7 +113,7 @@ impl Grammar {
     pub fn production(&self, label: Label) -> Option<&Production>
         ensures { option_copied result ≡ row_of self.now label }
     {
-        match self.by_label.at(u64::from(label.0)) {
+        match self.by_label.at(label.0 as u64) {
             [number, ..] => self.row(*number),
             [] => None,
         }
@@ -124,7 +124,7 @@ impl Grammar {
     pub fn rows_by_const(&self, first: Sym) -> &[usize]
         ensures { result.now ≡ spec.numbers (spec.begins_const first.0) 0 self.now }
     {
-        self.by_const.at(u64::from(first.0))
+        self.by_const.at(first.0 as u64)
     }
 
     /// The numbers, from 0, of the kept productions whose text begins with a slot of that typecode, in their order. It
@@ -132,7 +132,7 @@ impl Grammar {
     pub fn rows_by_slot(&self, first: Typecode) -> &[usize]
         ensures { result.now ≡ spec.numbers (spec.begins_slot first.0.0) 0 self.now }
     {
-        self.by_slot.at(u64::from(first.0.0))
+        self.by_slot.at(first.0.0 as u64)
     }
 
     /// The numbers, from 0, of the kept productions that have that constant behind their first item, or behind the slot
@@ -140,7 +140,7 @@ impl Grammar {
     pub fn rows_by_next(&self, next: Sym) -> &[usize]
         ensures { result.now ≡ spec.numbers (spec.has_next next.0) 0 self.now }
     {
-        self.by_next.at(u64::from(next.0))
+        self.by_next.at(next.0 as u64)
     }
 
     /// The numbers, from 0, of the kept productions that have no such constant and begin with that symbol, as a constant
@@ -148,7 +148,7 @@ impl Grammar {
     pub fn lone_rows(&self, first: Sym) -> &[usize]
         ensures { result.now ≡ spec.numbers (spec.is_lone first.0) 0 self.now }
     {
-        self.lone.at(u64::from(first.0))
+        self.lone.at(first.0 as u64)
     }
 
     /// The labels of the kept productions whose text begins with that constant, in their order. It takes time in
@@ -159,7 +159,7 @@ impl Grammar {
         ensures { IfOk result (λ labels. labels ≡ spec.by_first self.now first) }
     {
         let mut labels = Vec::new(self.rows.allocator());
-        for number in self.by_const.at(u64::from(first.0)) {
+        for number in self.by_const.at(first.0 as u64) {
             if let Some(row) = self.row(*number) {
                 labels.push(row.label)?;
             }

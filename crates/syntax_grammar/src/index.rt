@@ -83,7 +83,7 @@ pub fn label_index(alloc: Global, rows: &[Production]) -> Result<Rows<usize>, Me
 {
     let mut index = Rows::new(alloc);
     for number in 0..rows.len() {
-        index.add(alloc, u64::from(rows[number].label.0), number)?;
+        index.add(alloc, rows[number].label.0 as u64, number)?;
     }
     Ok(index)
 }
@@ -95,7 +95,7 @@ pub fn const_index(alloc: Global, rows: &[Production]) -> Result<Rows<usize>, Me
     let mut index = Rows::new(alloc);
     for number in 0..rows.len() {
         if let Some(sym) = first_const(&rows[number]) {
-            index.add(alloc, u64::from(sym.0), number)?;
+            index.add(alloc, sym.0 as u64, number)?;
         }
     }
     Ok(index)
@@ -108,7 +108,7 @@ pub fn slot_index(alloc: Global, rows: &[Production]) -> Result<Rows<usize>, Mem
     let mut index = Rows::new(alloc);
     for number in 0..rows.len() {
         if let Some(code) = first_code(&rows[number]) {
-            index.add(alloc, u64::from(code.0.0), number)?;
+            index.add(alloc, code.0.0 as u64, number)?;
         }
     }
     Ok(index)
@@ -121,7 +121,7 @@ pub fn next_index(alloc: Global, rows: &[Production]) -> Result<Rows<usize>, Mem
     let mut index = Rows::new(alloc);
     for number in 0..rows.len() {
         if let Some(sym) = next_const(&rows[number]) {
-            index.add(alloc, u64::from(sym.0), number)?;
+            index.add(alloc, sym.0 as u64, number)?;
         }
     }
     Ok(index)
@@ -134,7 +134,7 @@ pub fn lone_index(alloc: Global, rows: &[Production]) -> Result<Rows<usize>, Mem
     let mut index = Rows::new(alloc);
     for number in 0..rows.len() {
         if let Some(sym) = lone_sym(&rows[number]) {
-            index.add(alloc, u64::from(sym.0), number)?;
+            index.add(alloc, sym.0 as u64, number)?;
         }
     }
     Ok(index)
