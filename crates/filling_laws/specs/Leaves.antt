@@ -1,5 +1,6 @@
 -- The fresh leaves of what is filled.
-use Rattle.std.specs.Prelude.{◌≤◌, ◌^◌, List, length}
+use Rattle.std.specs.Prelude.{◌≤◌, List, length}
+use Rattle.mm_base.specs.Limits.{most_work_size}
 use Rattle.mm_model.specs.Names.{Name}
 use Rattle.sheet_text.specs.declared.sheet.SheetItem.{SheetItem}
 use Rattle.written_model.specs.WrittenSteps.{steps_in, trees}
@@ -11,5 +12,5 @@ use Rattle.filling_laws.specs.Counted.{IsJudgedChain}
 
 -- where the store has few nodes, the numbers of the fresh leaves are small
 abbrev pub LeavesAreSmall : Type 0
-LeavesAreSmall = (h : Held) → IsHeld h → OfEachBook h (λ db. IsJudgedChain h db → length h.nodes ≤ 2 ^ 24
+LeavesAreSmall = (h : Held) → IsHeld h → OfEachBook h (λ db. IsJudgedChain h db → length h.nodes ≤ most_work_size
     → (names : List Name) (items : List SheetItem) → AreSmallLeaves (trees (steps_in (filled_items names h.bound (value_of h) (judgements_of h) items))))

@@ -1,6 +1,7 @@
 -- Where the search for the least free number goes on.
 use Rattle.std.specs.Prelude.{◌≡◌, ◌<◌, ◌≤◌, ◌^◌, ℕ, true, false, List, length, map, slice_index_or}
 use Rattle.std.specs.List.{AllByRecursion, IsDistinct}
+use Rattle.mm_base.specs.Limits.{most_database_bytes}
 use Rattle.mm_model.specs.Names.{Name}
 use Rattle.leaf_names.specs.Leaves.{FreshLeaf}
 use Rattle.leaf_names.specs.Tables.{NamedLeaf, same_leaf, is_unused, is_taken}
@@ -19,7 +20,7 @@ pub record IsKept (symbols : List Name) (read : List (ℕ × ℕ)) (given : List
 
 -- the symbols and the work variables that were read are few beside the numbers that a work variable may have
 pub record AreFew (symbols : List Name) (read : List (ℕ × ℕ)) : Type 0 where
-  pub symbols_few : length symbols ≤ 2 ^ 28
+  pub symbols_few : length symbols ≤ most_database_bytes
   pub read_few : length read ≤ 2 ^ 28
 
 -- the numbers of these leaves are small

@@ -1,7 +1,7 @@
 -- What is counted is few beside the numbers that a work variable may have.
 use Rattle.std.specs.Prelude.{◌≤◌, ◌^◌, ℕ, List, length}
 use Rattle.mm_base.specs.declared.kinds.Kinds.{Kinds}
-use Rattle.mm_base.specs.Limits.{most_work_size}
+use Rattle.mm_base.specs.Limits.{most_work_size, most_database_bytes}
 use Rattle.mm_database.specs.Books.{database_of}
 use Rattle.mm_database.specs.Opened.{Opened, IsOpened}
 use Rattle.sheet_text.specs.declared.sheet.Sheet.{Sheet}
@@ -11,7 +11,7 @@ use Rattle.leaf_names.specs.Tables.{read_leaves}
 
 -- the symbols of the database of a text
 abbrev pub SymbolsAreBelow : Type 0
-SymbolsAreBelow = (kinds : Kinds) (text : List ℕ) (d : Opened) → IsOpened kinds text d → length d.contents.symbols ≤ 2 ^ 28
+SymbolsAreBelow = (kinds : Kinds) (text : List ℕ) (d : Opened) → IsOpened kinds text d → length d.contents.symbols ≤ most_database_bytes
 
 -- the work variables of a worksheet whose work size is within the limit
 abbrev pub WorksAreBelow : Type 0

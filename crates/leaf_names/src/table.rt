@@ -1,4 +1,5 @@
 ghost use Rattle.std.specs.Prelude.{◌≡◌, ◌≤◌, ◌^◌, ◌<◌, ℕ, length};
+ghost use Rattle.mm_base.specs.Limits.{most_database_bytes};
 
 use crate::given::{Given, add_leaves};
 use crate::leaves::fresh_leaves;
@@ -53,7 +54,7 @@ impl<'a> Names<'a> {
     ///
     /// Fails where memory runs out.
     pub fn new(alloc: Global, db: &'a Database, bound: &Bound) -> Result<Names<'a>, Memory>
-        requires symbols { length db.now.contents.symbols ≤ 2 ^ 28 }
+        requires symbols { length db.now.contents.symbols ≤ most_database_bytes }
         requires read { length (read_leaves db.now.rows bound.now) ≤ 2 ^ 28 }
         ensures { IfOk result (IsNamesOf db.now bound.now []) }
     {

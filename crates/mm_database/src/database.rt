@@ -1,6 +1,7 @@
 ghost use Rattle.std.specs.Prelude.{◌≡◌, ◌<◌, ◌≤◌, ◌^◌, ◌↔◌, ℕ, None, Option, Some, count_by, length, option_map, position, nat_lt, slice_index_or, IfOk, IfErr, OnOk};
 ghost use Rattle.std.specs.List.{range_with_len};
 ghost use Rattle.std.specs.Str.{bytes_eq};
+ghost use Rattle.mm_base.specs.Limits.{most_database_bytes};
 ghost use Rattle.mm_model.specs.BookFacts.{Rise};
 ghost use Rattle.mm_model.specs.Names.{sym, typecode, symbol_named};
 ghost use Rattle.mm_model.specs.Productions.{kept_rows};
@@ -57,7 +58,7 @@ impl Model for Database {
 /// Fails with the first fault of the text, that of its tokens first and then that of its statements, and where memory
 /// runs out.
 pub fn read_frames(alloc: Global, text: &[u8]) -> Result<Frames, DbFault>
-    requires { length text.now ≤ 2 ^ 28 }
+    requires { length text.now ≤ most_database_bytes }
     ensures contents { IfOk result (λ frames. frames ≡ contents_of text.now) }
     ensures no_fault { OnOk result (database_fault text.now ≡ None) }
     ensures fault { IfErr result (λ e. IsDbFault e (database_fault text.now)) }
@@ -207,7 +208,7 @@ pub fn open_frames(
 /// Fails with the first fault of the text, that of its tokens first and then that of its statements, and where memory
 /// runs out.
 pub fn open_database(alloc: Global, text: &[u8], kinds: &Kinds) -> Result<Database, DbFault>
-    requires { length text.now ≤ 2 ^ 28 }
+    requires { length text.now ≤ most_database_bytes }
     ensures opened { IfOk result (IsOpened kinds.now text.now) }
     ensures fault { IfErr result (λ e. IsDbFault e (database_fault text.now)) }
     ensures memory { IfErr result (λ e. IsTold e) }

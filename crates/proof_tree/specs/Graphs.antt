@@ -1,6 +1,7 @@
 -- Graphs of proofs: each node names nodes before it.
 use Rattle.std.specs.Prelude.{◌≡◌, ℕ, ◌+◌, ◌-◌, ◌^◌, ◌<◌, List, [], ◌∷◌, ◌++◌, length, map, fold, min, slice_index_or}
 use Rattle.std.specs.List.{AllByRecursion}
+use Rattle.mm_base.specs.Limits.{most_proof_labels}
 use Rattle.proof_model.specs.Proofs.{Proof, by, none, proofs, postorder}
 use Rattle.proof_tree.specs.declared.graph.ProofNode.{ProofNode}
 use Rattle.proof_tree.specs.declared.labels.NormalFault.{NormalFault}
@@ -57,5 +58,5 @@ added_count counts n k = min (2 ^ 64 - 1) (n + slice_index_or counts k 0)
 
 -- the number of the labels of a proof that is too long
 abbrev pub IsTold : Proof → NormalFault → Type 0
-IsTold p (TooLong n) = (n ≡ label_count p) × (2 ^ 20 < n)
+IsTold p (TooLong n) = (n ≡ label_count p) × (most_proof_labels < n)
 IsTold p Memory = Unit {0}

@@ -63,13 +63,13 @@ module _ (g : Scene) (s : Sheet) (p : Place) where
     pub steps : List BoundStep
     pub judged : IsJudged g s None steps
     pub bound_is : b ≡ bound_in g.opened s p steps
-    pub small : min (size_of g.opened p steps) (2 ^ 64 - 1) ≤ 16777216
+    pub small : min (size_of g.opened p steps) (2 ^ 64 - 1) ≤ most_work_size
 
   pub record IsTooMuchAt (n : ℕ) : Type 0 where
     pub steps : List BoundStep
     pub judged : IsJudged g s None steps
     pub size : n ≡ min (size_of g.opened p steps) (2 ^ 64 - 1)
-    pub over : 16777216 < n
+    pub over : most_work_size < n
 
   pub record IsFaultAt (line code : ℕ) : Type 0 where
     pub steps : List BoundStep
@@ -92,5 +92,5 @@ proved_in d s p = record {
 -- the work size is over the limit, or memory ran out
 abbrev pub IsOver : ℕ → BindFault → Type 0
 IsOver size (At code line) = ⊥
-IsOver size (TooMuch n) = (n ≡ size) × (16777216 < n)
+IsOver size (TooMuch n) = (n ≡ size) × (most_work_size < n)
 IsOver size Memory = Unit {0}

@@ -1,4 +1,5 @@
 ghost use Rattle.std.specs.Prelude.{◌≡◌, ◌≤◌, ◌<◌, ◌-◌, ◌^◌, ℕ, List, length, min, None, IfOk, IfErr};
+ghost use Rattle.mm_base.specs.Limits.{most_work_size};
 ghost use Rattle.mm_database.specs.Books.{database_of};
 ghost use Rattle.mm_database.specs.Opened.{IsOpened};
 ghost use Rattle.solve_model.specs.Binding as spec;
@@ -88,7 +89,7 @@ fn within_limit(
     place: Place,
     steps: Vec<BoundStep>,
 ) -> Result<Bound, BindFault>
-    ensures bound { IfOk result (λ b. (b ≡ bound_in db.now sheet.now place steps.items) × (min (size_of db.now place steps.items) (2 ^ 64 - 1) ≤ 16777216)) }
+    ensures bound { IfOk result (λ b. (b ≡ bound_in db.now sheet.now place steps.items) × (min (size_of db.now place steps.items) (2 ^ 64 - 1) ≤ most_work_size)) }
     ensures too_much { IfErr result (IsOver (min (size_of db.now place steps.items) (2 ^ 64 - 1))) }
 {
     let size = work_size(db, place.setting.place, steps.as_slice());

@@ -1,7 +1,8 @@
 -- The text of a proof in a style. This is part of the proof, and not of the claim.
-use Rattle.std.specs.Prelude.{◌≡◌, ◌<◌, ◌^◌, ℕ, List, length, flat_map}
+use Rattle.std.specs.Prelude.{◌≡◌, ◌<◌, ℕ, List, length, flat_map}
 use Rattle.std.specs.Prelude.{◌∷◌}
 use Rattle.mm_base.specs.declared.kinds.Kinds.{Kinds}
+use Rattle.mm_base.specs.Limits.{most_proof_labels}
 use Rattle.mm_database.specs.Opened.{Opened, IsOpened}
 use Rattle.mm_model.specs.Names.{Name}
 use Rattle.proof_model.specs.declared.theorem.Theorem.{Theorem}
@@ -29,11 +30,11 @@ text_in style.Compressed mandatory p = spelled (length mandatory) (code_of_proof
 
 -- the number of the labels of a normal proof that is too long
 abbrev pub IsToldAs : Proof → ProofFault → Type 0
-IsToldAs p (TooLong n) = (n ≡ label_count p) × (2 ^ 20 < n)
+IsToldAs p (TooLong n) = (n ≡ label_count p) × (most_proof_labels < n)
 IsToldAs p Memory = Unit {0}
 
 abbrev pub IsToldIn : ProofStyle → Proof → ProofFault → Type 0
-IsToldIn s p (TooLong n) = (s ≡ style.Normal) × (n ≡ label_count p) × (2 ^ 20 < n)
+IsToldIn s p (TooLong n) = (s ≡ style.Normal) × (n ≡ label_count p) × (most_proof_labels < n)
 IsToldIn s p Memory = Unit {0}
 
 -- the graph is that of the proof of `qed`

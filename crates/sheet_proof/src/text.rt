@@ -1,5 +1,6 @@
 ghost use Rattle.std.specs.Prelude.{◌≡◌, ◌<◌, ◌≤◌, ◌^◌, ◌++◌, ℕ, List as ListOf, length, IfOk, IfErr, OnOk};
 ghost use Rattle.mm_base.specs.declared.kinds.Kinds.{Kinds};
+ghost use Rattle.mm_base.specs.Limits.{most_proof_labels};
 ghost use Rattle.mm_database.specs.Opened.{IsOpened};
 ghost use Rattle.proof_model.specs.Codes.{code_of_proof};
 ghost use Rattle.proof_model.specs.ProofCode as coded;
@@ -57,7 +58,7 @@ fn spaced(alloc: Global, labels: &[Name]) -> Result<Bytes, Memory>
 
 fn normal_text(alloc: Global, graph: &ProofGraph) -> Result<Bytes, ProofFault>
     ensures text { IfOk result (λ text. text ≡ laid.spaced (postorder (root_proof graph.now))) }
-    ensures few { IfOk result (λ text. length (postorder (root_proof graph.now)) ≤ 2 ^ 20) }
+    ensures few { IfOk result (λ text. length (postorder (root_proof graph.now)) ≤ most_proof_labels) }
     ensures told { IfErr result (IsToldAs (root_proof graph.now)) }
 {
     match normal(alloc, graph) {
@@ -97,7 +98,7 @@ fn styled_text(
     mandatory: &[Name],
 ) -> Result<Bytes, ProofFault>
     ensures text { IfOk result (λ text. text ≡ text_in style mandatory.now (root_proof graph.now)) }
-    ensures few { IfOk result (λ text. style ≡ style_of.Normal → length (postorder (root_proof graph.now)) ≤ 2 ^ 20) }
+    ensures few { IfOk result (λ text. style ≡ style_of.Normal → length (postorder (root_proof graph.now)) ≤ most_proof_labels) }
     ensures told { IfErr result (IsToldIn style (root_proof graph.now)) }
 {
     match style {

@@ -1,7 +1,8 @@
 //! The lines of a worksheet's text, and the tokens of a line.
 
-ghost use Rattle.std.specs.Prelude.{◌≡◌, ◌+◌, ◌≤◌, ◌^◌, ◌++◌, length, nat_lt, slice_get, IfOk, OnOk};
+ghost use Rattle.std.specs.Prelude.{◌≡◌, ◌+◌, ◌≤◌, ◌++◌, length, nat_lt, slice_get, IfOk, OnOk};
 ghost use Rattle.std.specs.List.{last_or};
+ghost use Rattle.mm_base.specs.Limits.{most_sheet_bytes};
 ghost use Rattle.sheet_text.specs.Lines.{trim_end, first_is_not_white, lines_not_blank, line_past_end, tokens};
 ghost use Rattle.sheet_text.specs.SheetStatements.{ends_proof, tokens_in};
 ghost use Rattle.sheet_read.specs.Parts.{line_in, lines_in, statement_in, targets, target, tokens_of_bytes};
@@ -54,10 +55,10 @@ pub fn lines_not_blank<'a>(
     alloc: Global,
     text: &'a [u8],
 ) -> Result<(Vec<TextLine<'a>>, u32), Memory>
-    requires { length text.now ≤ 2 ^ 24 }
+    requires { length text.now ≤ most_sheet_bytes }
     ensures lines { IfOk result (λ r. lines_in r.0.items ≡ lines_not_blank text.now) }
     ensures past { IfOk result (λ r. r.1 ≡ line_past_end text.now) }
-    ensures few { IfOk result (λ r. length r.0.items ≤ 2 ^ 24) }
+    ensures few { IfOk result (λ r. length r.0.items ≤ most_sheet_bytes) }
 {
     let mut lines = Vec::new(alloc);
     let mut number = 1;

@@ -1,6 +1,7 @@
 //! The line of a proof.
 
-ghost use Rattle.std.specs.Prelude.{◌≡◌, ◌≤◌, ◌^◌, find, length, option_map, IfOk};
+ghost use Rattle.std.specs.Prelude.{◌≡◌, ◌≤◌, find, length, option_map, IfOk};
+ghost use Rattle.mm_base.specs.Limits.{most_sheet_bytes};
 ghost use Rattle.sheet_read.specs.Parts.{line_in, lines_in, targets};
 ghost use Rattle.sheet_text.specs.Lines.{lines_not_blank as lines_of_text, tokens};
 ghost use Rattle.sheet_text.specs.SheetStatements as statements;
@@ -37,7 +38,7 @@ fn find_line<'l, 'a>(lines: &'l [TextLine<'a>]) -> Option<&'l TextLine<'a>>
 /// The tokens of the first line of a text that begins with the token `$=`; none where there is no such line. In a worksheet
 /// that was written it is the whole proof, with the `$=` and the `$.`.
 pub fn proof_tokens<'a>(alloc: Global, text: &'a [u8]) -> Result<Option<Vec<&'a [u8]>>, Memory>
-    requires { length text.now ≤ 2 ^ 24 }
+    requires { length text.now ≤ most_sheet_bytes }
     ensures { IfOk result (λ found. option_map (λ line. targets line.items) found ≡ option_map tokens (find statements.opens_proof (lines_of_text text.now))) }
 {
     let (lines, _) = lines_not_blank(alloc, text)?;

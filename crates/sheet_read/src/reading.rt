@@ -1,6 +1,7 @@
 //! Reading a worksheet.
 
-ghost use Rattle.std.specs.Prelude.{◌≡◌, ◌≤◌, ◌^◌, length, MatchResult, IfOk, IfErr, Ok, Some};
+ghost use Rattle.std.specs.Prelude.{◌≡◌, ◌≤◌, length, MatchResult, IfOk, IfErr, Ok, Some};
+ghost use Rattle.mm_base.specs.Limits.{most_sheet_bytes};
 ghost use Rattle.sheet_text.specs.TextFaults.{line_fault};
 ghost use Rattle.sheet_text.specs.Reads.{Reads};
 ghost use Rattle.sheet_read.specs.Faults.{IsFault};
@@ -19,7 +20,7 @@ use std::alloc::Global;
 
 /// The lines behind the header's first line, where the line past the last has this number.
 fn read_lines(alloc: Global, lines: &[TextLine<'_>], past: u32) -> Result<Reader, SheetFault>
-    requires { length lines.now ≤ 2 ^ 24 }
+    requires { length lines.now ≤ most_sheet_bytes }
     ensures { MatchResult result (λ r. read_lines past first_reading (lines_in lines.now) ≡ Ok r) (λ e. FailsWith e (read_lines past first_reading (lines_in lines.now))) }
 {
     let mut reader = Reader::new(alloc);
@@ -62,7 +63,7 @@ fn read_behind(
     behind: &[TextLine<'_>],
     past: u32,
 ) -> Result<Sheet, SheetFault>
-    requires { length behind.now ≤ 2 ^ 24 }
+    requires { length behind.now ≤ most_sheet_bytes }
     ensures { MatchResult result (λ s. with_header line (Some (header_in header.now)) (read_lines past first_reading (lines_in behind.now)) ≡ Ok s) (λ e. SheetFailsWith e (with_header line (Some (header_in header.now)) (read_lines past first_reading (lines_in behind.now)))) }
 {
     let theorem = List::copy_of(alloc, header.theorem)?;
@@ -79,7 +80,7 @@ fn read_behind(
 
 /// The sheet of lines, where the line past the last has this number.
 fn read_whole(alloc: Global, lines: &[TextLine<'_>], past: u32) -> Result<Sheet, SheetFault>
-    requires { length lines.now ≤ 2 ^ 24 }
+    requires { length lines.now ≤ most_sheet_bytes }
     ensures { MatchResult result (λ s. read_whole past (lines_in lines.now) ≡ Ok s) (λ e. SheetFailsWith e (read_whole past (lines_in lines.now))) }
 {
     if lines.is_empty() {
@@ -101,7 +102,7 @@ fn read_whole(alloc: Global, lines: &[TextLine<'_>], past: u32) -> Result<Sheet,
 /// from 1, and steps from 0; the numbers of the lines are in the sheet. It takes time in proportion to the text, and
 /// memory in proportion to its lines and tokens.
 pub fn read_sheet(alloc: Global, text: &[u8]) -> Result<Sheet, SheetFault>
-    requires { length text.now ≤ 2 ^ 24 }
+    requires { length text.now ≤ most_sheet_bytes }
 
     // The text has no fault, and says this sheet.
     ensures reads { IfOk result (Reads text.now) }

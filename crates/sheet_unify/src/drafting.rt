@@ -1,4 +1,5 @@
 ghost use Rattle.std.specs.Prelude.{◌≤◌, ◌^◌, length, IfOk, IfErr};
+ghost use Rattle.mm_base.specs.Limits.{most_database_bytes};
 ghost use Rattle.leaf_names.specs.Tables.{read_leaves};
 ghost use Rattle.sheet_unify.specs.Answered.{IsFaultOf};
 ghost use Rattle.sheet_unify.specs.Drafted.{AreFound};
@@ -26,7 +27,7 @@ fn found_items(
     mode: DvMode,
     filled: List<DraftItem>,
 ) -> Result<List<DraftItem>, Memory>
-    requires symbols { length db.now.contents.symbols ≤ 2 ^ 28 }
+    requires symbols { length db.now.contents.symbols ≤ most_database_bytes }
     requires read { length (read_leaves db.now.rows bound.now) ≤ 2 ^ 28 }
     requires sound { IsFilledSound db.now filled }
     ensures { IfOk result (AreFound db.now bound.now mode filled) }

@@ -1,6 +1,7 @@
 ghost use Rattle.std.specs.Prelude.{◌≡◌, ◌≤◌, ◌^◌, ◌++◌, List, length, map, option_to_list, IfOk, OnOk};
 ghost use Rattle.std.specs.List.{AllByRecursion};
 ghost use Rattle.mm_base.specs.declared.tree.Tree.{Tree};
+ghost use Rattle.mm_base.specs.Limits.{most_database_bytes};
 ghost use Rattle.mm_database.specs.Opened.{Opened};
 ghost use Rattle.solve_model.specs.declared.bound.Bound.{Bound};
 ghost use Rattle.written_model.specs.WrittenSteps.{steps_in, trees};
@@ -36,7 +37,7 @@ fn names_of<'d>(
     bound: &Bound,
     items: &[DraftItem],
 ) -> Result<Names<'d>, Memory>
-    requires symbols { length db.now.contents.symbols ≤ 2 ^ 28 }
+    requires symbols { length db.now.contents.symbols ≤ most_database_bytes }
     requires read { length (read_leaves db.now.rows bound.now) ≤ 2 ^ 28 }
     requires small { AllByRecursion HasSmallLeaves items.now }
     ensures { IfOk result (IsNamesOf db.now bound.now (formulas items.now)) }
@@ -62,7 +63,7 @@ pub fn name_items(
     bound: &Bound,
     items: List<DraftItem>,
 ) -> Result<List<DraftItem>, Memory>
-    requires symbols { length db.now.contents.symbols ≤ 2 ^ 28 }
+    requires symbols { length db.now.contents.symbols ≤ most_database_bytes }
     requires read { length (read_leaves db.now.rows bound.now) ≤ 2 ^ 28 }
     requires small { AreSmallLeaves (trees (steps_in (items_in db.now items))) }
     ensures { IfOk result (AreNamed db.now bound.now items) }
