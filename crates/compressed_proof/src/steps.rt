@@ -166,6 +166,7 @@ pub(crate) fn read_steps(
     ensures in_range { IfOk result (λ steps. AreInRange mandatory labels 0 steps.items) }
     ensures first_fault { IfErr result (λ e. IsLetterFault (mandatory + labels) letters.now e) }
 {
+    // Handed on by a `match`, which the checker follows.
     match read_letters(alloc, letters, mandatory, labels) {
         Ok(steps) => Ok(steps),
         Err(fault) => Err(fault),

@@ -135,6 +135,7 @@ fn scan(alloc: Global, text: &[u8]) -> Result<Vec<Token>, TokenFault>
     ensures no_fault { OnOk result (words_fault text.now ≡ None) }
     ensures first_fault { IfErr result (λ e. IsFault e (words_fault text.now)) }
 {
+    // Handed on by a `match`, which the checker follows.
     match read_words(alloc, text) {
         Ok(tokens) => Ok(tokens),
         Err(fault) => Err(fault),

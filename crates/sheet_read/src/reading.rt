@@ -111,6 +111,7 @@ pub fn read_sheet(alloc: Global, text: &[u8]) -> Result<Sheet, SheetFault>
     ensures first_fault { IfErr result (λ e. IsFault e (line_fault text.now)) }
 {
     let (lines, past) = lines_not_blank(alloc, text)?;
+    // Handed on by a `match`, which the checker follows.
     match read_whole(alloc, lines.as_slice(), past) {
         Ok(sheet) => Ok(sheet),
         Err(fault) => Err(fault),

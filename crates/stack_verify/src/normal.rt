@@ -63,6 +63,7 @@ fn step_of(others: &mut Names, index: &HypLabels, name: &[u8]) -> Result<Step, M
     match index.place(name) {
         Some(number) => Ok(unmarked(What::Hyp(number))),
         None => {
+            // Handed on by `?`, which the checker follows.
             let step = other_step(others, name)?;
             Ok(step)
         }
@@ -127,6 +128,7 @@ fn steps_of(alloc: Global, text: &[u8], spans: &[Span], hyps: &[Hyp]) -> Result<
     ensures { IfOk result (λ code. code ≡ normal_code (labels_of_hyps hyps.now) (names_in text.now spans.now)) }
 {
     let index = HypLabels::of(alloc, hyps)?;
+    // Handed on by `?`, which the checker follows.
     let code = code_with(alloc, &index, text, spans)?;
     Ok(code)
 }
@@ -144,6 +146,7 @@ pub(crate) fn normal(
     ensures code { IfOk result (λ code. code ≡ normal_code (labels_of_hyps hyps.now) (names_in text.now spans.now)) }
     ensures in_range { IfOk result (λ code. AreInRange (length (labels_of_hyps hyps.now)) (length code.labels) 0 code.steps) }
 {
+    // Handed on by `?`, which the checker follows.
     let code = steps_of(alloc, text, spans, hyps)?;
     Ok(code)
 }
