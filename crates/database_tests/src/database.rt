@@ -347,7 +347,7 @@ fn signs_are_usable(alloc: Global, count: usize) -> Option<bool> {
 }
 
 #[test]
-fn properties(rt: HostRuntime) {
+fn databases_are_opened(rt: HostRuntime) {
     assert!(rt; show(rt.alloc(), TEXT, Property::Small) == Some(true));
     assert!(rt; show_q(rt.alloc(), b"", Property::First) == Some(true));
     assert!(rt; show_q(rt.alloc(), CYCLE, Property::Cycle) == Some(true));

@@ -253,7 +253,7 @@ fn show(alloc: Global, text: &[u8], is_small: bool) -> bool {
 }
 
 #[test]
-fn contents(rt: HostRuntime) {
+fn symbols_places_and_frames_are_read(rt: HostRuntime) {
     let text = b"$c a $. $v x $. f $f a x $. t $p a x $= f $.";
     assert!(rt; show(rt.alloc(), text, true));
     assert!(rt; show(rt.alloc(), LOGIC, false));

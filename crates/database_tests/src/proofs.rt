@@ -231,7 +231,7 @@ fn has_answer(alloc: Global, theorem: &[u8], wanted: Wanted) -> bool {
 }
 
 #[test]
-fn answers(rt: HostRuntime) {
+fn proofs_are_judged(rt: HostRuntime) {
     for (theorem, wanted) in ROWS {
         assert!(rt; has_answer(rt.alloc(), theorem, *wanted));
     }

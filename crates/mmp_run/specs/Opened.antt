@@ -34,6 +34,6 @@ pub record IsListedText (told : Option Files) (name text : List ℕ) (contents :
   pub is_open : IsOpen told name text
   pub contents_are : contents ≡ contents_of text
 
-abbrev pub IsOpened : Option Files → (List ℕ → ℕ) → (List ℕ → ℕ) → List ℕ → Opened → Type 0
-IsOpened told before now name (opened.Database text frames) = IsListedText told name text frames
-IsOpened told before now name (opened.Refused end) = IsRefused told name end ⊎ IsUnread before now name end
+abbrev pub IsOpenedDatabase : Option Files → (List ℕ → ℕ) → (List ℕ → ℕ) → List ℕ → Opened → Type 0
+IsOpenedDatabase told before now name (opened.Database text frames) = IsListedText told name text frames
+IsOpenedDatabase told before now name (opened.Refused end) = IsRefused told name end ⊎ IsUnread before now name end

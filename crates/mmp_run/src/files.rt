@@ -8,7 +8,7 @@ use std::alloc::Global;
 
 /// What a store has under a name.
 #[derive(Drop)]
-pub enum Found {
+pub enum FileRead {
     Text(Bytes),
     TooBig,
     Fault,
@@ -20,7 +20,7 @@ pub fn read_file<S: Store>(
     store: &mut S,
     name: &str,
     most: u64,
-) -> Result<Found, Memory>
+) -> Result<FileRead, Memory>
     requires { most ≤ most_database_bytes }
     ensures found { IfOk result (IsFound (S.told store.old) most name.now (S.read_faults store.old name.now) (S.read_faults store.new name.now)) }
     ensures same_files { S.told store.new ≡ S.told store.old }
@@ -29,9 +29,9 @@ pub fn read_file<S: Store>(
 {
     let mut bytes = Vec::new(alloc);
     match store.read(name, most, &mut bytes) {
-        Ok(()) => Ok(Found::Text(List::from_vec(bytes))),
-        Err(ReadStop::More) => Ok(Found::TooBig),
-        Err(ReadStop::Failed) => Ok(Found::Fault),
+        Ok(()) => Ok(FileRead::Text(List::from_vec(bytes))),
+        Err(ReadStop::More) => Ok(FileRead::TooBig),
+        Err(ReadStop::Failed) => Ok(FileRead::Fault),
         Err(ReadStop::Memory) => Err(Memory),
     }
 }

@@ -6,13 +6,13 @@ ghost use Rattle.mm_base.specs.Limits.{most_database_bytes};
 ghost use Rattle.mm_database.specs.Faults.{IsDbFault, IsTold};
 ghost use Rattle.mm_model.specs.Faults.{fault};
 ghost use Rattle.mm_model.specs.Statements.{database_fault};
-ghost use Rattle.mmp_run.specs.Opened.{Has, IsOpened};
+ghost use Rattle.mmp_run.specs.Opened.{Has, IsOpenedDatabase};
 ghost use Rattle.mmp_run.specs.Refusals.{refusal};
 ghost use Rattle.mmp_run.specs.Refused.{IsDatabaseRefusal};
 ghost use Rattle.fault_lines.specs.FaultLines.{database_line};
 
 use crate::endings::{refuse, refuse_line, refuse_read};
-use crate::files::{Found, read_file};
+use crate::files::{FileRead, read_file};
 use call_answers::Ending;
 use mm_base::{Bytes, MOST_DATABASE_BYTES, Memory, Status, Store};
 use mm_database::{DbFault, db_fault_line, read_frames};
@@ -56,7 +56,7 @@ fn refuse_fault(alloc: Global, text: &[u8], fault: DbFault) -> Result<Ending, Me
 // The ending that tells that the file of a database is too big.
 fn open_big(alloc: Global) -> Result<Opened, Memory>
     ensures { IfOk result (λ opened. (told : Option Files) (before now : List ℕ → ℕ) (name : List ℕ)
-        → IfSome told (λ files. IsSomeAnd (files name) (λ text. most_database_bytes < length text)) → IsOpened told before now name opened) }
+        → IfSome told (λ files. IsSomeAnd (files name) (λ text. most_database_bytes < length text)) → IsOpenedDatabase told before now name opened) }
 {
     let end = refuse_size(alloc)?;
     Ok(Opened::Refused(end))
@@ -65,7 +65,7 @@ fn open_big(alloc: Global) -> Result<Opened, Memory>
 // The ending that tells that the file of a database could not be read.
 fn open_unread(alloc: Global, name: &str) -> Result<Opened, Memory>
     ensures { IfOk result (λ opened. (told : Option Files) (before now : List ℕ → ℕ)
-        → Rose (before name.now) (now name.now) → IsOpened told before now name.now opened) }
+        → Rose (before name.now) (now name.now) → IsOpenedDatabase told before now name.now opened) }
 {
     let end = refuse_read(alloc, name)?;
     Ok(Opened::Refused(end))
@@ -76,7 +76,7 @@ fn open_fault(alloc: Global, text: &[u8], fault: DbFault) -> Result<Opened, Memo
     requires first { IsDbFault fault (database_fault text.now) }
     requires told { IsTold fault }
     ensures { IfOk result (λ opened. (told : Option Files) (before now : List ℕ → ℕ) (name : List ℕ)
-        → Has told name text.now → IsOpened told before now name opened) }
+        → Has told name text.now → IsOpenedDatabase told before now name opened) }
 {
     let end = refuse_fault(alloc, text, fault)?;
     Ok(Opened::Refused(end))
@@ -86,7 +86,7 @@ fn open_fault(alloc: Global, text: &[u8], fault: DbFault) -> Result<Opened, Memo
 fn open_text(alloc: Global, text: Bytes) -> Result<Opened, Memory>
     requires { length text ≤ most_database_bytes }
     ensures { IfOk result (λ opened. (told : Option Files) (before now : List ℕ → ℕ) (name : List ℕ)
-        → Has told name text → IsOpened told before now name opened) }
+        → Has told name text → IsOpenedDatabase told before now name opened) }
 {
     match read_frames(alloc, text.as_slice()) {
         Ok(frames) => Ok(Opened::Database(text, frames)),
@@ -96,15 +96,15 @@ fn open_text(alloc: Global, text: Bytes) -> Result<Opened, Memory>
 
 /// Reads and judges a database.
 pub fn open<S: Store>(alloc: Global, store: &mut S, name: &str) -> Result<Opened, Memory>
-    ensures opened { IfOk result (IsOpened (S.told store.old) (S.read_faults store.old) (S.read_faults store.new) name.now) }
+    ensures opened { IfOk result (IsOpenedDatabase (S.told store.old) (S.read_faults store.old) (S.read_faults store.new) name.now) }
     ensures same_files { S.told store.new ≡ S.told store.old }
     ensures read_faults { NoneFell (S.read_faults store.old) (S.read_faults store.new) }
     ensures replace_faults { NoneFell (S.replace_faults store.old) (S.replace_faults store.new) }
 {
     match read_file(alloc, store, name, MOST_DATABASE_BYTES) {
-        Ok(Found::Text(text)) => open_text(alloc, text),
-        Ok(Found::TooBig) => open_big(alloc),
-        Ok(Found::Fault) => open_unread(alloc, name),
+        Ok(FileRead::Text(text)) => open_text(alloc, text),
+        Ok(FileRead::TooBig) => open_big(alloc),
+        Ok(FileRead::Fault) => open_unread(alloc, name),
         Err(_) => Err(Memory),
     }
 }

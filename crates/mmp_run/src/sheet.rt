@@ -12,7 +12,7 @@ ghost use Rattle.mmp_run.specs.Refusals.{refusal};
 ghost use Rattle.sheet_unify.specs.Answered.{refusal_of};
 
 use crate::endings::{refuse_line, refuse_read};
-use crate::files::{Found, read_file};
+use crate::files::{FileRead, read_file};
 use call_answers::Ending;
 use mm_base::{Bytes, MOST_SHEET_BYTES, Memory, Status, Store};
 use sheet_read::{SheetCode, SheetFault, read_sheet};
@@ -96,9 +96,9 @@ pub fn open_sheet<S: Store>(alloc: Global, store: &mut S, name: &str) -> Result<
     ensures replace_faults { NoneFell (S.replace_faults store.old) (S.replace_faults store.new) }
 {
     match read_file(alloc, store, name, MOST_SHEET_BYTES) {
-        Ok(Found::Text(text)) => open_bytes(alloc, text),
-        Ok(Found::TooBig) => open_big(alloc),
-        Ok(Found::Fault) => open_unread(alloc, name),
+        Ok(FileRead::Text(text)) => open_bytes(alloc, text),
+        Ok(FileRead::TooBig) => open_big(alloc),
+        Ok(FileRead::Fault) => open_unread(alloc, name),
         Err(_) => Err(Memory),
     }
 }

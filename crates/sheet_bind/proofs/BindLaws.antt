@@ -20,7 +20,7 @@ use Rattle.solve_model.specs.BindFaults.{BindFaultAt, at_header, at_step, at_pai
 use Rattle.solve_model.specs.Bound.{IsBoundStep}
 use Rattle.sheet_bind.specs.declared.setting.Setting.{Setting}
 use Rattle.sheet_bind.specs.Judging.{IsFirstOf, IsFirstWith, IsJudged, with_pair, start_of}
-use Rattle.sheet_bind.specs.Rules.{header_tests, is_label, not_variable}
+use Rattle.sheet_bind.specs.Rules.{header_tests, is_known_label, not_variable}
 use Rattle.sheet_bind.specs.Shown.{PlaceFacts}
 use Rattle.sheet_bind.specs.Tests.{HoldsIn, first_true}
 use Rattle.sheet_bind.proofs.FirstLaws.{none_more, one_more, both_more, first_of, taken, is_self}
@@ -53,9 +53,9 @@ module _ (kinds : Kinds) (facts : PlaceFacts) (d : Opened) (s : Sheet)
   header_same : header_tests d.contents x s ≡ tested (λ (rule : Sheet → Bool). rule s) (header_rules db)
   unfolding tests
   header_same =
-      ap (λ (n : Bool). tests (n && option_map_or (λ l. not (is_label d.contents l)) s.loc false) (n && is_label d.contents s.theorem))
+      ap (λ (n : Bool). tests (n && option_map_or (λ l. not (is_known_label d.contents l)) s.loc false) (n && is_known_label d.contents s.theorem))
       (none_mapped (λ (f : Frame). f.formula) (frame kinds facts d s))
-      ∙ ap (λ (f : Name → Bool). tests (not (is_some (frame kinds facts d s)) && option_map_or f s.loc false) (not (is_some (frame kinds facts d s)) && is_label d.contents s.theorem))
+      ∙ ap (λ (f : Name → Bool). tests (not (is_some (frame kinds facts d s)) && option_map_or f s.loc false) (not (is_some (frame kinds facts d s)) && is_known_label d.contents s.theorem))
       (fun_ext (λ l. none_or_not (label_named d.contents.labels l)))
 
   abbrev Header : ℕ → ℕ → Type 0

@@ -22,7 +22,7 @@ use Rattle.solve_model.specs.BindFaults.{step_rules, asks_for_tree, is_blank, hy
 use Rattle.solve_model.specs.Formulas.{IsTreeOf, is_known}
 use Rattle.sheet_bind.specs.declared.hyps.HypSteps.{HypSteps}
 use Rattle.sheet_bind.specs.Judging.{Scene, scene, TreeFault, IsTreeIn, StepStands}
-use Rattle.sheet_bind.specs.Rules.{step_tests, asks, is_label, is_hyp, not_provable}
+use Rattle.sheet_bind.specs.Rules.{step_tests, asks, is_known_label, is_hyp, not_provable}
 use Rattle.sheet_bind.specs.Seen.{existing_in, are_known, names_in}
 use Rattle.sheet_bind.specs.Shown.{PlaceFacts, shown}
 use Rattle.sheet_bind.specs.Tests.{HoldsIn}
@@ -111,17 +111,25 @@ module _ (kinds : Kinds) (facts : PlaceFacts) (d : Opened) (s : Sheet) where
 
       differs : (n : ℕ) (o : Option Frame) → hyps.count ≡ n
           → ((t.hyp && option_map_or (λ h. not (is_hyp d.contents.symbols h t)) (slice_get given hyps.count) (is_some (option_map (λ (f : Frame). f.formula) o)))
-          || (is_qed t && (nat_lt hyps.count (length given) || option_map_or (λ f. not (same_tokens t.formula (names_in d.contents.symbols f))) (option_map (λ (f : Frame). f.formula) o) false)))
+          || (is_qed t
+          && (nat_lt hyps.count (length given)
+          || option_map_or (λ f. not (same_tokens t.formula (names_in d.contents.symbols f)))
+          (option_map (λ (f : Frame). f.formula) o) false)))
           ≡ ((t.hyp && option_map_or (λ h. not (is_hyp d.contents.symbols h t)) (slice_get given n) (is_some o))
           || (is_qed t && (nat_lt n (length given) || option_map_or (λ (f : Frame). not (same_tokens t.formula (names_in d.contents.symbols f.formula))) o false)))
-      differs n None e = ap (λ (m : ℕ). (t.hyp && option_map_or (λ h. not (is_hyp d.contents.symbols h t)) (slice_get given m) false) || (is_qed t && (nat_lt m (length given) || false))) e
+      differs n None e =
+          ap (λ (m : ℕ). (t.hyp && option_map_or (λ h. not (is_hyp d.contents.symbols h t)) (slice_get given m) false)
+          || (is_qed t && (nat_lt m (length given) || false))) e
       differs n (Some f) e = ap (λ (m : ℕ). (t.hyp && option_map_or (λ h. not (is_hyp d.contents.symbols h t)) (slice_get given m) true)
           || (is_qed t && (nat_lt m (length given) || not (same_tokens t.formula (names_in d.contents.symbols f.formula))))) e
 
       taken_label : (n : ℕ) (o : Option Frame) → hyps.count ≡ n
-          → (is_none (option_map (λ (f : Frame). f.formula) o) && t.hyp && nat_le (length given) hyps.count && option_map_or (λ l. is_label d.contents l || bytes_eq l s.theorem) t.reference false)
-          ≡ (not (is_some o) && t.hyp && nat_le (length given) n && option_map_or (λ l. is_label d.contents l || bytes_eq l s.theorem) t.reference false)
-      taken_label n None e = ap (λ (m : ℕ). true && t.hyp && nat_le (length given) m && option_map_or (λ l. is_label d.contents l || bytes_eq l s.theorem) t.reference false) e
+          → (is_none (option_map (λ (f : Frame). f.formula) o) && t.hyp && nat_le (length given) hyps.count
+          && option_map_or (λ l. is_known_label d.contents l || bytes_eq l s.theorem) t.reference false)
+          ≡ (not (is_some o) && t.hyp && nat_le (length given) n && option_map_or (λ l. is_known_label d.contents l || bytes_eq l s.theorem) t.reference false)
+      taken_label n None e =
+          ap (λ (m : ℕ). true && t.hyp && nat_le (length given) m
+          && option_map_or (λ l. is_known_label d.contents l || bytes_eq l s.theorem) t.reference false) e
       taken_label n (Some f) e = refl
 
       twice_label : (t.hyp && option_map_or (contains hyps.labels) t.reference false) ≡ (t.hyp && option_map_or (has_hyp_label (take i (steps s))) t.reference false)
@@ -131,7 +139,8 @@ module _ (kinds : Kinds) (facts : PlaceFacts) (d : Opened) (s : Sheet) where
       four a p b q c r e v ap_a ap_b ap_c ap_e =
           ap (λ (z : Bool). tests t z b c e) ap_a ∙ ap (λ (z : Bool). tests t p z c e) ap_b ∙ ap (λ (z : Bool). tests t p q z e) ap_c ∙ ap (λ (z : Bool). tests t p q r z) ap_e
 
-      pub tests_same : step_tests d.contents kinds.provable s.theorem (kept kinds facts d place frame) hyps t ≡ tested (λ (rule : ℕ → SheetStep → Bool). rule i t) (step_rules base s)
+      pub tests_same : step_tests d.contents kinds.provable s.theorem (kept kinds facts d place frame) hyps t
+          ≡ tested (λ (rule : ℕ → SheetStep → Bool). rule i t) (step_rules base s)
       unfolding given
       tests_same =
           four _ _ _ _ _ _ _ _ (differs (hyps_before s i) frame noted.count) (taken_label (hyps_before s i) frame noted.count)
@@ -141,7 +150,9 @@ module _ (kinds : Kinds) (facts : PlaceFacts) (d : Opened) (s : Sheet) where
       tree_there c h = subst (λ (e : List Leaf). TreeFault (λ u. Parses d.rows place e (logic_code base) u) c) (expression_is kinds facts d place frame says within t.formula) h
 
       tree_back : (c : ℕ) → TreeFault (IsTreeOf base place t.formula) c → TreeFault (IsTreeIn here t) c
-      tree_back c h = subst (λ (e : List Leaf). TreeFault (λ u. Parses d.rows place e (logic_code base) u) c) (sym (expression_is kinds facts d place frame says within t.formula)) h
+      tree_back c h =
+          subst (λ (e : List Leaf). TreeFault (λ u. Parses d.rows place e (logic_code base) u) c)
+          (sym (expression_is kinds facts d place frame says within t.formula)) h
 
       pub step_there : (l c : ℕ) → StepStands here hyps t l c → StepAt i t l c
       step_there l c h = (

@@ -3,7 +3,7 @@ use Rattle.std.specs.Prelude.{ℕ}
 use Rattle.mm_model.specs.Faults.{Fault, fault}
 use Rattle.sheet_bind.specs.declared.faults.BindCode.{BindCode}
 use Rattle.sheet_bind.specs.declared.faults.BindCode.TheVariants as code
-use Rattle.sheet_bind.specs.declared.faults.Found.{Found}
+use Rattle.sheet_bind.specs.declared.faults.FoundFault.{FoundFault}
 
 -- the number of a code
 abbrev pub number_of : BindCode → ℕ
@@ -22,5 +22,5 @@ number_of code.FormulaLong = 71
 number_of code.HypLabelTwice = 72
 number_of code.TheoremName = 73
 
-abbrev pub found : Found → Fault
+abbrev pub found : FoundFault → Fault
 found f = fault f.line (number_of f.code)

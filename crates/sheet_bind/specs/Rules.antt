@@ -30,8 +30,8 @@ noted hyps t = if t.hyp then record { count = hyps.count + 1; labels = with_labe
 
 -- ---- the rules
 
-abbrev pub is_label : Contents → Name → Bool
-is_label c name = is_some (label_named c.labels name)
+abbrev pub is_known_label : Contents → Name → Bool
+is_known_label c name = is_some (label_named c.labels name)
 
 abbrev pub is_hyp : List Name → Hyp → SheetStep → Bool
 is_hyp symbols h t = has_label t.reference h.name && same_tokens t.formula (names_in symbols h.formula)
@@ -45,7 +45,7 @@ qed_differs c x before t =
 
 abbrev pub hyp_label_taken : Contents → Name → Setting → ℕ → SheetStep → Bool
 hyp_label_taken c theorem x before t =
-    is_none x.conclusion && t.hyp && nat_le (length x.given) before && option_map_or (λ l. is_label c l || bytes_eq l theorem) t.reference false
+    is_none x.conclusion && t.hyp && nat_le (length x.given) before && option_map_or (λ l. is_known_label c l || bytes_eq l theorem) t.reference false
 
 abbrev pub not_provable : Name → SheetStep → Bool
 not_provable provable t = not (is_blank t) && not (begins_with_token provable t.formula)
@@ -67,10 +67,10 @@ abbrev pub asks : Name → Bool → SheetStep → Bool
 asks provable known t = not (is_blank t) && not (not_provable provable t) && known && not (formula_long t)
 
 abbrev pub loc_unknown : Contents → Option Name → Bool
-loc_unknown c loc = option_map_or (λ l. not (is_label c l)) loc false
+loc_unknown c loc = option_map_or (λ l. not (is_known_label c l)) loc false
 
 abbrev pub header_tests : Contents → Setting → Sheet → List (ℕ × Bool)
-header_tests c x s = (60, is_none x.conclusion && loc_unknown c s.loc) ∷ (61, is_none x.conclusion && is_label c s.theorem) ∷ (73, theorem_name s) ∷ []
+header_tests c x s = (60, is_none x.conclusion && loc_unknown c s.loc) ∷ (61, is_none x.conclusion && is_known_label c s.theorem) ∷ (73, theorem_name s) ∷ []
 
 -- in `$d` a symbol that is no variable active at the place
 abbrev pub not_variable : Contents → Setting → PairLine → Bool

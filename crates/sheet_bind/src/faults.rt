@@ -61,7 +61,7 @@ impl From<Memory> for BindFault {
 
 /// A fault that stands in a worksheet.
 #[derive(Clone, Copy)]
-pub struct Found {
+pub struct FoundFault {
     pub line: u32,
     pub code: BindCode,
 }
@@ -89,14 +89,14 @@ pub fn number(code: BindCode) -> u32
 }
 
 /// Whether the one stands at a lesser line than the other, or at one line and has no higher code.
-pub fn comes_first(one: Found, other: Found) -> bool
+pub fn comes_first(one: FoundFault, other: FoundFault) -> bool
     ensures { result ≡ spec.comes_first (found one) (found other) }
 {
     one.line < other.line || (one.line == other.line && number(one.code) <= number(other.code))
 }
 
 /// The one that comes first, where both are there.
-pub fn earlier(one: Option<Found>, other: Option<Found>) -> Option<Found>
+pub fn earlier(one: Option<FoundFault>, other: Option<FoundFault>) -> Option<FoundFault>
     ensures { option_map found result ≡ spec.earlier (option_map found one) (option_map found other) }
 {
     let Some(first) = one else {
@@ -113,11 +113,11 @@ pub fn earlier(one: Option<Found>, other: Option<Found>) -> Option<Found>
 }
 
 /// A code at a line.
-pub fn at_line(line: u32, code: Option<BindCode>) -> Option<Found>
+pub fn at_line(line: u32, code: Option<BindCode>) -> Option<FoundFault>
     ensures { option_map found result ≡ option_map (λ c. spec.fault line (number_of c)) code }
 {
     match code {
         None => None,
-        Some(code) => Some(Found { line, code }),
+        Some(code) => Some(FoundFault { line, code }),
     }
 }

@@ -22,8 +22,8 @@ use mm_model::are_label_bytes;
 use names::Names;
 use sheet_text::{PairLine, Sheet, SheetStep};
 
-fn is_label(frames: &Frames, name: &[u8]) -> bool
-    ensures { result ≡ spec.is_label frames.now name.now }
+fn is_known_label(frames: &Frames, name: &[u8]) -> bool
+    ensures { result ≡ spec.is_known_label frames.now name.now }
 {
     frames.label(name).is_some()
 }
@@ -45,9 +45,9 @@ pub fn header_code(frames: &Frames, setting: &Setting, sheet: &Sheet) -> Option<
 }
 
 fn theorem_taken(frames: &Frames, setting: &Setting, theorem: &[u8]) -> bool
-    ensures { result ≡ (is_none setting.now.conclusion && spec.is_label frames.now theorem.now) }
+    ensures { result ≡ (is_none setting.now.conclusion && spec.is_known_label frames.now theorem.now) }
 {
-    setting.conclusion.is_none() && is_label(frames, theorem)
+    setting.conclusion.is_none() && is_known_label(frames, theorem)
 }
 
 fn loc_unknown(frames: &Frames, setting: &Setting, loc: &Option<Name>) -> bool
@@ -61,7 +61,7 @@ fn is_unknown(frames: &Frames, loc: &Option<Name>) -> bool
 {
     match loc {
         None => false,
-        Some(label) => !is_label(frames, label.as_slice()),
+        Some(label) => !is_known_label(frames, label.as_slice()),
     }
 }
 
@@ -139,11 +139,11 @@ fn hyp_label_taken(
 }
 
 fn is_taken(frames: &Frames, theorem: &[u8], reference: &Option<Name>) -> bool
-    ensures { result ≡ option_map_or (λ l. spec.is_label frames.now l || bytes_eq l theorem.now) reference.now false }
+    ensures { result ≡ option_map_or (λ l. spec.is_known_label frames.now l || bytes_eq l theorem.now) reference.now false }
 {
     match reference {
         None => false,
-        Some(label) => is_label(frames, label.as_slice()) || label.as_slice() == theorem,
+        Some(label) => is_known_label(frames, label.as_slice()) || label.as_slice() == theorem,
     }
 }
 

@@ -8,7 +8,7 @@ ghost use Rattle.mm_model.specs.Typed.{Parses};
 ghost use Rattle.sheet_bind.specs.Rules.{header_tests, word_tests};
 ghost use Rattle.sheet_bind.specs.Tests.{first_true};
 
-use crate::faults::{BindCode, Found, at_line, comes_first, earlier};
+use crate::faults::{BindCode, FoundFault, at_line, comes_first, earlier};
 use crate::hyps::{HypSteps, no_hyps, note};
 use crate::rules::{asks_for_tree, header_code, not_variable, step_code};
 use crate::setting::Setting;
@@ -27,7 +27,7 @@ use syntax_grammar::Grammar;
 /// fault.
 #[derive(Drop)]
 pub struct Judging {
-    pub first: Option<Found>,
+    pub first: Option<FoundFault>,
     pub hyps: HypSteps,
     pub steps: Vec<BoundStep>,
 }
@@ -35,26 +35,26 @@ pub struct Judging {
 /// The first fault, and the steps with their trees. The trees are there where there is no fault.
 #[derive(Drop)]
 pub struct Judged {
-    pub first: Option<Found>,
+    pub first: Option<FoundFault>,
     pub steps: Vec<BoundStep>,
 }
 
 /// What came of a step: the first fault, with those of the step among them, and its tree.
 #[derive(Drop)]
 struct StepJudged {
-    first: Option<Found>,
+    first: Option<FoundFault>,
     tree: Option<Tree>,
 }
 
 /// Whether a fault at a line with the code `NoTree` would come first.
-fn is_worth(first: Option<Found>, line: u32) -> bool
+fn is_worth(first: Option<FoundFault>, line: u32) -> bool
     ensures { result ≡ is_worth (option_map found first) line }
 {
     match first {
         None => true,
         Some(first) => !comes_first(
             first,
-            Found {
+            FoundFault {
                 line,
                 code: BindCode::NoTree,
             },
@@ -91,7 +91,7 @@ fn trees_of(
 }
 
 /// The faults of trees at a line.
-fn judge_trees(line: u32, first: Option<Found>, trees: Trees) -> StepJudged
+fn judge_trees(line: u32, first: Option<FoundFault>, trees: Trees) -> StepJudged
     ensures first { option_map found result.first ≡ with_trees line (option_map found first) trees }
     ensures tree { result.tree ≡ tree_in trees }
 {
@@ -124,7 +124,7 @@ fn judge_tree(
     alloc: Global,
     db: &Database,
     setting: &Setting,
-    first: Option<Found>,
+    first: Option<FoundFault>,
     step: &SheetStep,
 ) -> Result<StepJudged, Memory>
     requires some { 1 ≤ length step.now.formula }
@@ -145,9 +145,9 @@ fn with_words(
     theorem: &[u8],
     hyps: &HypSteps,
     known: bool,
-    first: Option<Found>,
+    first: Option<FoundFault>,
     step: &SheetStep,
-) -> Option<Found>
+) -> Option<FoundFault>
     ensures { option_map found result ≡ spec.earlier (option_map found first) (option_map (spec.fault step.now.line)
         (first_true (word_tests frames.now kinds.now.provable theorem.now setting.now hyps.now known step.now))) }
 {
@@ -163,7 +163,7 @@ fn judge_step(
     setting: &Setting,
     theorem: &[u8],
     hyps: &HypSteps,
-    first: Option<Found>,
+    first: Option<FoundFault>,
     step: &SheetStep,
 ) -> Result<StepJudged, Memory>
     ensures { IfOk result (λ r. IsStepJudged (scene db.now kinds.now.provable theorem.now setting.now) hyps.now step.now (option_map found first) (option_map found r.first) r.tree) }
@@ -299,7 +299,7 @@ fn judge_items(
     kinds: &Kinds,
     setting: &Setting,
     theorem: &[u8],
-    first: Option<Found>,
+    first: Option<FoundFault>,
     items: &[SheetItem],
 ) -> Result<Judging, Memory>
     ensures { IfOk result (λ j. Runs (scene db.now kinds.now.provable theorem.now setting.now) (start_of (option_map found first)) items.now (state_of j)) }
@@ -319,9 +319,9 @@ fn judge_items(
 fn with_pair(
     frames: &Frames,
     setting: &Setting,
-    first: Option<Found>,
+    first: Option<FoundFault>,
     pair: &PairLine,
-) -> Option<Found>
+) -> Option<FoundFault>
     ensures { option_map found result ≡ with_pair frames.now setting.now (option_map found first) pair.now }
 {
     if not_variable(frames, setting, pair) {
@@ -334,9 +334,9 @@ fn with_pair(
 fn with_pairs(
     frames: &Frames,
     setting: &Setting,
-    first: Option<Found>,
+    first: Option<FoundFault>,
     pairs: &[PairLine],
-) -> Option<Found>
+) -> Option<FoundFault>
     ensures { option_map found result ≡ fold (with_pair frames.now setting.now) (option_map found first) pairs.now }
 {
     let mut least = first;
@@ -347,7 +347,7 @@ fn with_pairs(
 }
 
 /// The first fault of the header.
-fn header_fault(frames: &Frames, setting: &Setting, sheet: &Sheet) -> Option<Found>
+fn header_fault(frames: &Frames, setting: &Setting, sheet: &Sheet) -> Option<FoundFault>
     ensures { option_map found result ≡ option_map (spec.fault sheet.now.line) (first_true (header_tests frames.now setting.now sheet.now)) }
 {
     at_line(sheet.line, header_code(frames, setting, sheet))

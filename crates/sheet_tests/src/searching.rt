@@ -119,7 +119,7 @@ fn pairs_of(alloc: Global, db: &Database, names: &[(&[u8], &[u8])]) -> Option<Li
     Some(List::from_vec(pairs))
 }
 
-fn is_label(db: &Database, label: Label, name: &[u8]) -> bool {
+fn has_name(db: &Database, label: Label, name: &[u8]) -> bool {
     db.frames().label(name) == Some(label)
 }
 
@@ -139,7 +139,7 @@ fn is_first(
         Ok(None) => want.is_none(),
         Ok(Some(found)) => match want {
             None => false,
-            Some((name, order)) => is_label(db, found.label, name)
+            Some((name, order)) => has_name(db, found.label, name)
                 && found.order.as_slice() == order,
         },
     }
@@ -147,7 +147,7 @@ fn is_first(
 
 fn are_labels(db: &Database, labels: &[Label], names: &[&[u8]]) -> bool {
     for (label, name) in labels.iter().zip(names) {
-        if !is_label(db, *label, name) {
+        if !has_name(db, *label, name) {
             return false;
         }
     }
