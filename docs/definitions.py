@@ -48,6 +48,7 @@ ORDER = [
     ("fault_lines", "How faults are told.", [
         ("Refusals", "the refusals of a worksheet", "FORMAT, Faults of a worksheet"),
         ("FaultLines", "the lines of faults", "FORMAT, Report and log lines"),
+        ("NamedFaults", "a fault as the program tells it", ""),
     ]),
     ("trial_texts", "The texts of the trial of the program by itself.", [
         ("TrialTexts", "a database, and a worksheet of any number of blocks", "FORMAT, The trial"),

@@ -1,3 +1,4 @@
 pub mod FaultLines
 pub mod FaultLinesExamples
+pub mod NamedFaults
 pub mod Refusals

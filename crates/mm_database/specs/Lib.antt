@@ -8,5 +8,4 @@ pub mod Heads
 pub mod Kept
 pub mod Opened
 pub mod Productions
-pub mod ToldFaults
 pub mod Variables

@@ -1,14 +1,14 @@
 ghost use Rattle.std.specs.Prelude.{◌≡◌, Option, Some, IfOk, IfSome, IsSome, option_map, string_bytes};
-ghost use Rattle.mm_model.specs.Faults.{Fault};
+ghost use Rattle.mm_model.specs.Faults.{Fault, fault};
 ghost use Rattle.mm_database.specs.Faults.{read_fault, token_fault, fault_of};
-ghost use Rattle.mm_database.specs.ToldFaults.{told, IsNamed};
-ghost use Rattle.fault_lines.specs.FaultLines.{database_line};
+ghost use Rattle.fault_lines.specs.FaultLines.{database_faults, database_line};
+ghost use Rattle.fault_lines.specs.NamedFaults.{told, IsNamed};
 
-use itoa::Buffer;
+use fault_lines::{NamedFault, database_line};
 use mm_base::{Bytes, List, Memory};
 use mm_frames::ReadFault;
 use mm_tokens::TokenFault;
-use std::alloc::{AllocError, Global};
+use std::alloc::Global;
 
 /// Why a text is no database: its first fault, the faults of tokens first.
 #[derive(Clone, Copy, Debug, PartialEq, Eq)]
@@ -21,172 +21,64 @@ pub enum DbFault {
     Memory,
 }
 
-/// A fault as its line tells it.
-#[derive(Clone, Copy)]
-struct ToldFault {
-    code: u8,
-    name: &'static str,
-    /// Where it stands, from 0.
-    byte: u32,
+fn named(code: u8, name: &'static str, place: u32) -> NamedFault
+    ensures fault { told result ≡ fault place code }
+    ensures word { result.name.now ≡ name.now }
+{
+    NamedFault { code, name, place }
 }
 
-fn told_token(fault: TokenFault) -> Option<ToldFault>
+fn told_token(fault: TokenFault) -> Option<NamedFault>
     ensures fault { option_map told result ≡ token_fault fault }
-    ensures named { IfSome result IsNamed }
+    ensures named { IfSome result (IsNamed database_faults) }
 {
     match fault {
-        TokenFault::BadByte(byte) => Some(ToldFault {
-            code: 1,
-            name: "BadByte",
-            byte,
-        }),
-        TokenFault::OpenComment(byte) => Some(ToldFault {
-            code: 2,
-            name: "OpenComment",
-            byte,
-        }),
-        TokenFault::CommentInComment(byte) => Some(ToldFault {
-            code: 3,
-            name: "CommentInComment",
-            byte,
-        }),
-        TokenFault::BadKeyword(byte) => Some(ToldFault {
-            code: 4,
-            name: "BadKeyword",
-            byte,
-        }),
+        TokenFault::BadByte(byte) => Some(named(1, "BadByte", byte)),
+        TokenFault::OpenComment(byte) => Some(named(2, "OpenComment", byte)),
+        TokenFault::CommentInComment(byte) => Some(named(3, "CommentInComment", byte)),
+        TokenFault::BadKeyword(byte) => Some(named(4, "BadKeyword", byte)),
         TokenFault::Memory => None,
     }
 }
 
-fn told_read(fault: ReadFault) -> Option<ToldFault>
+fn told_read(fault: ReadFault) -> Option<NamedFault>
     ensures fault { option_map told result ≡ read_fault fault }
-    ensures named { IfSome result IsNamed }
+    ensures named { IfSome result (IsNamed database_faults) }
 {
     match fault {
-        ReadFault::Include(byte) => Some(ToldFault {
-            code: 10,
-            name: "Include",
-            byte,
-        }),
-        ReadFault::ConstInBlock(byte) => Some(ToldFault {
-            code: 11,
-            name: "ConstInBlock",
-            byte,
-        }),
-        ReadFault::Redeclared(byte) => Some(ToldFault {
-            code: 12,
-            name: "Redeclared",
-            byte,
-        }),
-        ReadFault::NotActive(byte) => Some(ToldFault {
-            code: 13,
-            name: "NotActive",
-            byte,
-        }),
-        ReadFault::NoType(byte) => Some(ToldFault {
-            code: 14,
-            name: "NoType",
-            byte,
-        }),
-        ReadFault::TwoTypes(byte) => Some(ToldFault {
-            code: 15,
-            name: "TwoTypes",
-            byte,
-        }),
-        ReadFault::FirstNotConst(byte) => Some(ToldFault {
-            code: 16,
-            name: "FirstNotConst",
-            byte,
-        }),
-        ReadFault::LabelTaken(byte) => Some(ToldFault {
-            code: 17,
-            name: "LabelTaken",
-            byte,
-        }),
-        ReadFault::LabelMissing(byte) => Some(ToldFault {
-            code: 18,
-            name: "LabelMissing",
-            byte,
-        }),
-        ReadFault::LabelExtra(byte) => Some(ToldFault {
-            code: 19,
-            name: "LabelExtra",
-            byte,
-        }),
-        ReadFault::BadLabel(byte) => Some(ToldFault {
-            code: 20,
-            name: "BadLabel",
-            byte,
-        }),
-        ReadFault::Unended(byte) => Some(ToldFault {
-            code: 21,
-            name: "Unended",
-            byte,
-        }),
-        ReadFault::BlockOpen(byte) => Some(ToldFault {
-            code: 22,
-            name: "BlockOpen",
-            byte,
-        }),
-        ReadFault::BlockUnopened(byte) => Some(ToldFault {
-            code: 23,
-            name: "BlockUnopened",
-            byte,
-        }),
-        ReadFault::DistinctShort(byte) => Some(ToldFault {
-            code: 24,
-            name: "DistinctShort",
-            byte,
-        }),
-        ReadFault::DistinctTwice(byte) => Some(ToldFault {
-            code: 25,
-            name: "DistinctTwice",
-            byte,
-        }),
-        ReadFault::EmptyFormula(byte) => Some(ToldFault {
-            code: 26,
-            name: "EmptyFormula",
-            byte,
-        }),
-        ReadFault::BadHypothesis(byte) => Some(ToldFault {
-            code: 27,
-            name: "BadHypothesis",
-            byte,
-        }),
-        ReadFault::NoProof(byte) => Some(ToldFault {
-            code: 28,
-            name: "NoProof",
-            byte,
-        }),
-        ReadFault::StrayToken(byte) => Some(ToldFault {
-            code: 29,
-            name: "StrayToken",
-            byte,
-        }),
+        ReadFault::Include(byte) => Some(named(10, "Include", byte)),
+        ReadFault::ConstInBlock(byte) => Some(named(11, "ConstInBlock", byte)),
+        ReadFault::Redeclared(byte) => Some(named(12, "Redeclared", byte)),
+        ReadFault::NotActive(byte) => Some(named(13, "NotActive", byte)),
+        ReadFault::NoType(byte) => Some(named(14, "NoType", byte)),
+        ReadFault::TwoTypes(byte) => Some(named(15, "TwoTypes", byte)),
+        ReadFault::FirstNotConst(byte) => Some(named(16, "FirstNotConst", byte)),
+        ReadFault::LabelTaken(byte) => Some(named(17, "LabelTaken", byte)),
+        ReadFault::LabelMissing(byte) => Some(named(18, "LabelMissing", byte)),
+        ReadFault::LabelExtra(byte) => Some(named(19, "LabelExtra", byte)),
+        ReadFault::BadLabel(byte) => Some(named(20, "BadLabel", byte)),
+        ReadFault::Unended(byte) => Some(named(21, "Unended", byte)),
+        ReadFault::BlockOpen(byte) => Some(named(22, "BlockOpen", byte)),
+        ReadFault::BlockUnopened(byte) => Some(named(23, "BlockUnopened", byte)),
+        ReadFault::DistinctShort(byte) => Some(named(24, "DistinctShort", byte)),
+        ReadFault::DistinctTwice(byte) => Some(named(25, "DistinctTwice", byte)),
+        ReadFault::EmptyFormula(byte) => Some(named(26, "EmptyFormula", byte)),
+        ReadFault::BadHypothesis(byte) => Some(named(27, "BadHypothesis", byte)),
+        ReadFault::NoProof(byte) => Some(named(28, "NoProof", byte)),
+        ReadFault::StrayToken(byte) => Some(named(29, "StrayToken", byte)),
         ReadFault::Memory => None,
     }
 }
 
-fn told_fault(fault: DbFault) -> Option<ToldFault>
+fn told_fault(fault: DbFault) -> Option<NamedFault>
     ensures fault { option_map told result ≡ fault_of fault }
-    ensures named { IfSome result IsNamed }
+    ensures named { IfSome result (IsNamed database_faults) }
 {
     match fault {
         DbFault::Token(fault) => told_token(fault),
         DbFault::Read(fault) => told_read(fault),
         DbFault::Memory => None,
     }
-}
-
-fn write_line(alloc: Global, fault: ToldFault) -> Result<String, AllocError>
-    requires { IsNamed fault }
-    ensures { IfOk result (λ line. string_bytes line ≡ database_line (told fault)) }
-{
-    let (mut code, mut byte) = (Buffer::new(), Buffer::new());
-    let (code, byte) = (code.format(fault.code), byte.format(fault.byte));
-    let name = fault.name;
-    format!(in alloc; "database error {code} {name} at byte {byte}")
 }
 
 /// The line that tells a fault with a code, without its end. Each fault but want of memory has one.
@@ -199,7 +91,7 @@ pub fn db_fault_line(alloc: Global, fault: &DbFault) -> Result<Bytes, Memory>
     match told_fault(*fault) {
         None => Err(Memory),
         Some(told) => {
-            let line = write_line(alloc, told)?;
+            let line = database_line(alloc, told)?;
             Ok(List::from_vec(line.into_bytes()))
         }
     }

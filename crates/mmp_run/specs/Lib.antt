@@ -1,5 +1,4 @@
 pub mod Answers
-pub mod Faults
 pub mod Found
 pub mod Opened
 pub mod OpenedSheet

@@ -1,9 +1,9 @@
 -- What the program says of a proof. This is part of the proof, and not of the claim.
 use Rattle.fault_lines.specs.FaultLines.{code_faults, proof_faults}
+use Rattle.fault_lines.specs.NamedFaults.{told, IsNamed}
 use Rattle.call_answers.specs.Verified as said
 use Rattle.mmp_run.specs.declared.verify.Verdict.{Verdict}
 use Rattle.mmp_run.specs.declared.verify.Verdict.TheVariants as verdict
-use Rattle.mmp_run.specs.Faults.{told, IsNamed}
 
 abbrev pub told_verdict : Verdict → said.Verdict
 told_verdict verdict.NoTheorem = said.no_theorem

@@ -5,7 +5,6 @@ mod call;
 mod command;
 mod deliver;
 mod endings;
-mod fault;
 mod files;
 mod opening;
 mod options;

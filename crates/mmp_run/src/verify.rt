@@ -9,16 +9,16 @@ ghost use Rattle.proof_model.specs.Machine.{MachineFault};
 ghost use Rattle.proof_model.specs.ProofCode.{code_fault};
 ghost use Rattle.stack_verify.specs.Faults.{IsFault as IsProofFault};
 ghost use Rattle.fault_lines.specs.FaultLines.{code_faults, proof_faults};
+ghost use Rattle.fault_lines.specs.NamedFaults.{told, IsNamed};
 ghost use Rattle.call_answers.specs.Verified.{verdict_of, refused, accepted, no_theorem, theorem_named, IsVerdict};
-ghost use Rattle.mmp_run.specs.Faults.{told, IsNamed};
 ghost use Rattle.mmp_run.specs.Theorems.{IsTheorem};
 ghost use Rattle.mmp_run.specs.Verdicts.{told_verdict, IsNamedVerdict};
 ghost use Rattle.mmp_run.specs.Verify.{IsVerified, ending_of};
 
 use crate::endings::{make_line, refuse};
-use crate::fault::{NamedFault, code_line, proof_line};
 use call_answers::Ending;
 use compressed_proof::CodeFault;
+use fault_lines::{NamedFault, code_line, proof_line};
 use mm_base::{Label, List, Memory, Status};
 use mm_frames::Frames;
 use stack_verify::{ProofFault, proof_code, theorem_of, verify};

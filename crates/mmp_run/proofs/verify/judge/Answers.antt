@@ -1,6 +1,6 @@
 use Rattle.mm_model.specs.Statements.{statements}
 use Rattle.stack_verify.specs.Theorems.{labels_of_hyps}
-use Rattle.mmp_run.specs.Faults.{told}
+use Rattle.fault_lines.specs.NamedFaults.{told}
 use Rattle.mmp_run.proofs.Verdicts.{said_code, said_machine, said_accepted, proof_at, range_of, code_told, no_statement_fault}
 use Rattle.mmp_run.proofs.verify.judge.Goals as goal
 
