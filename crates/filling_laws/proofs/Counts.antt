@@ -17,9 +17,10 @@ use Rattle.solve_model.specs.Trees.{same_tree}
 use Rattle.solve_model.specs.Solutions.{Valuation, Asked, formula, instance}
 use Rattle.solve_model.specs.Verdicts.{Judgement, accepted, stands, asked_of, accepted_in}
 use Rattle.written_model.specs.Existence.{IsCandidate}
-use Rattle.written_model.specs.WrittenSteps.{WrittenStep, WrittenItem, comment, step, step_of, steps_in, trees}
+use Rattle.written_model.specs.WrittenSteps.{WrittenStep, comment, step, step_of, steps_in, trees}
 use Rattle.written_model.specs.Filled.{Filling, new_trees, fill, derived_names, made_step, filled_step, wanted_by, fill_item}
 use Rattle.again_laws.proofs.Lists.{get_below, into_filter_map, all_of}
+use Rattle.writing_laws.proofs.LongSteps.{steps_are, tree_is}
 use Rattle.step_chain.specs.Held.{Held, judgements_of}
 use Rattle.step_chain.specs.Values.{value_of}
 use Rattle.step_chain.specs.Answers.{constants_of}
@@ -37,18 +38,6 @@ append_nil (x ∷ xs) = ap (λ ys. x ∷ ys) (append_nil xs)
 trees_append : (es fs : List WrittenStep) → trees (es ++ fs) ≡ trees es ++ trees fs
 trees_append [] fs = refl
 trees_append (e ∷ es) fs = ap (λ ts. e.tree ∷ ts) (trees_append es fs)
-
-steps-made : (es : List WrittenStep) → steps_in (map step es) ≡ es
-steps-made [] = refl
-steps-made (e ∷ es) = ap (λ xs. e ∷ xs) (steps-made es)
-
-steps_are : (is : List WrittenItem) (made : List WrittenStep) (last : WrittenStep) → steps_in (is ++ map step made ++ step last ∷ []) ≡ (steps_in is ++ made) ++ last ∷ []
-steps_are is made last =
-    filter_map-append step_of (is ++ map step made) (step last ∷ []) ∙ ap (λ xs. xs ++ last ∷ []) (filter_map-append step_of is (map step made) ∙ ap (λ xs. steps_in is ++ xs) (steps-made made))
-
-tree_is : (numbers more : List ℕ) (s : SheetStep) (t : Tree) (g : Valuation) (o : Judgement) → (filled_step numbers more s t g o).tree ≡ t
-tree_is numbers more s t g (stands v) = refl
-tree_is numbers more s t g (accepted x) = refl
 
 -- ---- a property of all trees
 
@@ -73,7 +62,7 @@ module _ (P : Tree → Type 0) where
       subst All (sym (trees_append (es ++ made) (last ∷ [])))
       (all_join P (trees (es ++ made)) (trees (last ∷ [])) (subst All (sym (trees_append es made)) (all_join P (trees es) (trees made) h k)) (l, tt))
 
-  all_mapped : (f : Tree → Tree) (n : ℕ) (ts : List Tree) → AllByRecursion (λ t. P (f t)) ts → All (map f (drop n ts))
+  pub all_mapped : (f : Tree → Tree) (n : ℕ) (ts : List Tree) → AllByRecursion (λ t. P (f t)) ts → All (map f (drop n ts))
   all_mapped f zero [] h = tt
   all_mapped f zero (t ∷ ts) h = (h.0, all_mapped f zero ts h.1)
   all_mapped f (suc n) [] h = tt

@@ -1,5 +1,5 @@
 -- The fresh leaves of what a chain's worksheet is filled to.
-use Rattle.std.specs.Prelude.{◌≡◌, ℕ, ◌<◌, ◌≤◌, ◌+◌, ◌^◌, List, [], ◌∷◌, length, map, drop, slice_get, slice_index_or, is_some, IsTrue, true, false, Option, Some, None, refl}
+use Rattle.std.specs.Prelude.{◌≡◌, ℕ, ◌<◌, ◌≤◌, ◌+◌, ◌^◌, List, [], ◌∷◌, length, map, drop, filter_map, slice_get, slice_index_or, is_some, IsTrue, true, false, Option, Some, None, refl}
 use Rattle.std.specs.List.{AllByRecursion}
 use Rattle.std.proofs.Common.{zero, suc, get_or, sym, ap, subst, ◌∙◌, arith, inl, inr}
 use Rattle.std.proofs.lemmas.Bool.{cases_lt}
@@ -12,6 +12,7 @@ use Rattle.mm_database.specs.Books.{database_of}
 use Rattle.mm_database.specs.Opened.{Opened, IsOpened}
 use Rattle.sheet_text.specs.declared.sheet.Sheet.{Sheet}
 use Rattle.sheet_text.specs.declared.sheet.SheetItem.{SheetItem}
+use Rattle.sheet_text.specs.Layout.{step_of_item}
 use Rattle.solve_model.specs.declared.bound.Bound.{Bound}
 use Rattle.solve_model.specs.declared.bound.BoundStep.{BoundStep}
 use Rattle.solve_model.specs.declared.verdict.Verdict.TheVariants as verdict
@@ -39,8 +40,8 @@ use Rattle.step_chain.proofs.ValueLaws.{formula_is}
 use Rattle.step_chain.proofs.AnswerLaws.{accepted_true, hyp_value, own_count, hyp_inside}
 use Rattle.step_naming.specs.Named.{AreSmallLeaves}
 use Rattle.filling_laws.specs.Leaves.{LeavesAreSmall}
+use Rattle.filling_laws.proofs.Counts.{all_mapped, good_front}
 use Rattle.filling_laws.proofs.LeafReading.{IsLow, low_value, low_first}
-use Rattle.filling_laws.proofs.LeafFilling.{of_filled}
 
 -- ---- lists
 
@@ -48,15 +49,6 @@ past_end : {X : Type 0} (xs : List X) (i : ℕ) (d : X) → length xs ≤ i → 
 past_end [] i d h = refl
 past_end (x ∷ xs) zero d h = absurd (omega (arith, h))
 past_end (x ∷ xs) (suc i) d h = past_end xs i d (omega (arith, h))
-
-all_drop : {X : Type 0} (P : X → Type 0) (k : ℕ) (xs : List X) → AllByRecursion P xs → AllByRecursion P (drop k xs)
-all_drop P zero xs h = h
-all_drop P (suc k) [] h = tt
-all_drop P (suc k) (x ∷ xs) h = all_drop P k xs h.1
-
-all_map : {X Y : Type 0} (P : Y → Type 0) (f : X → Y) (xs : List X) → AllByRecursion (λ x. P (f x)) xs → AllByRecursion P (map f xs)
-all_map P f [] h = tt
-all_map P f (x ∷ xs) h = (h.0, all_map P f xs h.1)
 
 some_of : {X : Type 0} (o : Option X) → IsTrue (is_some o) → (x : X) × (o ≡ Some x)
 some_of None h = let impossible : false ≡ true = h in absurd (cc)
@@ -138,8 +130,7 @@ module _ (h : Held) (held : IsHeld h) (few : length h.nodes ≤ 2 ^ 24) where
           let number : y.step ≡ 0 + i = number_of h.book h.bound y 0 h.steps i is in
           let own : i ≡ y.step = omega (arith, number) in
           subst (λ (j : ℕ). AllByRecursion IsSmall (map (instance (value_of h) j) (drop (length y.places) y.assertion.hyps))) own
-          (all_map IsSmall (instance (value_of h) i) (drop (length y.places) y.assertion.hyps)
-          (all_drop (λ (e : Tree). IsSmall (instance (value_of h) i e)) (length y.places) y.assertion.hyps (all_each (λ (e : Tree). IsSmall (instance (value_of h) i e)) y.assertion.hyps small_hyp)))
+          (all_mapped IsSmall (instance (value_of h) i) (length y.places) y.assertion.hyps (all_each (λ (e : Tree). IsSmall (instance (value_of h) i e)) y.assertion.hyps small_hyp))
 
     small_wanted : (i : ℕ) → AllByRecursion IsSmall (wanted_by (value_of h) (slice_index_or (judgements_of h) i (stands verdict.NoRef)))
     small_wanted i = by (slice_index_or (judgements_of h) i (stands verdict.NoRef)) refl
@@ -153,8 +144,10 @@ module _ (h : Held) (held : IsHeld h) (few : length h.nodes ≤ 2 ^ 24) where
 
     small_filled : (names : List Name) (items : List SheetItem) → AreSmallLeaves (trees (steps_in (filled_items names h.bound (value_of h) (judgements_of h) items)))
     small_filled names items c n leaf =
+        let n_steps = length (filter_map step_of_item items) in
+        let whole : n_steps ≤ n_steps = omega arith in
         all_has IsSmall (trees (steps_in (filled_items names h.bound (value_of h) (judgements_of h) items))) leaf.0
-        (of_filled IsSmall (value_of h) names h.bound (judgements_of h) small_formula small_wanted items) leaf.1 c n leaf.2
+        (good_front IsSmall names h.bound (value_of h) (judgements_of h) n_steps (λ k below. small_formula k) small_wanted items whole).all leaf.1 c n leaf.2
 
 pub leaves_small : LeavesAreSmall
 leaves_small h held kinds text sheet opened binds code judged few names items = small_filled h held few kinds text sheet opened binds code names items

@@ -1,6 +1,5 @@
 pub mod Candidates
 pub mod Counts
-mod LeafFilling
 mod LeafLaws
 mod LeafReading
 pub mod ValueEarlier

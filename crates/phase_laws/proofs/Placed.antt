@@ -1,7 +1,7 @@
 -- The places of a bound worksheet name steps, and can be counted.
 use Rattle.std.specs.Prelude.{◌≡◌, ◌+◌, ◌<◌, ◌≤◌, ◌^◌, ℕ, suc, Bool, true, false, List, [], ◌∷◌, length, nat_lt, Some, None, refl}
 use Rattle.std.specs.List.{AllByRecursion, AllZip, list_all}
-use Rattle.std.proofs.Common.{sym, subst, cond, arith, ltb-true}
+use Rattle.std.proofs.Common.{sym, subst, cond, arith}
 use Rattle.std.proofs.lemmas.Bool.{and_parts}
 use Rattle.std.proofs.lemmas.Bool.Decides.{nat_tests}
 use Rattle.mm_base.specs.Limits.{most_sheet_bytes}
@@ -19,17 +19,10 @@ use Rattle.solve_model.specs.Binding.{place_of}
 use Rattle.solve_model.specs.Bound.{IsBoundStep}
 use Rattle.written_model.specs.Existence.{IsPlaceIn}
 use Rattle.answer_laws.proofs.OneBinding.{zip_length}
+use Rattle.writing_laws.proofs.Judging.{places_in}
 use Rattle.step_chain.specs.Steps.{IsPlaced}
 use Rattle.phase_laws.specs.Places.{BoundIsCounted, SoundIsShort}
 use Rattle.phase_laws.proofs.Counts.{FewPlaces, text_few}
-
-places_in : (n m : ℕ) (gs : List Given) → n ≤ m → list_all (is_place_below n) gs ≡ true → AllByRecursion (IsPlaceIn m) gs
-places_in n m [] l h = tt
-places_in n m (given.Gap ∷ gs) l h = (tt, places_in n m gs l h)
-places_in n m (given.Step k ∷ gs) l h =
-    let both = and_parts (nat_lt k n) (list_all (is_place_below n) gs) h in
-    let below = ltb-true k n both.0 in
-    (omega (arith, below, l), places_in n m gs l both.1)
 
 spelled_places : (n : ℕ) (t : SheetStep) → is_step_spellable n t ≡ true → list_all (is_place_below n) t.places ≡ true
 spelled_places n t h = (and_parts _ _ (and_parts _ _ (and_parts _ _ h).0).0).1

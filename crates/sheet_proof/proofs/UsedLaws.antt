@@ -29,6 +29,7 @@ use Rattle.written_steps.specs.declared.draft.DraftStep.{DraftStep}
 use Rattle.written_steps.specs.declared.draft.DraftItem.{DraftItem}
 use Rattle.written_steps.specs.declared.draft.DraftItem.TheVariants as draft
 use Rattle.written_steps.specs.Drafts.{book, use_in, step_in, items_in, drafts_in, IsSoundUse, IsSoundStep, AreSound}
+use Rattle.written_steps.proofs.DraftLists.{steps_are, sound_drafts}
 use Rattle.written_steps.proofs.Kept.{made_of}
 use Rattle.sheet_proof.specs.Provable.{IsProvableStep, IsProvable}
 use Rattle.sheet_proof.specs.Steps.{are_used, hyps_in, is_whole, step_by, proof_step, proof_steps, put_item, step_numbers}
@@ -45,16 +46,6 @@ module _ (d : Opened) where
   put_all (draft.Step s ∷ items) before =
       put_all items (before ++ proof_step d before s ∷ [])
       ∙ append_assoc before (proof_step d before s ∷ []) (steps_from (before ++ proof_step d before s ∷ []) (drafts_in items))
-
-  pub steps_are : (items : List DraftItem) → steps_in (items_in d items) ≡ map (step_in d) (drafts_in items)
-  steps_are [] = refl
-  steps_are (draft.Comment lines ∷ items) = steps_are items
-  steps_are (draft.Step s ∷ items) = ap (λ xs. step_in d s ∷ xs) (steps_are items)
-
-  sound_drafts : (items : List DraftItem) → AreSound d items → AllByRecursion (IsSoundStep d) (drafts_in items)
-  sound_drafts [] h = tt
-  sound_drafts (draft.Comment lines ∷ items) h = sound_drafts items h.1
-  sound_drafts (draft.Step s ∷ items) h = (h.0, sound_drafts items h.1)
 
   -- ---- a use
 
@@ -222,14 +213,14 @@ module _ (d : Opened) where
     pub stand_for : (kinds : Kinds) (text : List ℕ) → IsOpened kinds text d → StandFor (book kinds text d) es (proof_steps d items)
     stand_for kinds text opened = record {
       each = subst (λ ps. AllZip (IsProofStep (book kinds text d)) es ps) (sym all_steps)
-          (subst (λ ws. AllZip (IsProofStep (book kinds text d)) ws (steps_from [] (drafts_in items))) (sym (steps_are items))
-          (all_stand kinds text opened [] (drafts_in items) (sound_drafts items sound)
-          (references (drafts_in items) (λ i e at. (provable.steps i e (ap (λ ws. slice_get ws i) (steps_are items) ∙ at)).reference))));
+          (subst (λ ws. AllZip (IsProofStep (book kinds text d)) ws (steps_from [] (drafts_in items))) (sym (steps_are d items))
+          (all_stand kinds text opened [] (drafts_in items) (sound_drafts d items sound)
+          (references (drafts_in items) (λ i e at. (provable.steps i e (ap (λ ws. slice_get ws i) (steps_are d items) ∙ at)).reference))));
       follow = subst (FollowFromUsed []) (sym all_steps) (all_follow [] (drafts_in items));
     }
 
     count : length (proof_steps d items) ≡ length provable.front + 1
-    count = ap length all_steps ∙ length_from [] (drafts_in items) ∙ sym (length-map (drafts_in items) (step_in d)) ∙ ap length (sym (steps_are items)) ∙ ap length provable.whole
+    count = ap length all_steps ∙ length_from [] (drafts_in items) ∙ sym (length-map (drafts_in items) (step_in d)) ∙ ap length (sym (steps_are d items)) ∙ ap length provable.whole
         ∙ length-append provable.front (provable.last ∷ [])
 
     -- the last step is used
@@ -238,8 +229,8 @@ module _ (d : Opened) where
         let same : root ≡ length provable.front = omega (arith, e, count) in
         let at : slice_get es root ≡ Some provable.last = ap (slice_get es) same ∙ ap (λ xs. slice_get xs (length provable.front)) provable.whole ∙ get_mid provable.front provable.last [] in
         let done =
-        all_done provable.mode provable.allowed es provable.finished provable.steps (drafts_in items) [] [] (steps_are items) refl
-        (sound_drafts items sound) (λ k l b. absurd (omega (arith, l))) in
+        all_done provable.mode provable.allowed es provable.finished provable.steps (drafts_in items) [] [] (steps_are d items) refl
+        (sound_drafts d items sound) (λ k l b. absurd (omega (arith, l))) in
         (same, ap (λ ps. used_at ps root) all_steps ∙ done root (subst (λ n. root < n) (ap length all_steps) (omega (arith, e))) (at_qed root at provable.named))
 
     pub not_empty : 1 ≤ length (proof_steps d items)

@@ -1,5 +1,5 @@
 -- The steps of a draft and those of the definitions.
-use Rattle.std.specs.Prelude.{◌≡◌, ◌+◌, ◌<◌, ℕ, zero, suc, List, [], ◌∷◌, length, map, drop, get_or, Contains, None, refl}
+use Rattle.std.specs.Prelude.{◌≡◌, ◌+◌, ◌<◌, ℕ, zero, suc, List, [], ◌∷◌, length, drop, get_or, Contains, None, refl}
 use Rattle.std.proofs.Common.{sym, ap, subst, ◌∙◌, arith, add-one}
 use Rattle.std.proofs.Math.Seq.{drop-cons}
 use Rattle.mm_database.specs.Opened.{Opened}
@@ -9,11 +9,6 @@ use Rattle.written_steps.specs.declared.draft.DraftStep.{DraftStep}
 use Rattle.written_steps.specs.declared.draft.DraftItem.{DraftItem}
 use Rattle.written_steps.specs.declared.draft.DraftItem.TheVariants as draft
 use Rattle.written_steps.specs.Drafts.{step_in, items_in, step_of, drafts_in}
-
-pub steps_are : (d : Opened) (items : List DraftItem) → steps_in (items_in d items) ≡ map (step_in d) (drafts_in items)
-steps_are d [] = refl
-steps_are d (draft.Comment lines ∷ items) = steps_are d items
-steps_are d (draft.Step s ∷ items) = ap (λ es. step_in d s ∷ es) (steps_are d items)
 
 -- a step of a draft is among them
 pub step_there : (d : Opened) (items : List DraftItem) (k : ℕ) (e : DraftItem) (s : DraftStep) → k < length items → get_or items k e ≡ draft.Step s

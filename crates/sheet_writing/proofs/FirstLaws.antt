@@ -17,8 +17,8 @@ use Rattle.again_laws.specs.Second.{NumbersFit, WrittenTreesReadBack}
 use Rattle.written_steps.specs.declared.draft.DraftStep.{DraftStep}
 use Rattle.written_steps.specs.declared.draft.DraftItem.{DraftItem}
 use Rattle.written_steps.specs.Drafts.{book, step_in, items_in, drafts_in}
+use Rattle.written_steps.proofs.DraftLists.{steps_are}
 use Rattle.sheet_writing.specs.Ambiguous.{HasTwo, IsOtherTree, HasTwoReadings, IsNameOfFirst, IsNamedFirst}
-use Rattle.sheet_writing.proofs.DraftSteps.{steps_are}
 
 -- ---- the first, mapped
 

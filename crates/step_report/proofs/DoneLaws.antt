@@ -17,7 +17,7 @@ use Rattle.written_steps.specs.declared.draft.DraftItem.{DraftItem}
 use Rattle.written_steps.specs.declared.draft.DraftStep.{DraftStep}
 use Rattle.written_steps.specs.Drafts.{drafts_in, items_in, refs, step_in}
 use Rattle.step_report.specs.Marks.{is_done, IsDoneAt, AreDone, AreMarked}
-use Rattle.step_report.proofs.ReportLaws.{steps_are}
+use Rattle.written_steps.proofs.DraftLists.{steps_are}
 use Rattle.step_report.proofs.MarkLaws.{count_is, step_there}
 
 -- ---- the steps

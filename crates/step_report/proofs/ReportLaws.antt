@@ -16,21 +16,12 @@ use Rattle.written_model.specs.Report.{step_clash, report_of}
 use Rattle.written_steps.specs.declared.draft.DraftStep.{DraftStep}
 use Rattle.written_steps.specs.declared.draft.DraftItem.{DraftItem}
 use Rattle.written_steps.specs.declared.draft.DraftItem.TheVariants as draft
-use Rattle.written_steps.specs.Drafts.{AreSound, IsSoundStep, drafts_in, items_in, refs, step_in}
+use Rattle.written_steps.specs.Drafts.{drafts_in, items_in, refs, step_in}
+use Rattle.written_steps.proofs.DraftLists.{steps_are}
 use Rattle.step_report.specs.declared.report.Flaw.{Flaw}
 use Rattle.step_report.specs.Flaws.{flaw_in, lack_in, line_in}
 
 -- ---- the steps
-
-pub sound_drafts : (d : Opened) (items : List DraftItem) → AreSound d items → AllByRecursion (IsSoundStep d) (drafts_in items)
-sound_drafts d [] h = tt
-sound_drafts d (draft.Comment lines ∷ items) h = sound_drafts d items h.1
-sound_drafts d (draft.Step s ∷ items) h = (h.0, sound_drafts d items h.1)
-
-pub steps_are : (d : Opened) (items : List DraftItem) → steps_in (items_in d items) ≡ map (step_in d) (drafts_in items)
-steps_are d [] = refl
-steps_are d (draft.Comment lines ∷ items) = steps_are d items
-steps_are d (draft.Step s ∷ items) = ap (λ es. step_in d s ∷ es) (steps_are d items)
 
 -- what holds of each of the steps holds of the one of a number
 pub all_refs : (P : DraftStep → Type 0) (steps : List (Bor DraftStep)) (k : ℕ) (r : Bor DraftStep) → AllByRecursion P (refs steps) → k < length steps → P (get_or steps k r).now

@@ -20,6 +20,7 @@ use Rattle.written_steps.specs.declared.draft.DraftStep.{DraftStep}
 use Rattle.written_steps.specs.declared.draft.DraftItem.{DraftItem}
 use Rattle.written_steps.specs.declared.draft.DraftItem.TheVariants as draft
 use Rattle.written_steps.specs.Drafts.{AreSound, IsSoundUse, drafts_in, items_in, step_in, usable_in, use_in}
+use Rattle.written_steps.proofs.DraftLists.{steps_are}
 use Rattle.ref_search.specs.declared.wanted.Found.{Found}
 use Rattle.ref_search.specs.Completing.{use_of}
 use Rattle.ref_search.specs.Searching.{book, HasFound, IsSoundBelow}
@@ -140,11 +141,6 @@ pub item_found : (kinds : Kinds) (text : List ℕ) (d : Opened) (place : ℕ) (m
 item_found kinds text d place mode allowed es item s o e h = subst (λ i. FindsItem (book kinds text d) place mode allowed d es i o) (sym e) h
 
 -- ---- all items
-
-steps_are : (d : Opened) (items : List DraftItem) → steps_in (items_in d items) ≡ map (step_in d) (drafts_in items)
-steps_are d [] = refl
-steps_are d (draft.Comment lines ∷ items) = steps_are d items
-steps_are d (draft.Step s ∷ items) = ap (λ es. step_in d s ∷ es) (steps_are d items)
 
 -- the lists that the calls give are the items, and what is kept is the database's
 pub record IsPutTo (d : Opened) (items new : List DraftItem) (found : List (Option Found)) : Type 0 where

@@ -33,7 +33,7 @@ use Rattle.writing_laws.proofs.Decide.{first_in, first_holds, none_holds}
 
 -- ---- the places of a worksheet that can be spelled
 
-places_in : (n m : ℕ) (gs : List Given) → n ≤ m → list_all (is_place_below n) gs ≡ true → AllByRecursion (IsPlaceIn m) gs
+pub places_in : (n m : ℕ) (gs : List Given) → n ≤ m → list_all (is_place_below n) gs ≡ true → AllByRecursion (IsPlaceIn m) gs
 places_in n m [] l h = tt
 places_in n m (given.Gap ∷ gs) l h = (tt, places_in n m gs l h)
 places_in n m (given.Step k ∷ gs) l h =

@@ -28,6 +28,7 @@ use Rattle.fault_lines.specs.Refusals.{formula_too_long, told_number}
 use Rattle.written_model.specs.Written.{Writing, Writes, formula_tokens, step_tokens, IsTooLong, IsLate, ItemIsSearched, after_filling, after_naming}
 use Rattle.answer_laws.proofs.Elements.{first, later, nothing, parted}
 use Rattle.answer_laws.proofs.Moved.{new_by}
+use Rattle.answer_laws.proofs.Settled.{steps-made}
 use Rattle.writing_laws.specs.TokenCounts.{formula_count, IsLong}
 use Rattle.writing_laws.specs.HasLong.{AreShort, IsLongStep, filled_front, next_number, next_judgement, next_wanted, front_trees, used_names}
 use Rattle.writing_laws.specs.HasLong.{IsFirstLong, own, wanted, IsFrontOf, FrontStays, FrontIsLate, GrowsShort, ShortIsNotLate}
@@ -35,6 +36,17 @@ use Rattle.writing_laws.proofs.Decide.{less_decided}
 use Rattle.writing_laws.proofs.Counts.{formula_counted}
 use Rattle.writing_laws.proofs.Fronts.{first_in_front, first_behind, first_there}
 use Rattle.writing_laws.proofs.LateFaults.{long_late}
+
+-- ---- what one step adds
+
+-- the steps of what is filled, with the new ones and the last one behind them
+pub steps_are : (is : List WrittenItem) (made : List WrittenStep) (last : WrittenStep) → steps_in (is ++ map step made ++ step last ∷ []) ≡ (steps_in is ++ made) ++ last ∷ []
+steps_are is made last =
+    filter_map-append step_of (is ++ map step made) (step last ∷ []) ∙ ap (λ xs. xs ++ last ∷ []) (filter_map-append step_of is (map step made) ∙ ap (λ xs. steps_in is ++ xs) (steps-made made))
+
+pub tree_is : (numbers more : List ℕ) (s : SheetStep) (t : Tree) (g : Valuation) (o : Judgement) → (filled_step numbers more s t g o).tree ≡ t
+tree_is numbers more s t g (stands v) = refl
+tree_is numbers more s t g (accepted x) = refl
 
 -- ---- what is filled of a front is a front of what is filled
 
@@ -157,18 +169,6 @@ module _ (db : Database) where
   all_short [] ts h = tt
   all_short (n ∷ ns) [] h = tt
   all_short (n ∷ ns) (t ∷ ts) h = (h.0, all_short ns ts h.1)
-
-  steps-made : (es : List WrittenStep) → steps_in (map step es) ≡ es
-  steps-made [] = refl
-  steps-made (e ∷ es) = ap (λ xs. e ∷ xs) (steps-made es)
-
-  steps_are : (is : List WrittenItem) (made : List WrittenStep) (last : WrittenStep) → steps_in (is ++ map step made ++ step last ∷ []) ≡ (steps_in is ++ made) ++ last ∷ []
-  steps_are is made last =
-      filter_map-append step_of (is ++ map step made) (step last ∷ []) ∙ ap (λ xs. xs ++ last ∷ []) (filter_map-append step_of is (map step made) ∙ ap (λ xs. steps_in is ++ xs) (steps-made made))
-
-  tree_is : (numbers more : List ℕ) (s : SheetStep) (t : Tree) (g : Valuation) (o : Judgement) → (filled_step numbers more s t g o).tree ≡ t
-  tree_is numbers more s t g (stands v) = refl
-  tree_is numbers more s t g (accepted x) = refl
 
   name_is : (numbers more : List ℕ) (s : SheetStep) (t : Tree) (g : Valuation) (o : Judgement) → (filled_step numbers more s t g o).name ≡ s.name
   name_is numbers more s t g (stands v) = refl
@@ -313,13 +313,13 @@ module _ (db : Database) (names : List Name) (bound : Bound) (g : Valuation) (ju
       let made = map made_step (zip (derived_names (length new) (used_names db names bound g judgements front)) new) in
       let last = filled_step f.numbers places s (formula bound g i) g o in
       let short_new = short_made (derived_names (length new) (used_names db names bound g judgements front)) new (new_by (λ t. IsLong db t → ⊥) (trees (steps_in f.items)) ts k) in
-      let short_last : AreShort db (trees (last ∷ [])) = ((λ n. l (subst (IsLong db) (tree_is db f.numbers places s (formula bound g i) g o) n)), tt) in
+      let short_last : AreShort db (trees (last ∷ [])) = ((λ n. l (subst (IsLong db) (tree_is f.numbers places s (formula bound g i) g o) n)), tt) in
       let whole : AreShort db (trees ((steps_in f.items ++ made) ++ last ∷ [])) =
       subst (AreShort db) (sym (trees_append (steps_in f.items ++ made) (last ∷ [])))
       (short_append db (trees (steps_in f.items ++ made)) (trees (last ∷ []))
       (subst (AreShort db) (sym (trees_append (steps_in f.items) made)) (short_append db (trees (steps_in f.items)) (trees made) h short_new)) short_last) in
       subst (λ (x : Filling). AreShort db (trees (steps_in x.items))) (sym (one_more front (item.Step s)))
-      (subst (λ es. AreShort db (trees es)) (sym (steps_are db f.items made last)) whole)
+      (subst (λ es. AreShort db (trees es)) (sym (steps_are f.items made last)) whole)
 
   -- the first of some trees that is too long, or none is
   record LongIn (ts : List Tree) : Type 0 where

@@ -1,13 +1,27 @@
--- The steps among the first items.
-use Rattle.std.specs.Prelude.{◌≡◌, ℕ, ◌+◌, ◌<◌, List, [], ◌∷◌, ◌++◌, length, take, get_or, None}
+-- The steps of a draft, and those among its first items.
+use Rattle.std.specs.Prelude.{◌≡◌, ℕ, ◌+◌, ◌<◌, List, [], ◌∷◌, ◌++◌, length, map, take, get_or, None, refl}
+use Rattle.std.specs.List.{AllByRecursion}
 use Rattle.std.specs.Borrow.{Bor}
 use Rattle.std.proofs.Common.{sym, ap, ◌∙◌}
 use Rattle.std.proofs.lemmas.List.{map-append}
+use Rattle.mm_database.specs.Opened.{Opened}
 use Rattle.mm_database.proofs.Lists.{filter_map_found, filter_map_none}
+use Rattle.written_model.specs.WrittenSteps.{steps_in}
 use Rattle.written_steps.specs.declared.draft.DraftStep.{DraftStep}
 use Rattle.written_steps.specs.declared.draft.DraftItem.{DraftItem}
 use Rattle.written_steps.specs.declared.draft.DraftItem.TheVariants as draft
-use Rattle.written_steps.specs.Drafts.{step_of, drafts_in, refs}
+use Rattle.written_steps.specs.Drafts.{AreSound, IsSoundStep, drafts_in, items_in, refs, step_in, step_of}
+
+-- the steps of a draft are those that are written
+pub steps_are : (d : Opened) (items : List DraftItem) → steps_in (items_in d items) ≡ map (step_in d) (drafts_in items)
+steps_are d [] = refl
+steps_are d (draft.Comment lines ∷ items) = steps_are d items
+steps_are d (draft.Step s ∷ items) = ap (λ es. step_in d s ∷ es) (steps_are d items)
+
+pub sound_drafts : (d : Opened) (items : List DraftItem) → AreSound d items → AllByRecursion (IsSoundStep d) (drafts_in items)
+sound_drafts d [] h = tt
+sound_drafts d (draft.Comment lines ∷ items) h = sound_drafts d items h.1
+sound_drafts d (draft.Step s ∷ items) h = (h.0, sound_drafts d items h.1)
 
 pub step_more : (items : List DraftItem) (k : ℕ) (d : DraftItem) (steps more : List (Bor DraftStep)) (r : Bor DraftStep) (s : DraftStep)
     → k < length items → get_or items k d ≡ draft.Step s → r.now ≡ s

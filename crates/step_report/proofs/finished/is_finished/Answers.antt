@@ -1,7 +1,7 @@
 use Rattle.std.specs.List.{AllByRecursion}
 use Rattle.std.proofs.Common.{sym, ap, subst, ◌∙◌}
 use Rattle.written_steps.specs.Drafts.{IsSoundStep, refs}
-use Rattle.step_report.proofs.ReportLaws.{sound_drafts}
+use Rattle.written_steps.proofs.DraftLists.{sound_drafts}
 use Rattle.step_report.proofs.DoneLaws.{finished_is}
 use Rattle.step_report.proofs.finished.is_finished.Goals as goal
 

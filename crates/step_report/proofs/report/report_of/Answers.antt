@@ -2,7 +2,8 @@ use Rattle.std.proofs.Common.{◌∙◌, sym, ap, subst}
 use Rattle.std.specs.List.{AllByRecursion}
 use Rattle.std.proofs.lemmas.Result.{IfOk-weaker}
 use Rattle.written_steps.specs.Drafts.{IsSoundStep, refs}
-use Rattle.step_report.proofs.ReportLaws.{sound_drafts, report_is}
+use Rattle.written_steps.proofs.DraftLists.{sound_drafts}
+use Rattle.step_report.proofs.ReportLaws.{report_is}
 use Rattle.step_report.proofs.report.report_of.Goals as goal
 
 pub lines_of-requires : goal.lines_of-requires
