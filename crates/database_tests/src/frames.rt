@@ -258,3 +258,63 @@ fn symbols_places_and_frames_are_read(rt: HostRuntime) {
     assert!(rt; show(rt.alloc(), text, true));
     assert!(rt; show(rt.alloc(), LOGIC, false));
 }
+
+const MANY: u32 = 100;
+
+fn add_many(text: &mut Vec<u8>, statement: &[u8]) -> Result<(), AllocError> {
+    for _ in 0..MANY {
+        text.extend_from_slice(statement)?;
+    }
+    Ok(())
+}
+
+// Many `$d` of one pair before an assertion, and many of another pair in a block.
+fn crowded(alloc: Global) -> Result<Vec<u8>, AllocError> {
+    let mut text = Vec::new(alloc);
+    text.extend_from_slice(
+        b"$c |- wff $. $v x y z $. fx $f wff x $. fy $f wff y $. fz $f wff z $. ",
+    )?;
+    add_many(&mut text, b"$d y x $. ")?;
+    text.extend_from_slice(b"outside $a |- x y z $. ${ ")?;
+    add_many(&mut text, b"$d z x $. ")?;
+    text.extend_from_slice(b"inside $a |- x y z $. $} behind $a |- x y z $. ")?;
+    Ok(text)
+}
+
+fn has_pairs(frames: &Frames, name: &[u8], pairs: &[Pair]) -> bool {
+    match frames.label(name) {
+        None => false,
+        Some(label) => match frames.frame(label) {
+            None => false,
+            Some(frame) => frame.pairs.as_slice() == pairs,
+        },
+    }
+}
+
+fn are_crowded(alloc: Global, text: &[u8]) -> bool {
+    let (first, second) = (
+        Pair {
+            a: Sym(2),
+            b: Sym(3),
+        },
+        Pair {
+            a: Sym(2),
+            b: Sym(4),
+        },
+    );
+    match read_text(alloc, text) {
+        Err(_) => false,
+        Ok(frames) => {
+            has_pairs(&frames, b"outside", &[first])
+                && has_pairs(&frames, b"inside", &[first, second])
+                && has_pairs(&frames, b"behind", &[first])
+        }
+    }
+}
+
+#[test]
+fn many_distinct_variable_statements(rt: HostRuntime) -> Result<(), Fail> {
+    let text = crowded(rt.alloc())?;
+    assert!(rt; are_crowded(rt.alloc(), text.as_slice()));
+    Ok(())
+}

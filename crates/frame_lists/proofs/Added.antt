@@ -27,7 +27,7 @@ float-hyps s n [] = refl
 float-hyps s n (a ∷ []) = refl
 float-hyps s n (a ∷ v ∷ ss) = elim (cases_Bool (has s.typed v.0)) [ inl h ↦ rw h refl | inr h ↦ rw h refl ]
 
-float-distinct : (s : Scope) (n : ℕ) (ss : List Sym) → (with_float s n ss).distinct ≡ s.distinct
+pub float-distinct : (s : Scope) (n : ℕ) (ss : List Sym) → (with_float s n ss).distinct ≡ s.distinct
 float-distinct s n [] = refl
 float-distinct s n (a ∷ []) = refl
 float-distinct s n (a ∷ v ∷ ss) = elim (cases_Bool (has s.typed v.0)) [ inl h ↦ rw h refl | inr h ↦ rw h refl ]

@@ -10,6 +10,7 @@ pub mod Passing
 pub mod Placed
 pub mod StateLaws
 pub mod PairLaws
+pub mod TogetherLaws
 pub mod Upto
 pub mod UptoLaws
 pub mod FrameLaws

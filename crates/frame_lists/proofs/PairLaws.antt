@@ -105,16 +105,16 @@ with_in one base (o ∷ others) b i h = elim i [
   | inr k ↦ elim (cases_Bool (nat_lt one o)) [ inl g ↦ rw g (with_in one (base ++ joined one o ∷ []) others b k h) | inr g ↦ rw g (with_in one base others b k h) ]
 ]
 
-record Both (ones others : List ℕ) (p : ℕ × ℕ) : Type 0 where
+pub record Both (ones others : List ℕ) (p : ℕ × ℕ) : Type 0 where
   pub one : In p.0 ones
   pub other : In p.1 others
   pub less : nat_lt p.0 p.1 ≡ true
 
 module _ (others : List ℕ) where
-  abbrev all_from : List (ℕ × ℕ) → List ℕ → List (ℕ × ℕ)
+  abbrev pub all_from : List (ℕ × ℕ) → List ℕ → List (ℕ × ℕ)
   all_from base ones = fold (λ qs n. pairs_with qs n others) base ones
 
-  in_all_pairs : (base : List (ℕ × ℕ)) (ones : List ℕ) (p : ℕ × ℕ) → In p (all_from base ones) → In p base ⊎ Both ones others p
+  pub in_all_pairs : (base : List (ℕ × ℕ)) (ones : List ℕ) (p : ℕ × ℕ) → In p (all_from base ones) → In p base ⊎ Both ones others p
   in_all_pairs base [] p i = inl i
   in_all_pairs base (n ∷ ones) p i = elim (in_all_pairs (pairs_with base n others) ones p i) [
     | inl k ↦ elim (in_with n base others p k) [ inl j ↦ inl j | inr w ↦ inr (record { one = inl w.first; other = w.other; less = w.less }) ]
@@ -125,7 +125,7 @@ module _ (others : List ℕ) where
   all_base base [] p i = i
   all_base base (n ∷ ones) p i = all_base (pairs_with base n others) ones p (with_base n base others p i)
 
-  all_in : (base : List (ℕ × ℕ)) (ones : List ℕ) (a b : ℕ) → In a ones → In b others → nat_lt a b ≡ true → In (joined a b) (all_from base ones)
+  pub all_in : (base : List (ℕ × ℕ)) (ones : List ℕ) (a b : ℕ) → In a ones → In b others → nat_lt a b ≡ true → In (joined a b) (all_from base ones)
   all_in base [] a b i j h = absurd i
   all_in base (n ∷ ones) a b i j h = elim i [
     | inl e ↦ all_base (pairs_with base n others) ones (joined a b) (subst (λ (m : ℕ). In (joined a b) (pairs_with base m others)) e (with_in a base others b j h))
@@ -143,10 +143,10 @@ module _ (l : Listed) (set : List ℕ) where
     pub less : nat_lt p.0 p.1 ≡ true
     pub stand : list_any (together p.0 p.1) distinct ≡ true
 
-  abbrev found_from : List (ℕ × ℕ) → List ℕ → List (ℕ × ℕ)
+  abbrev pub found_from : List (ℕ × ℕ) → List ℕ → List (ℕ × ℕ)
   found_from base distinct = fold (λ ps at. pairs_all ps (chosen set (symbols_at l at))) base distinct
 
-  in_found : (base : List (ℕ × ℕ)) (distinct : List ℕ) (p : ℕ × ℕ) → In p (found_from base distinct) → In p base ⊎ IsFound distinct p
+  pub in_found : (base : List (ℕ × ℕ)) (distinct : List ℕ) (p : ℕ × ℕ) → In p (found_from base distinct) → In p base ⊎ IsFound distinct p
   in_found base [] p i = inl i
   in_found base (d ∷ distinct) p i = elim (in_found (pairs_all base (chosen set (symbols_at l d))) distinct p i) [
     | inl k ↦ elim (in_all_pairs (chosen set (symbols_at l d)) base (chosen set (symbols_at l d)) p k) [
@@ -170,11 +170,11 @@ module _ (l : Listed) (set : List ℕ) where
     | inr f ↦ inr (record { one = f.one; other = f.other; less = f.less; stand = or_right (together p.0 p.1 d) (list_any (together p.0 p.1) distinct) f.stand })
   ]
 
-  found_base : (base : List (ℕ × ℕ)) (distinct : List ℕ) (p : ℕ × ℕ) → In p base → In p (found_from base distinct)
+  pub found_base : (base : List (ℕ × ℕ)) (distinct : List ℕ) (p : ℕ × ℕ) → In p base → In p (found_from base distinct)
   found_base base [] p i = i
   found_base base (d ∷ distinct) p i = found_base (pairs_all base (chosen set (symbols_at l d))) distinct p (all_base (chosen set (symbols_at l d)) base (chosen set (symbols_at l d)) p i)
 
-  found_in : (base : List (ℕ × ℕ)) (distinct : List ℕ) (a b : ℕ) → has set a ≡ true → has set b ≡ true → nat_lt a b ≡ true
+  pub found_in : (base : List (ℕ × ℕ)) (distinct : List ℕ) (a b : ℕ) → has set a ≡ true → has set b ≡ true → nat_lt a b ≡ true
       → list_any (together a b) distinct ≡ true → In (joined a b) (found_from base distinct)
   found_in base [] a b ha hb less h = absurd cc
   found_in base (d ∷ distinct) a b ha hb less h = elim (or_cases (together a b d) (list_any (together a b) distinct) h) [

@@ -3,4 +3,5 @@ pub mod Listings
 pub mod Lists
 pub mod Orders
 pub mod Steps
+pub mod Together
 pub mod Places

@@ -171,8 +171,11 @@ pairs_with ps one others = fold (pair_more one) ps others
 abbrev pub pairs_all : List (ℕ × ℕ) → List ℕ → List (ℕ × ℕ)
 pairs_all ps ns = fold (λ qs n. pairs_with qs n ns) ps ns
 
+abbrev pub found_more : Listed → List ℕ → List (ℕ × ℕ) → List ℕ → List (ℕ × ℕ)
+found_more l set ps distinct = fold (λ qs at. pairs_all qs (chosen set (symbols_at l at))) ps distinct
+
 abbrev pub found_pairs : Listed → List ℕ → List ℕ → List (ℕ × ℕ)
-found_pairs l distinct set = fold (λ ps at. pairs_all ps (chosen set (symbols_at l at))) [] distinct
+found_pairs l distinct set = found_more l set [] distinct
 
 abbrev pub pair_of : ℕ × ℕ → Pair
 pair_of p = record { a = sym p.0; b = sym p.1 }

@@ -14,6 +14,7 @@ mod pairs;
 mod scope;
 mod sorted;
 mod stack;
+mod together;
 
 pub use active::active_at;
 pub use blocks::place_after;
