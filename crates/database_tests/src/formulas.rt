@@ -4,18 +4,18 @@ use std::alloc::Global;
 use std::test::Fail;
 use syntax_grammar::{Grammar, Item, Production, are_rows, keep_rows};
 
-const WFF: Typecode = Typecode(Sym(0));
+pub(crate) const WFF: Typecode = Typecode(Sym(0));
 
 const CLASS: Typecode = Typecode(Sym(1));
 
 const SETVAR: Typecode = Typecode(Sym(2));
 
 // A production, whose label is its number.
-struct Row {
-    number: u32,
-    gives: Typecode,
-    items: &'static [Item],
-    slots: &'static [Typecode],
+pub(crate) struct Row {
+    pub(crate) number: u32,
+    pub(crate) gives: Typecode,
+    pub(crate) items: &'static [Item],
+    pub(crate) slots: &'static [Typecode],
 }
 
 // Classes and formulas: sets are classes, there are two equations, and a set and a class are written behind one another,
@@ -93,7 +93,7 @@ fn productions(alloc: Global, rows: &[Row]) -> Result<List<Production>, Memory> 
     Ok(List::from_vec(made))
 }
 
-fn grammar(alloc: Global, rows: &[Row]) -> Option<Grammar> {
+pub(crate) fn grammar(alloc: Global, rows: &[Row]) -> Option<Grammar> {
     let rows = productions(alloc, rows).ok()?;
     if are_rows(&rows) {
         keep_rows(rows).ok()
@@ -134,7 +134,7 @@ pub(crate) fn parsed(
 }
 
 // The labels and the variables of a tree, from the front.
-fn spell(tree: &Tree, out: &mut Vec<u32>) -> Result<(), Memory> {
+pub(crate) fn spell(tree: &Tree, out: &mut Vec<u32>) -> Result<(), Memory> {
     match tree {
         Tree::Var(sym, _) => out.push(sym.0)?,
         Tree::Work(_, number) => out.push(*number)?,

@@ -3,6 +3,8 @@
 #![tactic(auto)]
 
 #[cfg(test)]
+mod ambiguous_texts;
+#[cfg(test)]
 mod base;
 #[cfg(test)]
 mod database;

@@ -10,6 +10,7 @@ mod Lengths
 mod Lists
 mod Moves
 mod NodeFits
+mod Noting
 mod Parts
 mod Places
 mod Reaching

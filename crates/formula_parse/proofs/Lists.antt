@@ -1,6 +1,6 @@
 -- Lists that grow, element by element.
-use Rattle.std.specs.Prelude.{◌≡◌, ◌<◌, ◌≤◌, ◌+◌, ℕ, List, [], ◌∷◌, length, Some, slice_get}
-use Rattle.std.proofs.Common.{arith, ap, ◌∙◌, subst, ⊎_elim}
+use Rattle.std.specs.Prelude.{◌≡◌, ◌<◌, ◌≤◌, ◌+◌, ◌++◌, ◌⊎◌, ℕ, zero, suc, List, [], ◌∷◌, length, Some, slice_get, refl}
+use Rattle.std.proofs.Common.{arith, ap, ◌∙◌, subst, ⊎_elim, inl, inr}
 use Rattle.std.proofs.lemmas.Bool.{cases_lt}
 use Rattle.mm_base.specs.declared.symbols.Typecode.{Typecode}
 use Rattle.mm_model.specs.declared.rows.Item.{Item}
@@ -26,6 +26,23 @@ stays_back xs ys h j l x e =
     let there = h j at.0 at.1 in
     let same : at.0 ≡ x = cc in
     at.1 ∙ ap (λ y. Some y) same
+
+-- one more at the end
+pub stays_pushed : {X : Type 0} (xs : List X) (y : X) → Stays xs (xs ++ y ∷ [])
+stays_pushed [] y j x e = absurd cc
+stays_pushed (z ∷ xs) y zero x e = e
+stays_pushed (z ∷ xs) y (suc j) x e = stays_pushed xs y j x e
+
+pub last_pushed : {X : Type 0} (xs : List X) (y : X) → slice_get (xs ++ y ∷ []) (length xs) ≡ Some y
+last_pushed [] y = refl
+last_pushed (z ∷ xs) y = last_pushed xs y
+
+-- an item of a longer list is one of the list or the new one
+pub last_or : {X : Type 0} (xs : List X) (y : X) (i : ℕ) (x : X) → slice_get (xs ++ y ∷ []) i ≡ Some x → (slice_get xs i ≡ Some x) ⊎ ((i ≡ length xs) × (x ≡ y))
+last_or [] y zero x e = let same : x ≡ y = cc in inr (refl, same)
+last_or [] y (suc i) x e = absurd cc
+last_or (z ∷ xs) y zero x e = inl e
+last_or (z ∷ xs) y (suc i) x e = elim (last_or xs y i x e) [ inl h ↦ inl h | inr h ↦ inr (ap (λ (m : ℕ). suc m) h.0, h.1) ]
 
 -- at a place below the next: before it, or at it
 pub at_turn : {X : Type 0} (P : X → Type 0) (xs : List X) (n : ℕ) (x : X) → slice_get xs n ≡ Some x → ((j : ℕ) (y : X) → j < n → slice_get xs j ≡ Some y → P y) → P x

@@ -4,3 +4,4 @@ pub mod Ends
 pub mod Finds
 pub mod Fits
 pub mod Made
+pub mod Noted

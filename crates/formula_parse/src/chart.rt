@@ -19,71 +19,54 @@ ghost use Rattle.formula_parse.specs.Charts.{
   IsChart,
 };
 
+use crate::entries::Entries;
 use crate::reach::{Entry, Reached, can_lead, reach_from};
 use mm_base::{List, Memory, Sym, Typecode};
 use mm_model::{Leaf, Production};
 use std::alloc::Global;
 use syntax_grammar::{Grammar, first_sym};
 
-/// Adds an entry that does not stand there.
-fn add_entry(entries: &mut Vec<Entry>, entry: Entry) -> Result<(), Memory>
-    ensures stays { OnOk result (Stays entries.old.items entries.new.items) }
-    ensures stands { OnOk result (IsIn entries.new.items entry) }
-    ensures once { OnOk result (IsOnce entries.old.items → IsOnce entries.new.items) }
-{
-    if !entries.contains(&entry) {
-        entries.push(entry)?;
-    }
-    Ok(())
-}
-
 /// Adds the entries of a row with these ends.
 fn add_ends(
-    entries: &mut Vec<Entry>,
+    entries: &mut Entries,
     ends: &[usize],
     production: &Production,
     row: usize,
 ) -> Result<(), Memory>
-    ensures stays { OnOk result (Stays entries.old.items entries.new.items) }
-    ensures once { OnOk result (IsOnce entries.old.items → IsOnce entries.new.items) }
+    ensures stays { OnOk result (Stays entries.old entries.new) }
+    ensures once { OnOk result (IsOnce entries.old → IsOnce entries.new) }
     ensures stand { OnOk result ((e : ℕ) → IsIn ends.now e
-        → IsIn entries.new.items (record { end = e; code = production.now.gives; row = row })) }
+        → IsIn entries.new (record { end = e; code = production.now.gives; row = row })) }
 {
     for end in ends {
-        add_entry(
-            entries,
-            Entry {
-                end: *end,
-                code: production.gives,
-                row,
-            },
-        )?;
+        entries.add(Entry {
+            end: *end,
+            code: production.gives,
+            row,
+        })?;
     }
     Ok(())
 }
 
 /// Adds the entries of a row that was found to end somewhere.
 fn add_reached(
-    entries: &mut Vec<Entry>,
+    entries: &mut Entries,
     reached: &Reached,
     production: &Production,
     row: usize,
 ) -> Result<(), Memory>
-    ensures stays { OnOk result (Stays entries.old.items entries.new.items) }
-    ensures once { OnOk result (IsOnce entries.old.items → IsOnce entries.new.items) }
+    ensures stays { OnOk result (Stays entries.old entries.new) }
+    ensures once { OnOk result (IsOnce entries.old → IsOnce entries.new) }
     ensures stand { OnOk result ((e : ℕ) → IsReached reached.now e
-        → IsIn entries.new.items (record { end = e; code = production.now.gives; row = row })) }
+        → IsIn entries.new (record { end = e; code = production.now.gives; row = row })) }
 {
     match reached {
         Reached::Nowhere => Ok(()),
-        Reached::Only(end) => add_entry(
-            entries,
-            Entry {
-                end: *end,
-                code: production.gives,
-                row,
-            },
-        ),
+        Reached::Only(end) => entries.add(Entry {
+            end: *end,
+            code: production.gives,
+            row,
+        }),
         Reached::Several(ends) => add_ends(entries, ends.as_slice(), production, row),
     }
 }
@@ -96,11 +79,11 @@ fn enter(
     chart: &[List<Entry>],
     row: usize,
     place: usize,
-    entries: &mut Vec<Entry>,
+    entries: &mut Entries,
 ) -> Result<(), Memory>
-    ensures stays { OnOk result (Stays entries.old.items entries.new.items) }
-    ensures once { OnOk result (IsOnce entries.old.items → IsOnce entries.new.items) }
-    ensures entered { OnOk result (Enters leaves.now chart.now g.now row place entries.new.items) }
+    ensures stays { OnOk result (Stays entries.old entries.new) }
+    ensures once { OnOk result (IsOnce entries.old → IsOnce entries.new) }
+    ensures entered { OnOk result (Enters leaves.now chart.now g.now row place entries.new) }
 {
     if let Some(production) = g.row(row) {
         if let [_, rest @ ..] = production.items.as_slice() {
@@ -142,12 +125,12 @@ fn enter_all(
     leaves: &[Leaf],
     chart: &[List<Entry>],
     place: usize,
-    entries: &mut Vec<Entry>,
+    entries: &mut Entries,
 ) -> Result<(), Memory>
-    ensures stays { OnOk result (Stays entries.old.items entries.new.items) }
-    ensures once { OnOk result (IsOnce entries.old.items → IsOnce entries.new.items) }
+    ensures stays { OnOk result (Stays entries.old entries.new) }
+    ensures once { OnOk result (IsOnce entries.old → IsOnce entries.new) }
     ensures entered { OnOk result ((j i : ℕ) → slice_get numbers.now j ≡ Some i → IsStart g.now before first i
-        → Enters leaves.now chart.now g.now i place entries.new.items) }
+        → Enters leaves.now chart.now g.now i place entries.new) }
 {
     for number in numbers {
         if is_start(g, *number, before, first) {
@@ -177,11 +160,11 @@ fn enter_next(
     chart: &[List<Entry>],
     place: usize,
     at: usize,
-    entries: &mut Vec<Entry>,
+    entries: &mut Entries,
 ) -> Result<(), Memory>
-    ensures stays { OnOk result (Stays entries.old.items entries.new.items) }
-    ensures once { OnOk result (IsOnce entries.old.items → IsOnce entries.new.items) }
-    ensures entered { OnOk result (EntersNext leaves.now chart.now g.now before first place at entries.new.items) }
+    ensures stays { OnOk result (Stays entries.old entries.new) }
+    ensures once { OnOk result (IsOnce entries.old → IsOnce entries.new) }
+    ensures entered { OnOk result (EntersNext leaves.now chart.now g.now before first place at entries.new) }
 {
     match const_at(leaves, at) {
         None => Ok(()),
@@ -209,12 +192,12 @@ fn enter_behind(
     chart: &[List<Entry>],
     place: usize,
     starts: &[Entry],
-    entries: &mut Vec<Entry>,
+    entries: &mut Entries,
 ) -> Result<(), Memory>
-    ensures stays { OnOk result (Stays entries.old.items entries.new.items) }
-    ensures once { OnOk result (IsOnce entries.old.items → IsOnce entries.new.items) }
+    ensures stays { OnOk result (Stays entries.old entries.new) }
+    ensures once { OnOk result (IsOnce entries.old → IsOnce entries.new) }
     ensures entered { OnOk result ((j : ℕ) (x : Entry) → slice_get starts.now j ≡ Some x
-        → EntersNext leaves.now chart.now g.now before first place x.end entries.new.items) }
+        → EntersNext leaves.now chart.now g.now before first place x.end entries.new) }
 {
     for start in starts {
         enter_next(
@@ -244,11 +227,11 @@ fn enter_first(
     leaves: &[Leaf],
     chart: &[List<Entry>],
     place: usize,
-    entries: &mut Vec<Entry>,
+    entries: &mut Entries,
 ) -> Result<(), Memory>
-    ensures stays { OnOk result (Stays entries.old.items entries.new.items) }
-    ensures once { OnOk result (IsOnce entries.old.items → IsOnce entries.new.items) }
-    ensures entered { OnOk result (EntersFirst leaves.now chart.now g.now before first place entries.new.items) }
+    ensures stays { OnOk result (Stays entries.old entries.new) }
+    ensures once { OnOk result (IsOnce entries.old → IsOnce entries.new) }
+    ensures entered { OnOk result (EntersFirst leaves.now chart.now g.now before first place entries.new) }
 {
     enter_all(
         alloc,
@@ -284,17 +267,18 @@ fn variable_entry(
     begin: usize,
     code: Typecode,
     row: usize,
-) -> Result<Vec<Entry>, Memory>
+) -> Result<Entries, Memory>
     requires { begin < 2 ^ 63 }
-    ensures { IfOk result (λ entries. entries.items ≡ entry_of (begin + 1) code row ∷ []) }
+    ensures { IfOk result (λ entries. entries ≡ entry_of (begin + 1) code row ∷ []) }
 {
-    let mut entries = Vec::new(alloc);
-    entries.push(Entry {
-        end: begin + 1,
-        code,
-        row,
-    })?;
-    Ok(entries)
+    Entries::of(
+        alloc,
+        Entry {
+            end: begin + 1,
+            code,
+            row,
+        },
+    )
 }
 
 /// What the leaf at a place begins.
@@ -305,15 +289,15 @@ fn begin_entries(
     leaves: &[Leaf],
     chart: &[List<Entry>],
     begin: usize,
-) -> Result<Vec<Entry>, Memory>
+) -> Result<Entries, Memory>
     requires { begin < length leaves.now }
-    ensures { IfOk result (λ entries. IsBegun leaves.now chart.now g.now before begin entries.items) }
+    ensures { IfOk result (IsBegun leaves.now chart.now g.now before begin) }
 {
     match leaf_at(leaves, begin) {
         Leaf::Var(_, code) => variable_entry(alloc, begin, code, g.kept().as_slice().len()),
         Leaf::Work(code, _) => variable_entry(alloc, begin, code, g.kept().as_slice().len()),
         Leaf::Const(sym) => {
-            let mut entries = Vec::new(alloc);
+            let mut entries = Entries::new(alloc);
             enter_first(
                 alloc,
                 g,
@@ -337,11 +321,11 @@ fn follow(
     leaves: &[Leaf],
     chart: &[List<Entry>],
     entry: Entry,
-    entries: &mut Vec<Entry>,
+    entries: &mut Entries,
 ) -> Result<(), Memory>
-    ensures stays { OnOk result (Stays entries.old.items entries.new.items) }
-    ensures once { OnOk result (IsOnce entries.old.items → IsOnce entries.new.items) }
-    ensures followed { OnOk result (Follows leaves.now chart.now g.now before entry entries.new.items) }
+    ensures stays { OnOk result (Stays entries.old entries.new) }
+    ensures once { OnOk result (IsOnce entries.old → IsOnce entries.new) }
+    ensures followed { OnOk result (Follows leaves.now chart.now g.now before entry entries.new) }
 {
     if g.rows_by_slot(entry.code).is_empty() {
         return Ok(());
@@ -382,10 +366,10 @@ fn entries_at(
         if k >= entries.len() {
             break;
         }
-        let entry = entry_at(&entries, k);
+        let entry = entry_at(entries.as_slice(), k);
         follow(alloc, g, before, leaves, chart, entry, &mut entries)?;
     }
-    Ok(List::from_vec(entries))
+    Ok(entries.into_list())
 }
 
 /// A chart with no entries.

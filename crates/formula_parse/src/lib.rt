@@ -2,9 +2,11 @@
 #![tactic(auto)]
 
 mod chart;
+mod entries;
 mod found;
 mod making;
 mod parsing;
+mod place_set;
 mod reach;
 mod search;
 mod sizes;

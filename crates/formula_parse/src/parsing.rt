@@ -57,8 +57,9 @@ fn search(
 /// have numbers below `before`. There are at most 4,095 leaves: a formula has at most 4,096 tokens, and the first is its
 /// typecode.
 ///
-/// Fails where there is no tree, where there are two or more, and where memory runs out. For the
-/// usual formulas the time grows with their length; at worst with a power of it.
+/// Fails where there is no tree, where there are two or more, and where memory runs out. For the usual formulas the time
+/// grows with their length. Where many parts of a text are formulas in many ways, it grows with the cube of the length,
+/// or with its fourth power where a production has more than two slots.
 pub fn parse(
     alloc: Global,
     g: &Grammar,

@@ -4,6 +4,7 @@ ghost use Rattle.mm_model.specs.declared.rows.Leaf.TheVariants.{Const};
 ghost use Rattle.formula_parse.specs.Charts.{IsIn, Stays, IsEntry, CanLead, Reaches};
 ghost use Rattle.formula_parse.specs.Ends.{IsAmong, IsReached};
 
+use crate::place_set::PlaceSet;
 use mm_base::{List, Memory, Sym, Typecode};
 use mm_model::{Item, Leaf};
 use std::alloc::Global;
@@ -15,17 +16,6 @@ pub struct Entry {
     pub code: Typecode,
     /// The row, or the number of all rows for a variable.
     pub row: usize,
-}
-
-/// Adds a place that does not stand there.
-fn add(places: &mut Vec<usize>, place: usize) -> Result<(), Memory>
-    ensures stays { OnOk result (Stays places.old.items places.new.items) }
-    ensures stands { OnOk result (IsIn places.new.items place) }
-{
-    if !places.contains(&place) {
-        places.push(place)?;
-    }
-    Ok(())
 }
 
 /// Adds the place behind a constant, if it stands at this place.
@@ -77,32 +67,32 @@ pub fn can_lead(leaves: &[Leaf], items: &[Item], place: usize) -> bool
 
 /// Adds the end of an entry, if it has the typecode and the items behind can begin there.
 fn add_end(
-    next: &mut Vec<usize>,
+    next: &mut PlaceSet,
     entry: &Entry,
     code: Typecode,
     leaves: &[Leaf],
     behind: &[Item],
 ) -> Result<(), Memory>
-    ensures stays { OnOk result (Stays next.old.items next.new.items) }
-    ensures stands { OnOk result (entry.now.code ≡ code → CanLead leaves.now behind.now entry.now.end → IsIn next.new.items entry.now.end) }
+    ensures stays { OnOk result (Stays next.old next.new) }
+    ensures stands { OnOk result (entry.now.code ≡ code → CanLead leaves.now behind.now entry.now.end → IsIn next.new entry.now.end) }
 {
     if entry.code == code && can_lead(leaves, behind, entry.end) {
-        add(next, entry.end)?;
+        next.add(entry.end)?;
     }
     Ok(())
 }
 
 /// Adds the ends of the entries of a typecode at which the items behind can begin.
 fn add_ends(
-    next: &mut Vec<usize>,
+    next: &mut PlaceSet,
     entries: &[Entry],
     code: Typecode,
     leaves: &[Leaf],
     behind: &[Item],
 ) -> Result<(), Memory>
-    ensures stays { OnOk result (Stays next.old.items next.new.items) }
+    ensures stays { OnOk result (Stays next.old next.new) }
     ensures ends { OnOk result ((x : Entry) → IsIn entries.now x → x.code ≡ code → CanLead leaves.now behind.now x.end
-        → IsIn next.new.items x.end) }
+        → IsIn next.new x.end) }
 {
     for entry in entries {
         add_end(next, entry, code, leaves, behind)?;
@@ -122,13 +112,13 @@ fn after_slot(
     ensures { IfOk result (λ next. (q m : ℕ) → IsIn places.now q → IsEntry chart.now q m code → CanLead leaves.now behind.now m
         → IsIn next.items m) }
 {
-    let mut next = Vec::new(alloc);
+    let mut next = PlaceSet::new(alloc);
     for place in places {
         if let Some(entries) = chart.get(*place) {
             add_ends(&mut next, entries.as_slice(), code, leaves, behind)?;
         }
     }
-    Ok(next)
+    Ok(next.into_vec())
 }
 
 /// Where the items may end, from some places on.

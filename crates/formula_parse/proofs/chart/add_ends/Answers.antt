@@ -6,10 +6,10 @@ use Rattle.formula_parse.proofs.chart.add_ends.Goals as goal
 
 pub loop-end-preserved : goal.loop-end-preserved
 loop-end-preserved c =
-    let xs = c.loop-end.entries.items in
-    let ys = c.add_entry.new.entries.items in
-    let s = c.in_ok-add_entry.ensures in (
-      stays_then c.args.entries.now.items xs ys c.loop-end.invariant.0 s.stays,
+    let xs = c.loop-end.entries in
+    let ys = c.add.new.self in
+    let s = c.in_ok-add.ensures in (
+      stays_then c.args.entries.now xs ys c.loop-end.invariant.0 s.stays,
       (λ once. s.once (c.loop-end.invariant.1 once)),
       at_turn (λ e. IsIn ys (entry_of e c.args.production.now.gives c.args.row)) c.args.ends.now c.loop-end.end-index
           (get_or c.args.ends.now c.loop-end.end-index 0)

@@ -18,12 +18,12 @@ loop-number-preserved c =
     let Q = IsStart rows c.args.before c.args.first in
     let E = λ (i : ℕ) (ys : List Entry). Enters c.args.leaves.now c.args.chart.now rows i c.args.place ys in
     let mono = λ (i : ℕ) (xs ys : List Entry). enters_grow c.args.leaves.now c.args.chart.now rows i c.args.place xs ys in
-    let turn = grown_turn numbers Q E mono c.args.entries.now.items c.loop-number.entries.items in
+    let turn = grown_turn numbers Q E mono c.args.entries.now c.loop-number.entries in
     elim c.if-is_start.branch [
-      | then-is_start+in_ok-enter w ↦ subst (λ v. Grown numbers Q E c.args.entries.now.items (n + 1) v.items) (sym w.entries-is)
-          (turn w.enter.new.entries.items n i at w.in_ok-enter.ensures.stays w.in_ok-enter.ensures.once (λ q. w.in_ok-enter.ensures.entered) c.loop-number.invariant)
-      | else-is_start w ↦ subst (λ v. Grown numbers Q E c.args.entries.now.items (n + 1) v.items) (sym w.entries-is)
-          (turn c.loop-number.entries.items n i at (stays_refl c.loop-number.entries.items) (λ o. o)
+      | then-is_start+in_ok-enter w ↦ subst (λ v. Grown numbers Q E c.args.entries.now (n + 1) v) (sym w.entries-is)
+          (turn w.enter.new.entries n i at w.in_ok-enter.ensures.stays w.in_ok-enter.ensures.once (λ q. w.in_ok-enter.ensures.entered) c.loop-number.invariant)
+      | else-is_start w ↦ subst (λ v. Grown numbers Q E c.args.entries.now (n + 1) v) (sym w.entries-is)
+          (turn c.loop-number.entries n i at (stays_refl c.loop-number.entries) (λ o. o)
           (λ q. absurd (off c.is_start.result (c.is_start.ensures q) w.if-is_start.false)) c.loop-number.invariant)
     ]
 

@@ -17,7 +17,7 @@ loop-start-preserved c =
     let s = c.in_ok-enter_next.ensures in
     grown_turn starts (λ x. Unit {0}) (λ (x : Entry) (ys : List Entry). EntersNext c.args.leaves.now c.args.chart.now rows c.args.before c.args.first c.args.place x.end ys)
     (λ x xs ys. next_grow c.args.leaves.now c.args.chart.now rows c.args.before c.args.first c.args.place x.end xs ys)
-    c.args.entries.now.items c.loop-start.entries.items c.enter_next.new.entries.items n x at s.stays s.once (λ q. s.entered) c.loop-start.invariant
+    c.args.entries.now c.loop-start.entries c.enter_next.new.entries n x at s.stays s.once (λ q. s.entered) c.loop-start.invariant
 
 pub returns-clause-entered : goal.returns-clause-entered
 returns-clause-entered c = λ j x at. c.loop-start.invariant.2 j x (omega (arith, slice_get_within c.args.starts.now j x at, c.loop-start-test.false)) at tt

@@ -14,7 +14,7 @@ returns-in-Some-clause-entered c =
     let leaves = c.args.leaves.now in
     let chart = c.args.chart.now in
     let rows = c.args.g.now in
-    let ys = c.enter_all.new.entries.items in
+    let ys = c.enter_all.new.entries in
     on_ok_weaker c.enter_all.result
     (λ (h : (j i : ℕ) → slice_get c.rows_by_next.result.now j ≡ Some i → IsStart rows c.args.before c.args.first i → Enters leaves chart rows i c.args.place ys).
     λ s lead i r stands below is next.

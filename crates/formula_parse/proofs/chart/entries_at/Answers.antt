@@ -7,8 +7,8 @@ use Rattle.formula_parse.proofs.chart.entries_at.Goals.{else-loop-k-test, then-l
 
 pub loop-k-preserved : goal.loop-k-preserved
 loop-k-preserved c =
-    let xs = c.loop-k.entries.items in
-    let ys = c.follow.new.entries.items in
+    let xs = c.loop-k.entries in
+    let ys = c.follow.new.entries in
     let n = c.loop-k.k in
     let s = c.in_ok-follow.ensures in
     let l : n < length xs = omega arith in
@@ -22,8 +22,8 @@ loop-k-preserved c =
 pub returns : goal.returns
 returns c =
     let i = c.loop-k.invariant in
-    let xs = c.loop-k.entries.items in
-    subst (IsFilled c.args.leaves.now c.args.chart.now c.args.g.now c.args.before c.args.begin) (sym c.from_vec.ensures)
+    let xs = c.loop-k.entries in
+    subst (IsFilled c.args.leaves.now c.args.chart.now c.args.g.now c.args.before c.args.begin) (sym c.into_list.ensures.same)
     (record {
       begun = i.0;
       by_slot =
@@ -31,7 +31,7 @@ returns c =
           (let l = slice_get_within xs j x at in
           elim c.loop-k-test.branch [
             | else-loop-k-test w ↦ omega
-                (arith, l, w.loop-k-test.false, c.loop-k.entries.small)
+                (arith, l, w.loop-k-test.false, c.into_list.ensures.small)
             | then-loop-k-test+then-k-len w ↦ omega
                 (arith, l, w.if-k-len.true, w.len.ensures)
           ]) at;

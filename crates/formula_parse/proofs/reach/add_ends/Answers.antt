@@ -10,8 +10,8 @@ loop-entry-preserved c =
     let entries = c.args.entries.now in
     let n = c.loop-entry.entry-index in
     let none = entry_of 0 record { 0 = record { 0 = 0 } } 0 in
-    let xs = c.loop-entry.next.items in
-    let ys = c.add_end.new.next.items in
+    let xs = c.loop-entry.next in
+    let ys = c.add_end.new.next in
     let s = c.in_ok-add_end.ensures in (
       λ j x e. s.stays j x (c.loop-entry.invariant.0 j x e),
       at_turn (λ (x : Entry). x.code ≡ c.args.code → CanLead c.args.leaves.now c.args.behind.now x.end → IsIn ys x.end) entries n
