@@ -1,69 +1,24 @@
-ghost use Rattle.std.specs.Prelude.{◌≡◌, ◌==◌, ◌<◌, ◌≤◌, ◌^◌, ◌++◌, ◌∷◌, ℕ, List, [], length, slice_get, IsTrue, IfOk, OnOk, OnErr, Some, if◌then◌else◌};
+ghost use Rattle.std.specs.Prelude.{◌≡◌, ◌<◌, ◌≤◌, ◌^◌, ◌∷◌, ℕ, List, [], length, slice_get, IsTrue, IfOk, OnOk, Some};
+ghost use Rattle.mm_base.specs.Rows.{row_at};
 ghost use Rattle.formula_parse.specs.declared.reach.Entry.{Entry};
 ghost use Rattle.formula_parse.specs.Charts.{IsIn, Stays, IsOnce};
+ghost use Rattle.formula_parse.specs.Noted.{AreNoted};
 
 use crate::reach::Entry;
-use mm_base::{List, Memory};
+use mm_base::{List, Memory, Rows};
 use std::alloc::Global;
-use std::collections::HashMap;
 use std::marker::Model;
 
-/// Where entries stand in a list, by their ends.
-#[derive(Drop)]
-struct ByEnd {
-    rows: HashMap<usize, Vec<usize>>,
-}
-
-impl ByEnd {
-    ghost use Rattle.formula_parse.specs.Noted.{places_at};
-
-    fn new(alloc: Global) -> ByEnd
-        ensures { (q : ℕ) → places_at result q ≡ [] }
-    {
-        ByEnd {
-            rows: HashMap::new(alloc),
-        }
+/// Notes where an entry will stand, by its end, if it is not among the first 16.
+fn note(later: &mut Rows<usize>, alloc: Global, end: usize, place: usize) -> Result<(), Memory>
+    ensures noted { OnOk result (16 ≤ place → IsIn (row_at later.new end) place) }
+    ensures kept { (q i : ℕ) → IsIn (row_at later.old q) i → IsIn (row_at later.new q) i }
+{
+    if place < 16 {
+        return Ok(());
     }
-
-    fn at(&self, end: usize) -> &[usize]
-        ensures { result.now ≡ places_at self.now end }
-    {
-        match self.rows.get(&end) {
-            None => &[],
-            Some(places) => places.as_slice(),
-        }
-    }
-
-    /// Adds a place behind those at an end.
-    fn add(&mut self, alloc: Global, end: usize, place: usize) -> Result<(), Memory>
-        ensures added { OnOk result ((q : ℕ) → places_at self.new q
-            ≡ (if end == q then places_at self.old q ++ place ∷ [] else places_at self.old q)) }
-        ensures same { OnErr result ((q : ℕ) → places_at self.new q ≡ places_at self.old q) }
-    {
-        match self.rows.get_mut(&end) {
-            Some(places) => {
-                places.push(place)?;
-                Ok(())
-            }
-            None => {
-                let places = vec![in alloc; place]?;
-                self.rows.insert(end, places)?;
-                Ok(())
-            }
-        }
-    }
-
-    /// Notes where an entry will stand, if it is not among the first 16.
-    fn note(&mut self, alloc: Global, end: usize, place: usize) -> Result<(), Memory>
-        ensures noted { OnOk result (16 ≤ place → IsIn (places_at self.new end) place) }
-        ensures kept { (q i : ℕ) → IsIn (places_at self.old q) i → IsIn (places_at self.new q) i }
-    {
-        if place < 16 {
-            return Ok(());
-        }
-        self.add(alloc, end, place)?;
-        Ok(())
-    }
+    later.add(alloc, end as u64, place)?;
+    Ok(())
 }
 
 /// The entries of a place, each once, in the order in which they were found. To find an entry among them takes as many
@@ -72,7 +27,7 @@ impl ByEnd {
 pub struct Entries {
     items: Vec<Entry>,
     /// Where those stand that are not among the first 16, which are looked through one by one.
-    later: ByEnd,
+    later: Rows<usize>,
 }
 
 impl Model for Entries {
@@ -127,19 +82,15 @@ fn is_later(items: &[Entry], places: &[usize], entry: Entry) -> bool
     false
 }
 
-impl ByEnd {
-    ghost use Rattle.formula_parse.specs.Noted.{AreNoted};
-
-    /// Whether the entry stands in the list, of which this notes the places.
-    fn finds(&self, items: &[Entry], entry: Entry) -> bool
-        ensures found { IsTrue result → IsIn items.now entry }
-        ensures all { AreNoted items.now self.now → IsIn items.now entry → IsTrue result }
-    {
-        if is_early(items, entry) {
-            return true;
-        }
-        is_later(items, self.at(entry.end), entry)
+/// Whether the entry stands in the list, of which `later` notes the places.
+fn finds(items: &[Entry], later: &Rows<usize>, entry: Entry) -> bool
+    ensures found { IsTrue result → IsIn items.now entry }
+    ensures all { AreNoted items.now later.now → IsIn items.now entry → IsTrue result }
+{
+    if is_early(items, entry) {
+        return true;
     }
+    is_later(items, later.at(entry.end as u64), entry)
 }
 
 impl Entries {
@@ -149,7 +100,7 @@ impl Entries {
     {
         Entries {
             items: Vec::new(alloc),
-            later: ByEnd::new(alloc),
+            later: Rows::new(alloc),
         }
     }
 
@@ -161,7 +112,7 @@ impl Entries {
         items.push(entry)?;
         Ok(Entries {
             items,
-            later: ByEnd::new(alloc),
+            later: Rows::new(alloc),
         })
     }
 
@@ -171,11 +122,11 @@ impl Entries {
         ensures stands { OnOk result (IsIn self.new entry) }
         ensures once { OnOk result (IsOnce self.old → IsOnce self.new) }
     {
-        if self.later.finds(self.items.as_slice(), entry) {
+        if finds(self.items.as_slice(), &self.later, entry) {
             return Ok(());
         }
         let alloc = *self.items.allocator();
-        self.later.note(alloc, entry.end, self.items.len())?;
+        note(&mut self.later, alloc, entry.end, self.items.len())?;
         self.items.push(entry)?;
         Ok(())
     }

@@ -1,7 +1,8 @@
 use Rattle.std.proofs.Common.{◌≡◌, ◌≤◌, List, length, slice_get, Some, sym, ap, ◌∙◌, subst, arith}
+use Rattle.mm_base.specs.Rows.{row_at}
 use Rattle.formula_parse.specs.declared.reach.Entry.{Entry}
 use Rattle.formula_parse.specs.Charts.{IsIn, IsOnce}
-use Rattle.formula_parse.specs.Noted.{places_at, AreNoted}
+use Rattle.formula_parse.specs.Noted.{AreNoted}
 use Rattle.formula_parse.proofs.Consts.{off}
 use Rattle.formula_parse.proofs.Lists.{stays_pushed, last_pushed}
 use Rattle.formula_parse.proofs.Noting.{noted_kept, noted_more, once_more}
@@ -10,10 +11,10 @@ use Rattle.formula_parse.proofs.entries.Entries.add.Goals as goal
 pub invariant_of-self-2 : goal.invariant_of-self-2
 invariant_of-self-2 c =
     let items = c.self.inside.items.items in
-    let later = c.note.new.self in
+    let later = c.note.new.later in
     let old = noted_kept items c.self.inside.later later c.in_ok-note.ensures.kept c.self.invariant in
     let len : length items ≡ c.len.result = omega (arith, c.len.ensures, c.self.inside.items.ok) in
-    let there = λ (l : 16 ≤ length items). subst (λ n. IsIn (places_at later c.args.entry.end) n) (sym len) (c.in_ok-note.ensures.noted (omega (arith, l, len))) in
+    let there = λ (l : 16 ≤ length items). subst (λ n. IsIn (row_at later c.args.entry.end) n) (sym len) (c.in_ok-note.ensures.noted (omega (arith, l, len))) in
     subst (λ (xs : List Entry). AreNoted xs later) (sym c.in_ok-push.ensures.items) (noted_more items c.args.entry later there old)
 
 pub returns-clause-stays : goal.returns-clause-stays
