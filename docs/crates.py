@@ -4,7 +4,7 @@ crates of the repository it uses, from crates.txt.
 
     python3 docs/crates.py
 
-It stops where a crate stands in no layer or in two, or has no first lines.
+It stops where a crate stands in no layer or in two, uses one that stands behind it, or has no first lines.
 """
 import os
 import re
@@ -18,17 +18,19 @@ LAYERS = [
     ("Base", ["mm_base"]),
     ("Definitions", ["mm_model", "sheet_text", "proof_model", "solve_model", "fault_lines", "trial_texts", "written_model",
                      "call_answers"]),
-    ("Laws of the definitions", ["model_laws", "theorem_laws", "proof_laws", "sheet_laws", "solve_laws", "again_laws", "answer_laws",
-                                 "push_laws", "headline_laws", "writing_laws", "whole_laws"]),
+    ("Laws of the definitions", ["model_laws", "theorem_laws", "proof_laws", "solve_laws", "sheet_laws"]),
     ("Readers of databases", ["mm_tokens", "names", "number_set", "frame_lists", "mm_frames"]),
     ("Proofs of a database", ["compressed_proof", "stack_verify"]),
     ("Formulas", ["syntax_grammar", "formula_parse", "mm_database"]),
     ("Text of worksheets", ["sheet_read", "sheet_print"]),
-    ("Small calls under the worksheet", ["work_vars", "pair_set", "distinct_vars", "hyp_order", "hyp_derive", "leaf_names"]),
+    ("Small calls under the worksheet", ["work_vars", "pair_set", "distinct_vars", "hyp_order", "hyp_derive"]),
     ("Binding and searching", ["sheet_bind", "ref_search"]),
-    ("The store of shared terms", ["undo_trail", "term_model", "term_arena", "term_unify", "chain_laws", "step_chain"]),
-    ("From judged steps to a written worksheet", ["written_steps", "step_filling", "step_naming", "step_searching", "step_report",
-                                                  "sheet_writing", "proof_tree", "sheet_proof", "phase_laws", "filling_laws"]),
+    ("The store of shared terms", ["undo_trail", "term_model", "term_arena", "term_unify"]),
+    ("Laws of the answer", ["again_laws", "answer_laws", "push_laws", "headline_laws", "writing_laws", "chain_laws", "whole_laws"]),
+    ("Judging", ["step_chain"]),
+    ("From judged steps to a written worksheet", ["written_steps", "step_filling", "leaf_names", "step_naming", "step_searching",
+                                                  "step_report", "sheet_writing", "proof_tree", "sheet_proof", "phase_laws",
+                                                  "filling_laws"]),
     ("The program", ["sheet_unify", "sheet_gen", "mmp_run", "mmp"]),
     ("Tests", ["database_tests", "sheet_tests", "step_tests", "mmp_tests"]),
 ]
@@ -80,11 +82,15 @@ def gives(text):
 
 
 def check(known):
-    """Each crate stands in one layer."""
+    """Each crate stands in one layer, and behind all that it uses."""
     listed = [crate for _, crates in LAYERS for crate in crates]
     wrong = sorted(set(known) ^ set(listed)) + sorted(crate for crate in set(listed) if listed.count(crate) > 1)
     if wrong:
         sys.exit("in no layer, in two, or not in crates.txt: " + " ".join(wrong))
+    for place, crate in enumerate(listed):
+        later = [used for used in known[crate] if used in listed[place:]]
+        if later:
+            sys.exit(f"{crate} uses what stands behind it: " + " ".join(later))
 
 
 def main():
