@@ -46,7 +46,7 @@ PARTS = [
     ("set.mm", "The database of Debian's package `metamath-databases`.", [
         ("set_three_plus_two_unfinished.mmp", ["unify", SET], 1, "A draft: two definitions and two hypotheses are found, one is missing."),
         ("set_three_plus_two_finished.mmp", ["unify", SET], 0, "The draft, gone on with."),
-        ("set_equality_finished.mmp", ["unify", SET], 0, "A formula that is left out."),
+        ("set_equality_finished.mmp", ["unify", SET], 0, "A formula and a reference that are left out."),
         ("set_equality_unfinished.mmp", ["unify", SET], 1, "A hypothesis that is missing."),
         ("set_distinct_finished.mmp", ["unify", SET], 0, "Distinct variables."),
         ("set_distinct_unfinished.mmp", ["unify", SET], 1, "A clash."),
