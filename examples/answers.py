@@ -1,0 +1,110 @@
+#!/usr/bin/env python3
+"""Runs the program on the examples, and writes README.md beside them with each worksheet, the command and the answer.
+
+    examples/answers.py PROGRAM [SET_MM]     PROGRAM: the built mmp, as crates/mmp/out/mmp; SET_MM: the database set.mm, else that of
+                                             Debian's package metamath-databases
+
+It stops where a file ends with another status than its name says: `finished` with 0, `unfinished` with 1, `refused` with 3.
+"""
+import os
+import subprocess
+import sys
+
+HERE = os.path.dirname(os.path.abspath(__file__))
+SET = "/usr/share/metamath/databases/set.mm"
+
+PARTS = [
+    ("Propositional logic: P.mm", "Implication and negation, two axioms and modus ponens.", [
+        ("modus_ponens.mmp", ["unify", "--proof=normal", "P.mm"], 0, "A worksheet that fits. The proof lists its labels."),
+        ("modus_ponens.mmp", ["unify", "P.mm"], 0, "The same with a compressed proof."),
+        ("no_fit.mmp", ["unify", "P.mm"], 1, "A conclusion that does not follow. The step is set aside."),
+        ("identity_finished.mmp", ["unify", "P.mm"], 0, "Formulas that are left out."),
+        ("identity_unfinished.mmp", ["unify", "P.mm"], 1, "A formula that nothing determines."),
+        ("missing_step_finished.mmp", ["unify", "P.mm"], 0, "A hypothesis that is left out, and is found."),
+        ("missing_step_unfinished.mmp", ["unify", "P.mm"], 1, "Hypotheses that are left out, and are to be proved."),
+        ("other_order_finished.mmp", ["unify", "P.mm"], 0, "Hypotheses in another order."),
+        ("set_aside_unfinished.mmp", ["unify", "P.mm"], 1, "A step that cannot fit, between others that do."),
+        ("work_variables_unfinished.mmp", ["unify", "P.mm"], 1, "Work variables that are one."),
+        ("after_a_label_finished.mmp", ["unify", "P.mm"], 0, "A theorem at a place within the database."),
+        ("after_a_label_unfinished.mmp", ["unify", "P.mm"], 1, "A reference behind that place."),
+    ]),
+    ("Sets and classes: Q.mm and Q2.mm", "P.mm with sets and classes, and with assertions that have hypotheses and distinct variables. Q2.mm "
+     "has a second way to write an equation of sets.", [
+         ("searched_finished.mmp", ["unify", "Q.mm"], 0, "A step without a reference."),
+         ("searched_unfinished.mmp", ["unify", "Q.mm"], 1, "A step that no assertion gives."),
+         ("distinct_finished.mmp", ["unify", "Q.mm"], 0, "Distinct variables are written as `$d`."),
+         ("distinct_finished.mmp", ["unify", "--dv=given", "Q.mm"], 1, "The same where only given pairs are allowed."),
+         ("distinct_unfinished.mmp", ["unify", "Q.mm"], 1, "A clash."),
+         ("mmj2_style_finished.mmp", ["unify", "Q.mm"], 0, "Indented formulas, a formula over two lines, and an old proof that is passed over."),
+         ("mmj2_style_unfinished.mmp", ["unify", "Q.mm"], 1, "The same in the middle of the work."),
+         ("two_trees_refused.mmp", ["unify", "Q2.mm"], 3, "A formula that can be read in two ways."),
+     ]),
+    ("The first example of the Metamath book: demo0.mm", "", [
+        ("book_finished.mmp", ["unify", "demo0.mm"], 0, "A theorem that the database has, with formulas left out."),
+        ("book_refused.mmp", ["unify", "demo0.mm"], 3, "Another formula than the theorem's."),
+    ]),
+    ("set.mm", "The database of Debian's package `metamath-databases`.", [
+        ("set_three_plus_two_unfinished.mmp", ["unify", SET], 1, "A draft: two definitions and two hypotheses are found, one is missing."),
+        ("set_three_plus_two_finished.mmp", ["unify", SET], 0, "The draft, gone on with."),
+        ("set_equality_finished.mmp", ["unify", SET], 0, "A formula and a reference that are left out."),
+        ("set_equality_unfinished.mmp", ["unify", SET], 1, "A hypothesis that is missing."),
+        ("set_distinct_finished.mmp", ["unify", SET], 0, "Distinct variables."),
+        ("set_distinct_unfinished.mmp", ["unify", SET], 1, "A clash."),
+        ("set_existing_finished.mmp", ["unify", SET], 0, "A theorem that is there, proved anew."),
+        ("set_existing_unfinished.mmp", ["unify", SET], 1, "A theorem that stands too late."),
+    ]),
+    ("Proofs that are checked: V.mm", "P.mm with three theorems.", [
+        (None, ["verify", "V.mm", "good"], 0, "A proof that is accepted."),
+        (None, ["verify", "V.mm", "bad"], 8, "A proof whose code has a fault."),
+        (None, ["verify", "V.mm", "wrong"], 8, "A proof of another formula."),
+        (None, ["verify", "V.mm", "ax-1"], 8, "An axiom has no proof."),
+        (None, ["verify", SET, "2p2e4"], 0, "Over set.mm."),
+    ]),
+    ("The program by itself", "", [
+        (None, ["trial", "3"], 0, "A worksheet of three blocks."),
+        (None, ["unify", "P.mm"], 4, "Words that fit no command."),
+        (None, ["unify", "P.mm", "nothing.mmp"], 5, "A file that is not there."),
+    ]),
+]
+
+HEAD = """# Examples
+
+Small databases and worksheets to try. A file is named by what it shows and how it ends; `modus_ponens.mmp` is finished, and `no_fit.mmp`
+is not. Below stands each worksheet, the command, given in this folder, and what came of it.
+
+This file is written by `examples/answers.py` from runs of the program.
+"""
+
+
+def block(text):
+    return ["```", *text.rstrip("\n").split("\n"), "```", ""]
+
+
+def shown(program, sheet, words, status, about, database):
+    """One example: the worksheet, the command, and the answer."""
+    words = [database if word == SET else word for word in words] + ([sheet] if sheet else [])
+    done = subprocess.run([program] + words, cwd=HERE, stdout=subprocess.PIPE, stderr=subprocess.PIPE)
+    if done.returncode != status:
+        sys.exit(f"{' '.join(words)}: status {done.returncode}, and not {status}: {done.stderr.decode()}")
+    out = [f"### {sheet or ' '.join(words)}", "", about, ""]
+    if sheet:
+        out += block(open(os.path.join(HERE, sheet), encoding="utf-8").read())
+    out += block("$ mmp " + " ".join(words) + "\n" + done.stdout.decode())
+    if not done.stderr:
+        return out + [f"Status {status}, and nothing on standard error.", ""]
+    return out + [f"Status {status}. Standard error:", ""] + block(done.stderr.decode())
+
+
+def main():
+    program = os.path.abspath(sys.argv[1])
+    database = sys.argv[2] if len(sys.argv) > 2 else SET
+    out = [HEAD]
+    for title, about, examples in PARTS:
+        out += [f"## {title}", ""] + ([about, ""] if about else [])
+        for sheet, words, status, said in examples:
+            out += shown(program, sheet, words, status, said, database)
+    with open(os.path.join(HERE, "README.md"), "w", encoding="utf-8") as file:
+        file.write("\n".join(out).rstrip() + "\n")
+
+
+main()
