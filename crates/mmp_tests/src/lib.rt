@@ -13,8 +13,6 @@ mod ends;
 #[cfg(test)]
 mod files;
 #[cfg(test)]
-mod further;
-#[cfg(test)]
 mod large;
 #[cfg(test)]
 mod library;

@@ -3,9 +3,8 @@
 
 use crate::calls::{Outside, Want, call_over, check, compare, honest, joined};
 use crate::databases::Q;
-use crate::further::FURTHER;
 use crate::row::Row;
-use crate::rows::{BLANK, DERIVED, DISTINCT, FITTING, PLACED, REFUSED, TOGETHER, TYPED};
+use crate::rows::{BLANK, DERIVED, DISTINCT, FITTING, FURTHER, PLACED, REFUSED, TOGETHER, TYPED};
 use mm_base::Status;
 use std::alloc::{AllocError, Global};
 use std::process::Abort;
