@@ -32,7 +32,7 @@ LAYERS = [
                                                   "step_report", "sheet_writing", "proof_tree", "sheet_proof", "phase_laws",
                                                   "filling_laws"]),
     ("The program", ["sheet_unify", "sheet_gen", "mmp_run", "mmp"]),
-    ("Tests", ["database_tests", "sheet_tests", "step_tests", "mmp_tests"]),
+    ("Tests", ["database_tests", "sheet_tests", "step_tests", "mmp_tests", "failure_tests"]),
 ]
 
 HEAD = """# Crates

@@ -13,9 +13,7 @@ pub struct Outside<'a> {
     pub database: &'a [u8],
     /// Under `r.mmp`.
     pub sheet: &'a [u8],
-    pub store_room: u64,
     pub store_fails: &'a [u64],
-    pub out_room: u64,
     pub out_fails: &'a [u64],
     pub log_fails: &'a [u64],
 }
@@ -41,9 +39,7 @@ pub fn honest<'a>(database: &'a [u8], sheet: &'a [u8]) -> Outside<'a> {
     Outside {
         database,
         sheet,
-        store_room: 4000,
         store_fails: &[],
-        out_room: 4000,
         out_fails: &[2],
         log_fails: &[2],
     }
@@ -79,12 +75,15 @@ fn bytes_of(alloc: Global, text: &[u8]) -> Result<List<u8>, AllocError> {
     Ok(List::from_vec(Vec::from_slice(alloc, text)?))
 }
 
-fn sink(alloc: Global, room: u64, fails: &[u64]) -> Result<MemSink, Memory> {
-    MemSink::new(alloc, room, List::from_vec(Vec::from_slice(alloc, fails)?))
+// Room for each text of these tests.
+const ROOM: u64 = 4000;
+
+fn sink(alloc: Global, fails: &[u64]) -> Result<MemSink, Memory> {
+    MemSink::new(alloc, ROOM, List::from_vec(Vec::from_slice(alloc, fails)?))
 }
 
-/// The store with the two texts.
-pub fn store_of(alloc: Global, outside: Outside<'_>) -> Result<MemStore, Memory> {
+// The store with the two texts.
+fn store_of(alloc: Global, outside: Outside<'_>) -> Result<MemStore, Memory> {
     let mut files = Vec::new(alloc);
     files.push((
         bytes_of(alloc, b"P.mm")?,
@@ -92,27 +91,17 @@ pub fn store_of(alloc: Global, outside: Outside<'_>) -> Result<MemStore, Memory>
     ))?;
     files.push((bytes_of(alloc, b"r.mmp")?, bytes_of(alloc, outside.sheet)?))?;
     let fails = List::from_vec(Vec::from_slice(alloc, outside.store_fails)?);
-    MemStore::new(alloc, List::from_vec(files), outside.store_room, fails)
+    MemStore::new(alloc, List::from_vec(files), ROOM, fails)
 }
 
-/// Calls the program with these words over a store.
-pub fn call(
-    alloc: Global,
-    words: &[&str],
-    store: &mut MemStore,
-    outside: Outside<'_>,
-) -> Result<Ended, Memory> {
-    let words = words_of(alloc, words)?;
-    let mut out = sink(alloc, outside.out_room, outside.out_fails)?;
-    let mut log = sink(alloc, 4000, outside.log_fails)?;
-    let status = run(alloc, &words, store, &mut out, &mut log);
-    Ok(Ended { status, out, log })
-}
-
-/// Calls it over the store with the two texts.
+/// Calls the program with these words over the store with the two texts.
 pub fn call_over(alloc: Global, words: &[&str], outside: Outside<'_>) -> Result<Ended, Memory> {
+    let words = words_of(alloc, words)?;
     let mut store = store_of(alloc, outside)?;
-    call(alloc, words, &mut store, outside)
+    let mut out = sink(alloc, outside.out_fails)?;
+    let mut log = sink(alloc, outside.log_fails)?;
+    let status = run(alloc, &words, &mut store, &mut out, &mut log);
+    Ok(Ended { status, out, log })
 }
 
 /// Compares what a call ended with.

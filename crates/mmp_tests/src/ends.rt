@@ -13,41 +13,7 @@ struct Cut {
     line: &'static str,
 }
 
-const TEXTS: [Cut; 7] = [
-    Cut {
-        database: PROP,
-        text: "",
-        line: "sheet error 40 NoHeader at line 1\n",
-    },
-    Cut {
-        database: PROP,
-        text: "$( <MM> <PROOF_ASST> THEOREM=r LOC_AFTER=?\n",
-        line: "sheet error 42 NoFooter at line 2\n",
-    },
-    Cut {
-        database: PROP,
-        text: "$( <MM> <PROOF_ASST> THEOREM=r LOC_AFTER=?
-h1::r.1 |- ph
-",
-        line: "sheet error 42 NoFooter at line 3\n",
-    },
-    Cut {
-        database: PROP,
-        text: "$( <MM> <PROOF_ASST> THEOREM=r LOC_AFTER=?
-h1::r.1 |- ph
-h2::r.2 |- ( ph -> ps )
-",
-        line: "sheet error 42 NoFooter at line 4\n",
-    },
-    Cut {
-        database: PROP,
-        text: "$( <MM> <PROOF_ASST> THEOREM=r LOC_AFTER=?
-h1::r.1 |- ph
-h2::r.2 |- ( ph -> ps )
-qed:1,2:ax-mp |- ps
-",
-        line: "sheet error 42 NoFooter at line 5\n",
-    },
+const TEXTS: [Cut; 2] = [
     Cut {
         database: DEMO,
         text: "$( <MM> <PROOF_ASST> THEOREM=th1 LOC_AFTER=?

@@ -1,5 +1,5 @@
 //! Tests of whole calls of the program over files and sinks in memory: their words, worksheets that are unified, proofs that
-//! are checked, trials, files that are refused, and devices that fail.
+//! are checked, trials, and files that are refused.
 #![tactic(auto)]
 
 #[cfg(test)]
@@ -7,21 +7,15 @@ mod calls;
 #[cfg(test)]
 mod databases;
 #[cfg(test)]
-mod devices;
-#[cfg(test)]
 mod ends;
 #[cfg(test)]
 mod files;
-#[cfg(test)]
-mod large;
 #[cfg(test)]
 mod library;
 #[cfg(test)]
 mod row;
 #[cfg(test)]
 mod rows;
-#[cfg(test)]
-mod texts;
 #[cfg(test)]
 mod trial;
 #[cfg(test)]

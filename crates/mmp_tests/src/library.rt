@@ -4,7 +4,6 @@ ghost use Rattle.sheet_unify.specs.Made.{HasText};
 
 use crate::calls::joined;
 use crate::databases::{PROP, Q};
-use crate::texts::{doublings, too_many_spaces};
 use mm_base::{Kinds, List, MOST_DATABASE_BYTES, Memory};
 use mm_database::{Database, open_database};
 use sheet_unify::{
@@ -104,9 +103,24 @@ qed fits ax-mp
 finished
 ";
 
-const TOO_LONG: &[u8] = b"sheet error 75 FormulaTooLong step 12 tokens 8190";
+const DOUBLINGS: &[u8] = b"$( <MM> <PROOF_ASST> THEOREM=dbl LOC_AFTER=?
+h1::dbl.1 |- ph
+2:1:pair
+3:2:pair
+4:3:pair
+5:4:pair
+6:5:pair
+7:6:pair
+8:7:pair
+9:8:pair
+10:9:pair
+11:10:pair
+12:11:pair
+qed:: |- ph
+$)
+";
 
-const TOO_BIG: &[u8] = b"sheet error 50 TooBig at line 1";
+const TOO_LONG: &[u8] = b"sheet error 75 FormulaTooLong step 12 tokens 8190";
 
 #[test]
 fn a_worksheet_is_written(rt: HostRuntime) -> Result<(), Fail> {
@@ -116,18 +130,5 @@ fn a_worksheet_is_written(rt: HostRuntime) -> Result<(), Fail> {
 #[test]
 fn a_formula_is_too_long(rt: HostRuntime) -> Result<(), Fail> {
     let database = joined(rt.alloc(), Q)?;
-    let text = doublings(rt.alloc(), 40)?;
-    check(
-        &rt,
-        rt.alloc(),
-        database.as_slice(),
-        text.as_slice(),
-        TOO_LONG,
-    )
-}
-
-#[test]
-fn a_text_is_too_big(rt: HostRuntime) -> Result<(), Fail> {
-    let text = too_many_spaces(rt.alloc())?;
-    check(&rt, rt.alloc(), PROP.as_bytes(), text.as_slice(), TOO_BIG)
+    check(&rt, rt.alloc(), database.as_slice(), DOUBLINGS, TOO_LONG)
 }

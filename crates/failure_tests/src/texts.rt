@@ -19,12 +19,10 @@ pub fn repeated(alloc: Global, part: &[u8], times: u32) -> Result<Vec<u8>, Memor
     Ok(text)
 }
 
-/// One space more than a worksheet may have bytes.
-pub fn too_many_spaces(alloc: Global) -> Result<Vec<u8>, Memory> {
+/// As many spaces as a worksheet may have bytes, which are 2^24.
+pub fn spaces(alloc: Global) -> Result<Vec<u8>, Memory> {
     let line = repeated(alloc, b" ", 1 << 12)?;
-    let mut text = repeated(alloc, line.as_slice(), 1 << 12)?;
-    text.push(b' ')?;
-    Ok(text)
+    repeated(alloc, line.as_slice(), 1 << 12)
 }
 
 fn put_number(text: &mut Vec<u8>, number: u32) -> Result<(), Memory> {
@@ -37,6 +35,13 @@ fn header(alloc: Global, theorem: &str) -> Result<Vec<u8>, Memory> {
     let mut text = Vec::from_slice(alloc, b"$( <MM> <PROOF_ASST> THEOREM=")?;
     text.extend_from_slice(theorem.as_bytes())?;
     text.extend_from_slice(b" LOC_AFTER=?\n")?;
+    Ok(text)
+}
+
+/// Behind a database an assertion that makes of a formula an implication of it from itself.
+pub fn with_pair(alloc: Global, database: &str) -> Result<Vec<u8>, Memory> {
+    let mut text = Vec::from_slice(alloc, database.as_bytes())?;
+    text.extend_from_slice(b"${ pair.1 $e |- ph $. pair $a |- ( ph -> ph ) $. $}\n")?;
     Ok(text)
 }
 
