@@ -223,6 +223,7 @@ def names_long(n):
 # ---- proofs
 
 NOP = "$c T $.\n${ nop.1 $e |- T $. nop $a |- T $. $}\naxt $a |- T $.\n"
+DROP = "${ drop.1 $e |- T $. drop.2 $e |- T $. drop $a |- T $. $}\n"
 DUP = "${ dup.1 $e |- ph $. dup $a |- ph $. $}\n"
 
 
@@ -248,9 +249,8 @@ def proof_left_over(n):
 
 @kind("marks, each named once", 50_000, 100_000, 200_000)
 def proof_marks(n):
-    proof = "AZ" + "BZ" * (n - 1)
-    names = "".join(letters(2 + k) + "B" for k in range(1, n + 1))
-    return P + NOP + "x $p |- T $= ( axt nop ) " + proof + " $.\n", None
+    proof = ["AZ"] + ["BZ"] * (n - 1) + [letters(3 + k) + "C" for k in range(n)]
+    return P + NOP + DROP + "x $p |- T $= ( axt nop drop ) " + folded(proof) + " $.\n", None
 
 
 @kind("labels in the brackets of a proof", 50_000, 100_000, 200_000)
@@ -261,7 +261,8 @@ def proof_labels(n):
 
 @kind("doublings of a formula by marks", 12, 14, 16)
 def proof_doublings(n):
-    return P + "x $p |- ( ph -> ph ) $= ( wi id ) A" + "".join(("Z" + letters(k + 4) * 2 + "B" if k else "AB") for k in range(n - 1)) + "AC $.\n", None
+    proof = "AZ" + "".join(letters(4 + k) + "BZ" for k in range(n)) + "C"
+    return P + "x $p |- ( ph -> ph ) $= ( wi id ) " + proof + " $.\n", None
 
 
 @kind("`$d` of two symbols that are active at a theorem", 20_000, 40_000, 80_000)
@@ -489,21 +490,36 @@ def run(words, folder, seconds, megabytes):
     return usage.ru_utime + usage.ru_stime, usage.ru_maxrss / 1024, "over" if code in (-24, -9) else str(code), told.decode().strip()
 
 
-def words_for(program, make, n, folder):
-    """The commands of a kind at a size: (name, words); its files are written into the folder."""
+def write_files(make, n, folder):
+    """Writes the files of a kind at a size."""
     made = make(n)
     if made is None:
-        return []
+        return
     database, text = made
-    path = database if database == SET else f"{folder}/d.mm"
-    if path != SET:
-        open(path, "w").write(database)
-    commands = []
-    if path != SET and re.search(r"^x \$p", database, re.M):
-        commands.append(("verify", [program, "verify", path, "x"]))
+    if database != SET:
+        open(f"{folder}/d.mm", "w").write(database)
+        if re.search(r"^x \$p", database, re.M):
+            open(f"{folder}/x", "w").close()
     if text is not None:
         open(f"{folder}/s.mmp", "w").write(text)
-        commands.append(("unify", [program, "unify", path, f"{folder}/s.mmp"]))
+
+
+def words_for(program, make, n, folder):
+    """The commands of a kind at a size: (name, words)."""
+    for name in os.listdir(folder):
+        os.remove(f"{folder}/{name}")
+    # in a process of its own: what is started from a large one counts the memory of that one
+    maker = os.fork()
+    if maker == 0:
+        write_files(make, n, folder)
+        os._exit(0)
+    os.waitpid(maker, 0)
+    path, text = f"{folder}/d.mm", f"{folder}/s.mmp"
+    commands = []
+    if os.path.exists(f"{folder}/x"):
+        commands.append(("verify", [program, "verify", path, "x"]))
+    if os.path.exists(text):
+        commands.append(("unify", [program, "unify", path if os.path.exists(path) else SET, text]))
     return commands
 
 
