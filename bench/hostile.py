@@ -214,6 +214,15 @@ def nested_brackets(n):
     return P + f"y $a |- {formula} $.\n" + X, sheet(["1:: |- " + formula])
 
 
+@kind("tokens of a formula that nests with 50 chains between its nodes", 1_000, 2_000, 4_000)
+def nested_chains(n):
+    codes = range(1, 51)
+    text = "$c ~ " + " ".join(f"t{k}" for k in codes) + " $.\n$v " + " ".join(f"v{k}" for k in codes) + " $.\n"
+    text += "".join(f"f{k} $f t{k} v{k} $.\n" for k in codes) + "c1 $a t1 ph $.\n"
+    text += "".join(f"c{k} $a t{k} v{k - 1} $.\n" for k in codes[1:]) + "wd $a wff ~ v50 $.\n"
+    return P + text + "y $a |- " + "~ " * n + "ph $.\n" + X, sheet([])
+
+
 @kind("letters of the names of a label, a constant and a step", 1_000_000, 2_000_000, 4_000_000)
 def names_long(n):
     label, constant = "l" * n, "c" * n
@@ -249,7 +258,7 @@ def proof_left_over(n):
 
 @kind("marks, each named once", 50_000, 100_000, 200_000)
 def proof_marks(n):
-    proof = ["AZ"] + ["BZ"] * (n - 1) + [letters(3 + k) + "C" for k in range(n)]
+    proof = ["AZ"] + ["BZ"] * (n - 1) + [letters(4 + k) + "C" for k in range(n)]
     return P + NOP + DROP + "x $p |- T $= ( axt nop drop ) " + folded(proof) + " $.\n", None
 
 
@@ -259,7 +268,7 @@ def proof_labels(n):
     return P + "$c " + " ".join(f"T{k}" for k in range(n)) + " $.\n" + text + "x $p |- ( ph -> ph ) $= ( id " + folded(f"n{k}" for k in range(n)) + " ) AB $.\n", None
 
 
-@kind("doublings of a formula by marks", 12, 14, 16)
+@kind("doublings of a formula by marks", 20, 22, 24)
 def proof_doublings(n):
     proof = "AZ" + "".join(letters(4 + k) + "BZ" for k in range(n)) + "C"
     return P + "x $p |- ( ph -> ph ) $= ( wi id ) " + proof + " $.\n", None
@@ -414,6 +423,20 @@ def work_symbols(n):
 @kind("steps without formula, each over the one before, with one work variable", 1_000, 2_000, 4_000)
 def work_long_chain(n):
     return P + DUP, sheet(["0:: |- &W1"] + [f"{k}:{k - 1}:dup" for k in range(1, n)])
+
+
+WRAP = "${ wrap.1 $e |- ph $. wrap $a |- -. ph $. $}\n"
+
+
+@kind("steps without formula, each longer than the one before", 2_000, 4_000, 8_000)
+def work_deep(n):
+    return P + WRAP, sheet(["0:: |- &W1"] + [f"{k}:{k - 1}:wrap" for k in range(1, n)])
+
+
+@kind("steps without formula, each longer than the one after", 2_000, 4_000, 8_000)
+def work_deep_back(n):
+    unwrap = "${ unwrap.1 $e |- -. ph $. unwrap $a |- ph $. $}\n"
+    return P + unwrap, sheet(["0:: |- &W1"] + [f"{k}:{k - 1}:unwrap" for k in range(1, n)])
 
 
 @kind("steps, each with a `$d` line", 20_000, 40_000, 80_000)
