@@ -8,7 +8,8 @@
         --table         rows of a table for docs/LIMITS.md
 
 A kind is one database, with a theorem `x` or a worksheet or both. A row tells the size n, the processor time, its ratio to the time
-of n / 2, the greatest memory, the status, and the first line of what was told. Times are of one run, so that short ones are noise.
+of n / 2, the greatest memory, the status, and the first line of what was told. The stack has 8 MB; a status of -11 means that it ran out.
+Times are of one run, so that short ones are noise.
 """
 import argparse, os, re, resource, shutil, subprocess, sys, tempfile
 
@@ -473,11 +474,13 @@ def search_square(n):
     return database, sheet(f"{k}:: |- ( -. ph -> -. ( ps -> -. ps ) )" for k in range(n))
 
 
-@kind("steps of six places without a reference, over an assertion that fits in no order", 500, 1_000, 2_000)
+@kind("steps of six places without a reference, over an assertion that fits in none of 720 orders", 500, 1_000, 2_000)
 def search_orders(n):
-    hyps = "".join(f"e{k} $e |- ( ph -> {'-. ' * k} ps ) $.\n" for k in range(5)) + "e5 $e |- ( ps -> ps ) $.\n"
-    lines = [f"h{k}::zz.{k} |- ( ph -> {'-. ' * k} ch )" for k in range(5)] + ["h5::zz.5 |- ( ph -> ch )"]
-    return P + "${\n" + hyps + "y $a |- -. ph $.\n$}\n", sheet(lines + [f"s{k}:5,4,3,2,1,0: |- -. ph" for k in range(n)])
+    names = [f"v{k}" for k in range(5)]
+    text = "$v " + " ".join(names) + " $.\n" + "".join(f"f{v} $f wff {v} $.\n" for v in names)
+    hyps = "".join(f"e{v} $e |- {v} $.\n" for v in names) + "e5 $e |- ( ph -> ph ) $.\n"
+    lines = [f"h{k}::zz.{k} |- {'-. ' * k} ch" for k in range(6)]
+    return P + text + "${\n" + hyps + "y $a |- -. ph $.\n$}\n", sheet(lines + [f"s{k}:5,4,3,2,1,0: |- -. ph" for k in range(n)])
 
 
 @kind("steps without a reference, over set.mm", 1_250, 2_500, 5_000)
@@ -499,6 +502,7 @@ def limited(seconds, megabytes):
         resource.setrlimit(resource.RLIMIT_CPU, (seconds, seconds + 1))
         resource.setrlimit(resource.RLIMIT_AS, (megabytes << 20, megabytes << 20))
         resource.setrlimit(resource.RLIMIT_CORE, (0, 0))
+        resource.setrlimit(resource.RLIMIT_STACK, (8 << 20, 8 << 20))
     return set_limits
 
 
