@@ -47,7 +47,7 @@ __attribute__((destructor)) static void tell(void) {
 """
 
 TOP = os.path.dirname(os.path.dirname(os.path.abspath(__file__)))
-IMPLIES = "x $p |- ( ph -> ph ) $= wph wph wps wi wi wph wph wi wph wph wps wph ax-1 wph wph wps wi wph wi wi wph wph wps wi wi wph wph wi wi wph wph wps wi ax-1 wph wph wps wi wph ax-2 ax-mp ax-mp $.\n"
+IDENTITY = "x $p |- ( ph -> ph ) $= wph wph wph wi wi wph wph wi wph wph ax-1 wph wph wph wi wph wi wi wph wph wph wi wi wph wph wi wi wph wph wph wi ax-1 wph wph wph wi wph ax-2 ax-mp ax-mp $.\n"
 MORE = "$c = $.\n${ $d ph ps $. ap $a |- ( ph -> ps ) $. $}\nid $a |- ( ph -> ph ) $.\n"
 SEARCHED = """$( <MM> <PROOF_ASST> THEOREM=many LOC_AFTER=?
 * a comment
@@ -80,7 +80,7 @@ $)
 def calls(folder):
     """The calls: (name, words, the file that may be replaced or None)."""
     small = open(f"{TOP}/examples/P.mm").read()
-    files = {"d.mm": small + IMPLIES + MORE, "one.mmp": open(f"{TOP}/examples/modus_ponens.mmp").read(), "many.mmp": SEARCHED,
+    files = {"d.mm": small + IDENTITY + MORE, "one.mmp": open(f"{TOP}/examples/modus_ponens.mmp").read(), "many.mmp": SEARCHED,
              "found.mmp": FOUND, "bad.mm": small + "$c ( $.\n", "bad.mmp": "$( <MM> <PROOF_ASST> THEOREM=bad LOC_AFTER=?\nqed:: |- (\n$)\n",
              "open.mmp": "$( <MM> <PROOF_ASST>\n"}
     for name, text in files.items():
@@ -94,11 +94,11 @@ def calls(folder):
     rows += [("unify, a bad database", ["unify", "bad.mm", "one.mmp"]), ("unify, a bad worksheet", ["unify", "d.mm", "bad.mmp"]),
              ("unify, a bad header", ["unify", "d.mm", "open.mmp"]), ("unify, no file", ["unify", "none.mm", "one.mmp"]),
              ("trial 2", ["trial", "2"]), ("trial 9", ["trial", "9"]), ("words", ["unify"])]
-    return files, rows
+    return rows
 
 
-def state(folder, files):
-    """What the folder holds, but for what this script makes itself."""
+def state(folder):
+    """What the folder holds."""
     return {name: open(f"{folder}/{name}", "rb").read() for name in sorted(os.listdir(folder))}
 
 
@@ -130,18 +130,18 @@ def judged(answer, after, before, whole, changed):
     return None if after == changed else "the same answer, and other files"
 
 
-def tried(program, name, words, folder, library, told, files):
+def tried(program, name, words, folder, library, told):
     """The runs of one call: how many, how many of them ended with status 7, how many differ."""
-    before = state(folder, files)
+    before = state(folder)
     whole, count, _ = run(program, words, folder, library, told)
-    changed = state(folder, files)
+    changed = state(folder)
     runs = sevens = wrong = 0
     for all_from in (False, True):
         for at in range(1, count + 1):
             for file, text in before.items():
                 open(f"{folder}/{file}", "wb").write(text)
             answer, asked, refused = run(program, words, folder, library, told, at, all_from)
-            why = judged(answer, state(folder, files), before, whole, changed)
+            why = judged(answer, state(folder), before, whole, changed)
             if why is None and (refused < 1 or asked < at or (not all_from and refused != 1)):
                 why = f"{asked} allocations, {refused} refused"
             runs += 1
@@ -164,8 +164,8 @@ def main():
     os.mkdir(folder)
     open(f"{outer}/refusing.c", "w").write(LIBRARY)
     subprocess.run(["cc", "-O1", "-shared", "-fPIC", "-o", library, f"{outer}/refusing.c"], check=True)
-    files, rows = calls(folder)
-    totals = [tried(program, name, words, folder, library, told, files) for name, words in rows]
+    rows = calls(folder)
+    totals = [tried(program, name, words, folder, library, told) for name, words in rows]
     shutil.rmtree(outer)
     runs, wrong = (sum(t[k] for t in totals) for k in (0, 1))
     print(f"refused allocations: {len(rows)} calls, {runs} runs, {wrong} wrong")
