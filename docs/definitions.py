@@ -91,6 +91,9 @@ ORDER = [
         ("Existence", "laws: a most general valuation exists, and each worksheet has an answer", ""),
         ("WrittenAgain", "laws: written again as itself, and the answer is one", ""),
     ]),
+    ("export_model", "Proofs of a database as worksheets.", [
+        ("Exported", "the worksheet of an accepted proof", ""),
+    ]),
     ("call_answers", "What a call of the program answers.", [
         ("CommandLine", "the words of the command line", "FORMAT, Command words"),
         ("Verified", "what `verify` says of a label", "FORMAT, The proof code, The stack machine"),
