@@ -1,0 +1,2 @@
+mod MorePairsLaw
+mod TwoDatabasesLaws
