@@ -1,2 +1,4 @@
+pub mod Forward
+pub mod Lines
 mod MorePairsLaw
 mod TwoDatabasesLaws
