@@ -24,15 +24,15 @@ end_from-tokens false n [] = refl
 end_from-tokens true n (w ∷ ws) = end_from-tokens (not (is_close_comment w)) n ws
 end_from-tokens false n (w ∷ ws) = elim (cases_Bool (is_open_comment w)) [
   | inl e ↦ rw e (end_from-tokens true n ws)
-  | inr e ↦ rw e (by (ends_statement w) (eqb n 0))
+  | inr e ↦ rw e (by (ends_statement w) (eqb n 0) (λ m. end_from-tokens false m ws))
 ]
   where
-    by : (a b : Bool)
+    by : (a b : Bool) → ((m : ℕ) → end_from false m ws ≡ end_among m (tokens_where false ws))
         → cond a (cond b (byte_behind w) (end_from false (n - 1) ws)) (end_from false n ws)
         ≡ cond a (cond b (byte_behind w) (end_among (n - 1) (tokens_where false ws))) (end_among n (tokens_where false ws))
-    by true true = refl
-    by true false = end_from-tokens false (n - 1) ws
-    by false b = end_from-tokens false n ws
+    by true true more = refl
+    by true false more = more (n - 1)
+    by false b more = more n
 
 -- ---- in the statements
 
@@ -50,13 +50,14 @@ nothing (suc n) = refl
 end_among-split : (front : Statement) (n : ℕ) (ws : List Word) → end_among n ws ≡ byte_of (slice_index_or (split front ws) n [])
 end_among-split front n [] = nothing n
 end_among-split front n (w ∷ ws) = elim (cases_Bool (ends_statement w)) [
-  | inl e ↦ rw e (here n) ∙ ap (λ (ss : List Statement). byte_of (slice_index_or ss n [])) (sym (split-end front w ws e))
-  | inr e ↦ rw e (end_among-split (front ++ w ∷ []) n ws) ∙ ap (λ (ss : List Statement). byte_of (slice_index_or ss n [])) (sym (split-on front w ws e))
+  | inl e ↦ (rw e (here n (λ m. end_among-split [] m ws))) ∙ ap (λ (ss : List Statement). byte_of (slice_index_or ss n [])) (sym (split-end front w ws e))
+  | inr e ↦ (rw e (end_among-split (front ++ w ∷ []) n ws)) ∙ ap (λ (ss : List Statement). byte_of (slice_index_or ss n [])) (sym (split-on front w ws e))
 ]
   where
-    here : (m : ℕ) → cond (eqb m 0) (byte_behind w) (end_among (m - 1) ws) ≡ byte_of (slice_index_or ((front ++ w ∷ []) ∷ split [] ws) m [])
-    here zero = ap (λ (o : Option Word). option_map_or byte_behind o 0) (sym (last_of None front w))
-    here (suc m) = end_among-split [] m ws
+    here : (m : ℕ) → ((k : ℕ) → end_among k ws ≡ byte_of (slice_index_or (split [] ws) k []))
+        → cond (eqb m 0) (byte_behind w) (end_among (m - 1) ws) ≡ byte_of (slice_index_or ((front ++ w ∷ []) ∷ split [] ws) m [])
+    here zero more = ap (λ (o : Option Word). option_map_or byte_behind o 0) (sym (last_of None front w))
+    here (suc m) more = more m
 
 -- the law
 pub end_is_place_byte : (text : List ℕ) (n : ℕ) → end_from false n (words text) ≡ place_byte (statements text) (suc n)

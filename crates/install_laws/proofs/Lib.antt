@@ -1,4 +1,9 @@
 pub mod Forward
 pub mod Lines
+mod NamesLaw
+mod StatementCuts
+mod StatementsLaw
+mod WordCuts
+pub mod WordLaws
 mod MorePairsLaw
 mod TwoDatabasesLaws

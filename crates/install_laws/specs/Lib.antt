@@ -1,1 +1,3 @@
+pub mod InstalledNames
+pub mod InstalledStatements
 pub mod TwoDatabases

@@ -1,7 +1,21 @@
 //! Laws of a theorem that is put into the text of a database. Each is the contract of a function that does nothing.
 #![tactic(auto)]
 
+ghost use Rattle.install_laws.specs.InstalledNames.{LabelsArePutIn, SymbolsStay};
+ghost use Rattle.install_laws.specs.InstalledStatements.{StatementsArePutIn};
 ghost use Rattle.install_laws.specs.TwoDatabases.{LawOfSamePairs, LawOfMorePairs};
+
+/// The statements of a text with a theorem in it are those before the place, those of the block, and the others.
+pub fn statements_are_put_in()
+    ensures { StatementsArePutIn }
+{}
+
+/// The labels of a text with a theorem in it are those before the place, the new ones, and the others; the symbols have the
+/// numbers that they had.
+pub fn names_are_put_in()
+    ensures labels { LabelsArePutIn }
+    ensures symbols { SymbolsStay }
+{}
 
 /// The stack machine ends alike over two databases where a theorem has the same formula, hypotheses and pairs, and each label
 /// of the proof names the same; with further pairs it accepts what it accepted.
