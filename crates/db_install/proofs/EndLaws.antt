@@ -4,6 +4,7 @@ use Rattle.std.proofs.Common.{Some, None, refl, sym, ap, ◌∙◌, inl, inr, ar
 use Rattle.std.specs.List.{last_or, slice_index_or, slice_range}
 use Rattle.std.specs.Option.{option_map_or}
 use Rattle.std.proofs.lemmas.Bool.{cases_Bool}
+use Rattle.std.proofs.lemmas.Bool.Decides.{nat_tests}
 use Rattle.mm_model.specs.Words.{Word, words, word}
 use Rattle.mm_model.specs.Tokens.{tokens, tokens_where, is_open_comment, is_close_comment}
 use Rattle.mm_model.specs.Statements.{Statement, ends_statement, statements}
@@ -57,7 +58,10 @@ end_among-split front n (w ∷ ws) = elim (cases_Bool (ends_statement w)) [
     here : (m : ℕ) → ((k : ℕ) → end_among k ws ≡ byte_of (slice_index_or (split [] ws) k []))
         → cond (eqb m 0) (byte_behind w) (end_among (m - 1) ws) ≡ byte_of (slice_index_or ((front ++ w ∷ []) ∷ split [] ws) m [])
     here zero more = ap (λ (o : Option Word). option_map_or byte_behind o 0) (sym (last_of None front w))
-    here (suc m) more = more m
+    here (suc m) more =
+        let later : eqb (suc m) 0 ≡ false = grind (arith, nat_tests) in
+        let less : suc m - 1 ≡ m = omega arith in
+        rw (later, less) (more m)
 
 -- the law
 pub end_is_place_byte : (text : List ℕ) (n : ℕ) → end_from false n (words text) ≡ place_byte (statements text) (suc n)

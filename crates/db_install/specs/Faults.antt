@@ -1,5 +1,5 @@
 -- Why a theorem is not put in.
-use Rattle.std.specs.Prelude.{◌≡◌, ◌<◌, ℕ, Unit}
+use Rattle.std.specs.Prelude.{◌≡◌, ◌<◌, ℕ}
 use Rattle.mm_model.specs.Limits.{most_database_bytes}
 use Rattle.db_install.specs.declared.text.InstallFault.{InstallFault}
 use Rattle.db_install.specs.declared.text.InstallFault.TheVariants.{TooLarge, Memory}
