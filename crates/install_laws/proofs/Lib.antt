@@ -1,3 +1,6 @@
+mod ActiveBlock
+mod ActiveLaw
+mod ActiveNames
 pub mod Forward
 pub mod Lines
 mod NamesLaw

@@ -42,7 +42,7 @@ front_len (w ∷ ws) = ap (λ n. cond (is_word w) (1 + n) 0) (front_len ws)
 front_names : (ws : List Word) → names (take_while is_word ws) ≡ take_while is_plain (names ws)
 front_names ws = sym (take-map (λ (w : Word). w.bytes) (prefix_len is_word ws) ws) ∙ ap (λ n. take n (names ws)) (front_len ws)
 
-body_is : (s : Statement) → names (body s) ≡ body_names (names s)
+pub body_is : (s : Statement) → names (body s) ≡ body_names (names s)
 body_is s = sym (drop-map (λ (w : Word). w.bytes) (prefix_len is_word s) s) ∙ ap (λ n. drop n (names s)) (front_len s)
 
 any_names : (ks : List Name) (ws : List Word) → list_any (is_one_of ks) ws ≡ list_any (λ n. list_any (bytes_eq n) ks) (names ws)
@@ -62,7 +62,7 @@ labels_by : (ss : List Statement) → labels ss ≡ flat_map label_names (tokens
 labels_by [] = refl
 labels_by (s ∷ ss) = labels-cons s ss ∙ ap (λ ns. ns ++ labels ss) (front_names s) ∙ ap (λ ns. label_names (names s) ++ ns) (labels_by ss)
 
-plain_is : (n : Name) → HasNoDollar n → is_plain n ≡ true
+pub plain_is : (n : Name) → HasNoDollar n → is_plain n ≡ true
 plain_is n h = ap not h
 
 pairs_have_none : {X : Type 0} (g : List Name → List X) → ((p : Name × Name) → g (pair_statement p) ≡ []) → (ps : List (Name × Name)) → flat_map g (map pair_statement ps) ≡ []

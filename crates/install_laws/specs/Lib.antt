@@ -1,3 +1,4 @@
+pub mod InstalledActive
 pub mod InstalledNames
 pub mod InstalledStatements
 pub mod TwoDatabases

@@ -1,6 +1,7 @@
 //! Laws of a theorem that is put into the text of a database. Each is the contract of a function that does nothing.
 #![tactic(auto)]
 
+ghost use Rattle.install_laws.specs.InstalledActive.{ActiveStaysBefore, ActiveStaysBehind};
 ghost use Rattle.install_laws.specs.InstalledNames.{LabelsArePutIn, SymbolsStay};
 ghost use Rattle.install_laws.specs.InstalledStatements.{StatementsArePutIn};
 ghost use Rattle.install_laws.specs.TwoDatabases.{LawOfSamePairs, LawOfMorePairs};
@@ -15,6 +16,13 @@ pub fn statements_are_put_in()
 pub fn names_are_put_in()
     ensures labels { LabelsArePutIn }
     ensures symbols { SymbolsStay }
+{}
+
+/// What is active at a place of a text stays active in the text with a theorem in it: the same variables, hypotheses and pairs,
+/// by the same numbers. A place behind the block has moved by the statements of the block.
+pub fn active_stays()
+    ensures before { ActiveStaysBefore }
+    ensures behind { ActiveStaysBehind }
 {}
 
 /// The stack machine ends alike over two databases where a theorem has the same formula, hypotheses and pairs, and each label
