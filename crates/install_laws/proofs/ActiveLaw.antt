@@ -41,7 +41,7 @@ same_active syms a b same =
 
 -- ---- the statements of the block, the nearest first
 
-abbrev inner : NewTheorem → List (List Name)
+abbrev pub inner : NewTheorem → List (List Name)
 inner t = map pair_statement t.pairs ++ map hyp_statement t.hyps ++ theorem_statement t ∷ []
 
 block_is : (t : NewTheorem) → block_statements t ≡ (codes "${" ∷ []) ∷ (inner t ++ (codes "$}" ∷ []) ∷ [])
@@ -86,7 +86,7 @@ theorem_opens_nothing : (t : NewTheorem) → IsPlainTheorem t → IsNoBrace (the
 theorem_opens_nothing t p =
     labelled t.name (codes "$p") (t.formula ++ codes "$=" ∷ names (words t.proof) ++ codes "$." ∷ []) (plain_dollar t.name p.name) refl refl refl
 
-inner_opens_nothing : (t : NewTheorem) → IsPlainTheorem t → AllByRecursion IsNoBrace (reverse (inner t))
+pub inner_opens_nothing : (t : NewTheorem) → IsPlainTheorem t → AllByRecursion IsNoBrace (reverse (inner t))
 inner_opens_nothing t p =
     all_reverse IsNoBrace (inner t) (all_append IsNoBrace (map pair_statement t.pairs ++ map hyp_statement t.hyps) (theorem_statement t ∷ [])
     (all_append IsNoBrace (map pair_statement t.pairs) (map hyp_statement t.hyps) (pairs_open_nothing t.pairs) (hyps_open_nothing t.hyps p.hyps)) (theorem_opens_nothing t p, tt))
@@ -97,10 +97,10 @@ module _ (text : List ℕ) (place : ℕ) (t : NewTheorem) (within : place ≤ le
   abbrev old : List (List Name)
   old = tokens_of (statements text)
 
-  new_is : tokens_of (statements (installed text place t)) ≡ take place old ++ block_statements t ++ drop place old
+  pub new_is : tokens_of (statements (installed text place t)) ≡ take place old ++ block_statements t ++ drop place old
   new_is = statements_are_put_in text place t within plain
 
-  same_symbols : symbols (statements (installed text place t)) ≡ symbols (statements text)
+  pub same_symbols : symbols (statements (installed text place t)) ≡ symbols (statements text)
   same_symbols = symbols_stay text place t within plain
 
   counted : length (take place old) ≡ place
@@ -119,7 +119,7 @@ module _ (text : List ℕ) (place : ℕ) (t : NewTheorem) (within : place ≤ le
   old_tokens at = active_is (statements text) at ∙ ap (what_is_active (symbols (statements text))) (below_is (statements text) at)
 
   -- below a place that is not behind the block
-  front : (at : ℕ) → at ≤ place → take at (take place old ++ block_statements t ++ drop place old) ≡ take at old
+  pub front : (at : ℕ) → at ≤ place → take at (take place old ++ block_statements t ++ drop place old) ≡ take at old
   front at l =
       let in_front : at ≤ length (take place old) = omega (arith, l, counted) in
       ap (take at) (append_assoc (take place old) (block_statements t) (drop place old))
@@ -135,7 +135,7 @@ module _ (text : List ℕ) (place : ℕ) (t : NewTheorem) (within : place ≤ le
     abbrev further : List (List Name)
     further = reverse (take more (drop place old))
 
-    new_below : reverse (take (place + length (block_statements t) + more) (take place old ++ block_statements t ++ drop place old))
+    pub new_below : reverse (take (place + length (block_statements t) + more) (take place old ++ block_statements t ++ drop place old))
         ≡ further ++ (((codes "$}" ∷ []) ∷ reverse (inner t) ++ (codes "${" ∷ []) ∷ []) ++ reverse (take place old))
     new_below =
         ap (λ k. reverse (take (k + more) (take place old ++ block_statements t ++ drop place old))) joined
@@ -146,14 +146,14 @@ module _ (text : List ℕ) (place : ℕ) (t : NewTheorem) (within : place ≤ le
         joined : place + length (block_statements t) ≡ length (take place old ++ block_statements t)
         joined = let l = length-append (take place old) (block_statements t) in omega (arith, l, counted)
 
-    old_below : reverse (take (place + more) old) ≡ further ++ reverse (take place old)
+    pub old_below : reverse (take (place + more) old) ≡ further ++ reverse (take place old)
     old_below =
         ap (λ ss. reverse (take (place + more) ss)) (sym (take-append-drop place old))
         ∙ ap (λ k. reverse (take (k + more) (take place old ++ drop place old))) (sym counted)
         ∙ ap reverse (take-append-add (take place old) (drop place old) more)
         ∙ reverse-append (take place old) (take more (drop place old))
 
-    no_path : path_of (reverse (take place old)) ≡ []
+    pub no_path : path_of (reverse (take place old)) ≡ []
     no_path = ap path_of (sym (below_is (statements text) place)) ∙ sym (path_by (below (statements text) place)) ∙ outside
 
     pub behind : active_at (statements (installed text place t)) (place + length (block_statements t) + more) ≡ active_at (statements text) (place + more)

@@ -76,7 +76,7 @@ filter_by f g same (s ∷ ss) =
     by true h = ap (λ xs. names s ∷ xs) h
     by false h = h
 
-kept_by : (k : Name) (e : List Statement) → tokens_of (with_keyword k (active e)) ≡ filter (has_kw k) (active_of (tokens_of e))
+pub kept_by : (k : Name) (e : List Statement) → tokens_of (with_keyword k (active e)) ≡ filter (has_kw k) (active_of (tokens_of e))
 kept_by k e = filter_by (has_keyword k) (has_kw k) (has_kw_by k) (active e) ∙ ap (filter (has_kw k)) (active_by e)
 
 all_symbols : (ss : List Statement) → flat_map symbols_in ss ≡ flat_map symbol_names (tokens_of ss)
@@ -140,7 +140,7 @@ stands_by (d ∷ ds) x y =
     ap (λ ns. (contains ns x && contains ns y) || list_any (λ e. contains (symbols_in e) x && contains (symbols_in e) y) ds) (symbols_by d)
     ∙ ap (λ b. (contains (symbol_names (names d)) x && contains (symbol_names (names d)) y) || b) (stands_by ds x y)
 
-filter_same : {X : Type 0} (f g : X → Bool) → ((x : X) → f x ≡ g x) → (xs : List X) → filter f xs ≡ filter g xs
+pub filter_same : {X : Type 0} (f g : X → Bool) → ((x : X) → f x ≡ g x) → (xs : List X) → filter f xs ≡ filter g xs
 filter_same f g same [] = refl
 filter_same f g same (x ∷ xs) = ap (λ b. cond b (x ∷ filter f xs) (filter f xs)) (same x) ∙ ap (λ ys. cond (g x) (x ∷ ys) ys) (filter_same f g same xs)
 
@@ -191,6 +191,13 @@ filter-reverse f (x ∷ xs) =
     by true = sym (reverse-cons x (filter f xs))
     by false = append-nil (reverse (filter f xs))
 
+pub hyps_kept : (syms : List Name) (f : Statement → Bool) (g : List Name → Bool) → ((s : Statement) → f s ≡ g (names s)) → (e : List Statement)
+    → map (hypothesis_of syms) (filter f (reverse (active e))) ≡ map (hyp_of syms) (reverse (filter g (active_of (tokens_of e))))
+hyps_kept syms f g same e =
+    hyps_by syms (filter f (reverse (active e)))
+    ∙ ap (map (hyp_of syms))
+    (ap tokens_of (filter-reverse f (active e)) ∙ map-reverse names (filter f (active e)) ∙ ap reverse (filter_by f g same (active e) ∙ ap (filter g) (active_by e)))
+
 same_variables : (ss : List Statement) (place : ℕ) → active_variables (symbols ss) (below ss place) ≡ active_variables_of (symbols ss) (tokens_of (below ss place))
 same_variables ss place = ap (λ vs. filter (contains vs) (symbols ss)) (variables_by (below ss place))
 
@@ -211,11 +218,7 @@ active_is ss place =
     vars = active_variables_of (symbols ss) (tokens_of e)
 
     hyps : map (hypothesis_of (symbols ss)) (filter is_hypothesis (reverse (active e))) ≡ map (hyp_of (symbols ss)) (reverse (filter (keyword_is hyp_kw) (active_of (tokens_of e))))
-    hyps =
-        hyps_by (symbols ss) (filter is_hypothesis (reverse (active e)))
-        ∙ ap (map (hyp_of (symbols ss)))
-        (ap tokens_of (filter-reverse is_hypothesis (active e)) ∙ map-reverse names (filter is_hypothesis (active e))
-        ∙ ap reverse (filter_by is_hypothesis (keyword_is hyp_kw) (keyword_by hyp_kw) (active e) ∙ ap (filter (keyword_is hyp_kw)) (active_by e)))
+    hyps = hyps_kept (symbols ss) is_hypothesis (keyword_is hyp_kw) (keyword_by hyp_kw) e
 
     pairs : pairs_with (with_keyword (codes "$d") (active e)) vars ≡ pairs_among (filter (has_kw (codes "$d")) (active_of (tokens_of e))) vars
     pairs = pairs_by (with_keyword (codes "$d") (active e)) vars ∙ ap (λ ds. pairs_among ds vars) (kept_by (codes "$d") e)

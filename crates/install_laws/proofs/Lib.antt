@@ -2,6 +2,8 @@ mod ActiveBlock
 mod ActiveLaw
 mod ActiveNames
 pub mod Forward
+mod FrameLaw
+mod FrameNames
 pub mod Lines
 mod NamesLaw
 mod StatementCuts

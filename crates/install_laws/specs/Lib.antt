@@ -1,4 +1,5 @@
 pub mod InstalledActive
+pub mod InstalledFrames
 pub mod InstalledNames
 pub mod InstalledStatements
 pub mod TwoDatabases

@@ -2,6 +2,7 @@
 #![tactic(auto)]
 
 ghost use Rattle.install_laws.specs.InstalledActive.{ActiveStaysBefore, ActiveStaysBehind};
+ghost use Rattle.install_laws.specs.InstalledFrames.{FramesStayBefore, FramesStayBehind};
 ghost use Rattle.install_laws.specs.InstalledNames.{LabelsArePutIn, SymbolsStay};
 ghost use Rattle.install_laws.specs.InstalledStatements.{StatementsArePutIn};
 ghost use Rattle.install_laws.specs.TwoDatabases.{LawOfSamePairs, LawOfMorePairs};
@@ -23,6 +24,13 @@ pub fn names_are_put_in()
 pub fn active_stays()
     ensures before { ActiveStaysBefore }
     ensures behind { ActiveStaysBehind }
+{}
+
+/// The frame of an assertion of a text is the same in the text with a theorem in it, up to its position where it is behind the
+/// block.
+pub fn frames_stay()
+    ensures before { FramesStayBefore }
+    ensures behind { FramesStayBehind }
 {}
 
 /// The stack machine ends alike over two databases where a theorem has the same formula, hypotheses and pairs, and each label
