@@ -5,6 +5,7 @@ pub mod Forward
 mod FrameLaw
 mod FrameNames
 pub mod Lines
+mod MovedLists
 mod NamesLaw
 mod StatementCuts
 mod StatementsLaw

@@ -1,4 +1,5 @@
 pub mod InstalledActive
+pub mod InstalledDatabase
 pub mod InstalledFrames
 pub mod InstalledNames
 pub mod InstalledStatements
