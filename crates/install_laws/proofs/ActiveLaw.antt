@@ -103,7 +103,7 @@ module _ (text : List ℕ) (place : ℕ) (t : NewTheorem) (within : place ≤ le
   pub same_symbols : symbols (statements (installed text place t)) ≡ symbols (statements text)
   same_symbols = symbols_stay text place t within plain
 
-  counted : length (take place old) ≡ place
+  pub counted : length (take place old) ≡ place
   counted = let all = length-map (statements text) names in let l : place ≤ length old = omega (arith, all, within) in length-take-le place old l
 
   -- what is below a place, by the tokens of all statements

@@ -1,6 +1,7 @@
 mod ActiveBlock
 mod ActiveLaw
 mod ActiveNames
+mod DatabaseLaw
 pub mod Forward
 mod FrameLaw
 mod FrameNames

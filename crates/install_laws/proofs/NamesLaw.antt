@@ -39,7 +39,7 @@ front_len : (ws : List Word) → prefix_len is_word ws ≡ prefix_len is_plain (
 front_len [] = refl
 front_len (w ∷ ws) = ap (λ n. cond (is_word w) (1 + n) 0) (front_len ws)
 
-front_names : (ws : List Word) → names (take_while is_word ws) ≡ take_while is_plain (names ws)
+pub front_names : (ws : List Word) → names (take_while is_word ws) ≡ take_while is_plain (names ws)
 front_names ws = sym (take-map (λ (w : Word). w.bytes) (prefix_len is_word ws) ws) ∙ ap (λ n. take n (names ws)) (front_len ws)
 
 pub body_is : (s : Statement) → names (body s) ≡ body_names (names s)
@@ -58,7 +58,7 @@ symbols_by s = front_names (drop 1 (body s)) ∙ ap (take_while is_plain) (sym (
 
 -- ---- labels
 
-labels_by : (ss : List Statement) → labels ss ≡ flat_map label_names (tokens_of ss)
+pub labels_by : (ss : List Statement) → labels ss ≡ flat_map label_names (tokens_of ss)
 labels_by [] = refl
 labels_by (s ∷ ss) = labels-cons s ss ∙ ap (λ ns. ns ++ labels ss) (front_names s) ∙ ap (λ ns. label_names (names s) ++ ns) (labels_by ss)
 
@@ -94,7 +94,7 @@ hyp_labels (h ∷ hs) p =
 theorem_labels : (t : NewTheorem) → IsPlainTheorem t → label_names (theorem_statement t) ≡ t.name ∷ []
 theorem_labels t p = rw (plain_is t.name (plain_dollar t.name p.name)) refl
 
-block_labels : (t : NewTheorem) → IsPlainTheorem t → flat_map label_names (block_statements t) ≡ new_labels t
+pub block_labels : (t : NewTheorem) → IsPlainTheorem t → flat_map label_names (block_statements t) ≡ new_labels t
 block_labels t p =
     block_by t label_names (λ q. refl) refl refl
     ∙ ap (λ xs. xs ++ label_names (theorem_statement t)) (hyp_labels t.hyps p.hyps)

@@ -2,6 +2,7 @@
 #![tactic(auto)]
 
 ghost use Rattle.install_laws.specs.InstalledActive.{ActiveStaysBefore, ActiveStaysBehind};
+ghost use Rattle.install_laws.specs.InstalledDatabase.{FramesAreMoved};
 ghost use Rattle.install_laws.specs.InstalledFrames.{FramesStayBefore, FramesStayBehind};
 ghost use Rattle.install_laws.specs.InstalledNames.{LabelsArePutIn, SymbolsStay};
 ghost use Rattle.install_laws.specs.InstalledStatements.{StatementsArePutIn};
@@ -31,6 +32,12 @@ pub fn active_stays()
 pub fn frames_stay()
     ensures before { FramesStayBefore }
     ensures behind { FramesStayBehind }
+{}
+
+/// Each label of a text has in the text with a theorem in it the frame that it had, up to its position and the label's number,
+/// where no new label is one of the text.
+pub fn frames_are_moved()
+    ensures { FramesAreMoved }
 {}
 
 /// The stack machine ends alike over two databases where a theorem has the same formula, hypotheses and pairs, and each label
