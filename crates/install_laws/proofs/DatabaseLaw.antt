@@ -153,7 +153,7 @@ module _ (text : List ℕ) (place : ℕ) (t : NewTheorem) (within : place ≤ le
   inside_count : length inside ≡ b
   inside_count = numbers_count place (block_statements t) ∙ ap length (block_labels t plain)
 
-  position_is : (i : ℕ) → slice_get (positions new) (moved a b i) ≡ option_map (moved place m) (slice_get (positions old) i)
+  pub position_is : (i : ℕ) → slice_get (positions new) (moved a b i) ≡ option_map (moved place m) (slice_get (positions old) i)
   position_is i =
       let in_front : 0 + length (take place ts) ≤ place = omega (arith, front_count) in
       let here : place ≤ place = omega arith in
@@ -163,7 +163,7 @@ module _ (text : List ℕ) (place : ℕ) (t : NewTheorem) (within : place ≤ le
       ∙ get_numbers place m low inside high (numbers_low place 0 (take place ts) in_front) (numbers_high place place (drop place ts) here) i
       ∙ ap (λ xs. option_map (moved place m) (slice_get xs i)) (sym old_positions)
 
-  tokens_at : (at : ℕ) → option_map names (slice_get new (moved place m at)) ≡ option_map names (slice_get old at)
+  pub tokens_at : (at : ℕ) → option_map names (slice_get new (moved place m at)) ≡ option_map names (slice_get old at)
   tokens_at at =
       sym (slice_get-map names new (moved place m at))
       ∙ ap (λ xs. slice_get xs (moved place m at)) new_tokens

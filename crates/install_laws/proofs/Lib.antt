@@ -8,6 +8,7 @@ mod FrameNames
 pub mod Lines
 mod MovedLists
 mod NamesLaw
+mod ProofsLaw
 mod StatementCuts
 mod StatementsLaw
 mod WordCuts

@@ -5,6 +5,7 @@ ghost use Rattle.install_laws.specs.InstalledActive.{ActiveStaysBefore, ActiveSt
 ghost use Rattle.install_laws.specs.InstalledDatabase.{FramesAreMoved};
 ghost use Rattle.install_laws.specs.InstalledFrames.{FramesStayBefore, FramesStayBehind};
 ghost use Rattle.install_laws.specs.InstalledNames.{LabelsArePutIn, SymbolsStay};
+ghost use Rattle.install_laws.specs.InstalledProofs.{TheoremsStay, ProofsStay, OldProofsEndAlike};
 ghost use Rattle.install_laws.specs.InstalledStatements.{StatementsArePutIn};
 ghost use Rattle.install_laws.specs.TwoDatabases.{LawOfSamePairs, LawOfMorePairs};
 
@@ -38,6 +39,14 @@ pub fn frames_stay()
 /// where no new label is one of the text.
 pub fn frames_are_moved()
     ensures { FramesAreMoved }
+{}
+
+/// What an assertion of a text has to prove is the same in the text with a theorem in it, but for its position, and so are the
+/// words of its proof; and the stack machine ends as it did on each proof that names no new label.
+pub fn old_proofs_end_alike()
+    ensures theorems { TheoremsStay }
+    ensures words { ProofsStay }
+    ensures ends { OldProofsEndAlike }
 {}
 
 /// The stack machine ends alike over two databases where a theorem has the same formula, hypotheses and pairs, and each label
