@@ -5,6 +5,7 @@ mod DatabaseLaw
 pub mod Forward
 mod FrameLaw
 mod FrameNames
+mod KeptLaw
 pub mod Lines
 mod MovedLists
 mod NamesLaw

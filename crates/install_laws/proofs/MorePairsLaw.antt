@@ -76,12 +76,16 @@ module _ (f g : Sym × Sym → Bool) (fewer : (vw : Sym × Sym) → g vw ≡ tru
 
 -- ---- a theorem with further pairs
 
-abbrev Keeps : {X E : Type 0} → Result X E → Result X E → Type 0
+abbrev pub Keeps : {X E : Type 0} → Result X E → Result X E → Type 0
 Keeps {X} r q = (x : X) → r ≡ Ok x → q ≡ Ok x
 
-and_keeps : {X Y E : Type 0} (f g : X → Result Y E) (r q : Result X E) → Keeps r q → ((x : X) → Keeps (f x) (g x)) → Keeps (and_then f r) (and_then g q)
+pub and_keeps : {X Y E : Type 0} (f g : X → Result Y E) (r q : Result X E) → Keeps r q → ((x : X) → Keeps (f x) (g x)) → Keeps (and_then f r) (and_then g q)
 and_keeps f g (Ok x) q keeps more y e = subst (λ p. and_then g p ≡ Ok y) (sym (keeps x refl)) (more x y e)
 and_keeps f g (Err h) q keeps more y e = absurd (cc)
+
+pub numbered_keeps : (n : ℕ) (r q : Result State MachineFault) → Keeps r q → Keeps (numbered n r) (numbered n q)
+numbered_keeps n (Ok st) q keeps x e = ap (numbered n) (keeps st refl) ∙ e
+numbered_keeps n (Err f) q keeps x e = absurd (cc)
 
 -- the formula in place of what was taken for it
 abbrev put_top : Frame → State → Formula → Result State MachineFault
@@ -170,10 +174,6 @@ module _ (s : Theorem) (pairs : List Pair) (further : (p : Pair) → Contains s.
         and_keeps (λ next. Ok (keep_top a.marked next)) (λ next. Ok (keep_top a.marked next)) (use_what frames s labels a.what st)
         (use_what frames t labels a.what st)
         (what_keeps labels a.what st) (λ next y h. h)
-
-    numbered_keeps : (n : ℕ) (r q : Result State MachineFault) → Keeps r q → Keeps (numbered n r) (numbered n q)
-    numbered_keeps n (Ok st) q keeps x e = ap (numbered n) (keeps st refl) ∙ e
-    numbered_keeps n (Err f) q keeps x e = absurd (cc)
 
     run_keeps : (labels : List Name) (n : ℕ) (ss : List Step) (st : State) → Keeps (run_steps frames s labels n ss st) (run_steps frames t labels n ss st)
     run_keeps labels n [] st = λ x e. e

@@ -44,7 +44,7 @@ get_moved (x ∷ xs) new ys (suc i) = ap (slice_get (x ∷ (xs ++ (new ++ ys))))
 position_here : {X : Type 0} (p : X → Bool) (x : X) (xs : List X) → p x ≡ true → position p (x ∷ xs) ≡ Some 0
 position_here p x xs e = let l : nat_lt 0 (suc (length xs)) ≡ true = grind (arith, nat_tests) in rw e (rw l refl)
 
-position_later : {X : Type 0} (p : X → Bool) (x : X) (xs : List X) → p x ≡ false → position p (x ∷ xs) ≡ option_map suc (position p xs)
+pub position_later : {X : Type 0} (p : X → Bool) (x : X) (xs : List X) → p x ≡ false → position p (x ∷ xs) ≡ option_map suc (position p xs)
 position_later p x xs e =
     let k = position_or_len p xs in
     let n = length xs in

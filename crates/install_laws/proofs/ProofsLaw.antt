@@ -96,6 +96,14 @@ moved_order b k x y = elim (cases_Bool (nat_lt x b)) [
       | inr l ↦ let no : nat_lt (x + k) (y + k) ≡ false = grind (arith, nat_tests, l) in no ∙ sym l
     ]
 
+-- a theorem at another position
+abbrev pub put_at : ℕ → Theorem → Theorem
+put_at k s = record s { at = k }
+
+-- an assertion, if it is before a position, but for where it stands
+abbrev pub before_by : ℕ → Option Frame → Option Frame
+before_by at o = option_and_then (λ (g : Frame). cond (nat_lt g.at at) (Some (unplaced g)) None) o
+
 -- ---- the text
 
 module _ (text : List ℕ) (place : ℕ) (t : NewTheorem) (within : place ≤ length (statements text)) (plain : IsPlainTheorem t) where
@@ -144,14 +152,7 @@ module _ (text : List ℕ) (place : ℕ) (t : NewTheorem) (within : place ≤ le
     pub theorem_stays : (f : Frame) → theorem_of_frame new (moved_frame old place t f) ≡ record (theorem_of_frame old f) { at = moved place m f.at }
     theorem_stays f = ap (theorem_by f (moved place m f.at)) (active_moves f.at)
 
-    -- a theorem at another position
-    abbrev put_at : ℕ → Theorem → Theorem
-    put_at k s = record s { at = k }
-
-    abbrev before_by : ℕ → Option Frame → Option Frame
-    before_by at o = option_and_then (λ (g : Frame). cond (nat_lt g.at at) (Some (unplaced g)) None) o
-
-    before_moves : (at : ℕ) (o : Option Frame) → before_by at o ≡ before_by (moved place m at) (option_map (moved_frame old place t) o)
+    pub before_moves : (at : ℕ) (o : Option Frame) → before_by at o ≡ before_by (moved place m at) (option_map (moved_frame old place t) o)
     before_moves at None = refl
     before_moves at (Some g) = ap (λ c. cond c (Some (unplaced g)) None) (sym (moved_order place m g.at at))
 

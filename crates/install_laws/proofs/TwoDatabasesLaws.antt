@@ -25,11 +25,11 @@ apply_by_parts : (s : Theorem) (f : Frame) (st : State) → apply_frame s f st �
 apply_by_parts s f st = refl
 
 -- an assertion that is there, wherever it stands
-abbrev use_assertion : Theorem → Option Frame → State → Result State MachineFault
+abbrev pub use_assertion : Theorem → Option Frame → State → Result State MachineFault
 use_assertion s None st = Err not_earlier
 use_assertion s (Some f) st = apply_frame s f st
 
-use_before : (frames : Frames) (s : Theorem) (name : Name) (st : State) → use_frame frames s (frames name) st ≡ use_assertion s (assertion_before frames s name) st
+pub use_before : (frames : Frames) (s : Theorem) (name : Name) (st : State) → use_frame frames s (frames name) st ≡ use_assertion s (assertion_before frames s name) st
 use_before frames s name st = by (frames name)
   where
     tested : (f : Frame) (b : Bool) → (if b then apply_frame s f st else Err not_earlier) ≡ use_assertion s (if b then Some (unplaced f) else None) st

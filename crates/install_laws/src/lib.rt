@@ -5,7 +5,7 @@ ghost use Rattle.install_laws.specs.InstalledActive.{ActiveStaysBefore, ActiveSt
 ghost use Rattle.install_laws.specs.InstalledDatabase.{FramesAreMoved};
 ghost use Rattle.install_laws.specs.InstalledFrames.{FramesStayBefore, FramesStayBehind};
 ghost use Rattle.install_laws.specs.InstalledNames.{LabelsArePutIn, SymbolsStay};
-ghost use Rattle.install_laws.specs.InstalledProofs.{TheoremsStay, ProofsStay, OldProofsEndAlike};
+ghost use Rattle.install_laws.specs.InstalledProofs.{TheoremsStay, ProofsStay, OldProofsEndAlike, OldProofsStayAccepted};
 ghost use Rattle.install_laws.specs.InstalledStatements.{StatementsArePutIn};
 ghost use Rattle.install_laws.specs.TwoDatabases.{LawOfSamePairs, LawOfMorePairs};
 
@@ -47,6 +47,12 @@ pub fn old_proofs_end_alike()
     ensures theorems { TheoremsStay }
     ensures words { ProofsStay }
     ensures ends { OldProofsEndAlike }
+{}
+
+/// The stack machine accepts in the text with a theorem in it each proof of an assertion of the text that it accepted before,
+/// where no new label is one of the text.
+pub fn old_proofs_stay_accepted()
+    ensures { OldProofsStayAccepted }
 {}
 
 /// The stack machine ends alike over two databases where a theorem has the same formula, hypotheses and pairs, and each label
