@@ -3,38 +3,8 @@ use install_model::NewTheorem;
 use mm_base::{List, Memory, Name};
 use std::alloc::Global;
 
-// Implication and modus ponens: 14 statements.
-const IMPLICATION: &[u8] = b"$c ( ) -> -. wff |- $.
-$v ph ps ch $.
-wph $f wff ph $.
-wps $f wff ps $.
-wch $f wff ch $.
-wn $a wff -. ph $.
-wi $a wff ( ph -> ps ) $.
-${
-  min $e |- ph $.
-  maj $e |- ( ph -> ps ) $.
-  ax-mp $a |- ps $.
-$}
-ax-1 $a |- ( ph -> ( ps -> ph ) ) $.
-ax-2 $a |- ( ( ph -> ( ps -> ch ) ) -> ( ( ph -> ps ) -> ( ph -> ch ) ) ) $.
-";
-
-// The same with a theorem behind its last statement.
-const WITH_MODUS_PONENS: &[u8] = b"$c ( ) -> -. wff |- $.
-$v ph ps ch $.
-wph $f wff ph $.
-wps $f wff ps $.
-wch $f wff ch $.
-wn $a wff -. ph $.
-wi $a wff ( ph -> ps ) $.
-${
-  min $e |- ph $.
-  maj $e |- ( ph -> ps ) $.
-  ax-mp $a |- ps $.
-$}
-ax-1 $a |- ( ph -> ( ps -> ph ) ) $.
-ax-2 $a |- ( ( ph -> ( ps -> ch ) ) -> ( ( ph -> ps ) -> ( ph -> ch ) ) ) $.
+// The lines stand before the LF behind the last statement.
+const WITH_HYPOTHESES: &[u8] = b"ax $a |- ph $.
 ${
 r.1 $e |- ph $.
 r.2 $e |- ( ph -> ps ) $.
@@ -128,10 +98,10 @@ fn puts_theorems_in(rt: HostRuntime) {
     assert!(rt;
         becomes(
             alloc,
-            IMPLICATION,
-            14,
+            b"ax $a |- ph $.\n",
+            1,
             modus_ponens(alloc),
-            WITH_MODUS_PONENS
+            WITH_HYPOTHESES
         )
     );
 }
