@@ -8,7 +8,7 @@ use Rattle.std.proofs.lemmas.Bool.{cases_Bool}
 use Rattle.std.proofs.lemmas.Bool.Decides.{nat_tests}
 use Rattle.std.proofs.lemmas.List.{length-map}
 use Rattle.mm_model.specs.Names.{Name}
-use Rattle.mm_model.proofs.Scopes.{cond_then, cond_else, ends_with-longer}
+use Rattle.mm_model.proofs.Scopes.{cond_else, ends_with-longer}
 use Rattle.install_laws.proofs.ActiveNames.{has_kw, path_of, on_path, active_of}
 
 -- neither `${` nor `$}`

@@ -1,5 +1,5 @@
 -- What is active in a text with a theorem in it.
-use Rattle.std.proofs.Common.{◌≡◌, ◌≤◌, ℕ, suc, ◌+◌, ◌==◌, Bool, true, false, not, List, [], ◌∷◌, ◌++◌, length, take, drop, map, reverse}
+use Rattle.std.proofs.Common.{◌≡◌, ◌≤◌, ℕ, ◌+◌, ◌==◌, Bool, true, false, not, List, [], ◌∷◌, ◌++◌, length, take, drop, map, reverse}
 use Rattle.std.proofs.Common.{refl, sym, ap, ◌∙◌, codes, arith, subst, append_assoc, flat_map, length-append}
 use Rattle.std.specs.Prelude.{filter}
 use Rattle.std.specs.List.{AllByRecursion, list_any}
@@ -8,7 +8,7 @@ use Rattle.std.proofs.lemmas.List.{reverse-append, take-append-le, take-append-d
 use Rattle.mm_model.specs.declared.frames.Active.{Active}
 use Rattle.mm_model.specs.Names.{Name}
 use Rattle.mm_model.specs.Words.{words}
-use Rattle.mm_model.specs.Statements.{Statement, statements, contains}
+use Rattle.mm_model.specs.Statements.{statements, contains}
 use Rattle.mm_model.specs.Frames.{symbols, symbol_in, below, pair_of, active_at}
 use Rattle.model_laws.proofs.Checked.{reverse-cons}
 use Rattle.install_model.specs.declared.install.NewTheorem.{NewTheorem}
@@ -18,8 +18,8 @@ use Rattle.install_laws.specs.InstalledActive.{IsOutside, ActiveStaysBefore, Act
 use Rattle.install_laws.proofs.WordLaws.{plain_dollar}
 use Rattle.install_laws.proofs.StatementsLaw.{statements_are_put_in}
 use Rattle.install_laws.proofs.NamesLaw.{keyword_is, symbol_names, symbols_stay, plain_is}
-use Rattle.install_laws.proofs.ActiveNames.{has_kw, path_of, active_of, path_by, what_is_active, active_is, below_is, variables_of}
-use Rattle.install_laws.proofs.ActiveNames.{active_variables_of, hyp_of, pairs_among, hyp_kw}
+use Rattle.install_laws.proofs.ActiveNames.{has_kw, path_of, active_of, path_by, what_is_active, active_is, below_is}
+use Rattle.install_laws.proofs.ActiveNames.{hyp_of, pairs_among, hyp_kw}
 use Rattle.install_laws.proofs.ActiveBlock.{IsNoBrace, kept_behind}
 
 -- ---- what is active by the statements of three kinds

@@ -1,7 +1,7 @@
 -- What is active, by the bytes of tokens.
-use Rattle.std.proofs.Common.{◌≡◌, ℕ, zero, suc, ◌+◌, Bool, true, false, not, cond, ◌||◌, ◌&&◌, List, [], ◌∷◌, ◌++◌, length, take, drop}
+use Rattle.std.proofs.Common.{◌≡◌, ℕ, suc, ◌+◌, Bool, true, false, cond, ◌||◌, ◌&&◌, List, [], ◌∷◌, ◌++◌, length, take, drop}
 use Rattle.std.proofs.Common.{map, flat_map, reverse, refl, sym, ap, ◌∙◌, codes, nat_eq, arith, inl, inr, append-nil}
-use Rattle.std.specs.Prelude.{filter, take_while}
+use Rattle.std.specs.Prelude.{filter}
 use Rattle.std.specs.List.{list_any, prefix_len, ends_with, take-map}
 use Rattle.std.specs.Str.{bytes_eq}
 use Rattle.std.proofs.lemmas.Bool.{cases_Bool}
@@ -13,10 +13,10 @@ use Rattle.mm_model.specs.declared.frames.Active.{Active}
 use Rattle.mm_model.specs.Names.{Name}
 use Rattle.mm_model.specs.Words.{Word}
 use Rattle.mm_model.specs.Statements.{Statement, body, is, is_word, has_keyword, symbols_in, path, active_on, active, with_keyword, variables, contains}
-use Rattle.mm_model.specs.Frames.{symbols, symbol_in, below, label_in, is_hypothesis, formula_of, hypothesis_of, active_variables, pairs_with, pair_of, active_pairs, active_at}
+use Rattle.mm_model.specs.Frames.{symbols, symbol_in, below, label_in, is_hypothesis, hypothesis_of, active_variables, pairs_with, pair_of, active_at}
 use Rattle.model_laws.proofs.Checked.{reverse-cons}
 use Rattle.install_laws.specs.InstalledStatements.{names, tokens_of}
-use Rattle.install_laws.proofs.NamesLaw.{is_plain, label_names, body_names, keyword_is, symbol_names, body_is, keyword_by, symbols_by}
+use Rattle.install_laws.proofs.NamesLaw.{is_plain, body_names, keyword_is, symbol_names, body_is, keyword_by, symbols_by}
 
 -- ---- keywords
 

@@ -1,6 +1,6 @@
 -- Each old label has the frame that it had, up to its position and its label's number.
-use Rattle.std.proofs.Common.{◌≡◌, ◌≤◌, ◌<◌, ℕ, zero, suc, ◌+◌, ◌-◌, Bool, true, false, cond, List, [], ◌∷◌, ◌++◌, length, take, drop, map}
-use Rattle.std.proofs.Common.{flat_map, Option, Some, None, option_map, refl, sym, ap, ◌∙◌, arith, inl, inr, subst, codes, append_assoc}
+use Rattle.std.proofs.Common.{◌≡◌, ◌≤◌, ◌<◌, ℕ, suc, ◌+◌, ◌-◌, Bool, true, false, cond, List, [], ◌∷◌, ◌++◌, length, take, drop, map}
+use Rattle.std.proofs.Common.{flat_map, Option, Some, None, option_map, refl, sym, ap, ◌∙◌, arith, inl, inr, codes, append_assoc}
 use Rattle.std.proofs.Common.{length-append}
 use Rattle.std.specs.Prelude.{nat_lt, position, slice_get, option_and_then}
 use Rattle.std.specs.List.{AllByRecursion, take-map, drop-map}
@@ -22,7 +22,7 @@ use Rattle.install_model.specs.Installed.{installed}
 use Rattle.install_laws.specs.InstalledStatements.{names, tokens_of, IsPlainTheorem, block_statements}
 use Rattle.install_laws.specs.InstalledNames.{new_labels}
 use Rattle.install_laws.specs.InstalledActive.{IsOutside}
-use Rattle.install_laws.specs.InstalledDatabase.{labels_before, moved, moved_frame, HasNewLabels, FramesAreMoved}
+use Rattle.install_laws.specs.InstalledDatabase.{labels_before, moved, moved_frame, FramesAreMoved}
 use Rattle.install_laws.proofs.ActiveLaw.{new_is, counted}
 use Rattle.install_laws.proofs.FrameLaw.{frames_stay_before, frames_stay_behind}
 use Rattle.install_laws.proofs.MovedLists.{moved_low, moved_high, get_moved, position_moved, get_numbers}

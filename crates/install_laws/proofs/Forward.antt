@@ -1,5 +1,5 @@
 -- The statements of a text from its front.
-use Rattle.std.proofs.Common.{◌≡◌, ℕ, true, false, append-nil, List, [], ◌∷◌, ◌++◌, cond, reverse, refl, sym, ap, ◌∙◌, append_assoc, inl, inr}
+use Rattle.std.proofs.Common.{◌≡◌, ℕ, true, false, append-nil, List, [], ◌∷◌, ◌++◌, cond, reverse, sym, ap, ◌∙◌, append_assoc, inl, inr}
 use mathlib.Core.List.{reverse_aux}
 use Rattle.std.proofs.lemmas.Bool.{cases_Bool}
 use Rattle.mm_model.specs.Words.{Word}

@@ -1,5 +1,5 @@
 -- A proof that was accepted is accepted where each assertion that was before its theorem still is.
-use Rattle.std.proofs.Common.{◌≡◌, ◌≤◌, ℕ, suc, ◌+◌, Bool, true, false, ◌||◌, List, [], ◌∷◌, length, Option, Some, None, option_map, Result, Ok}
+use Rattle.std.proofs.Common.{◌≡◌, ◌≤◌, ℕ, suc, Bool, true, false, List, [], ◌∷◌, length, Option, Some, None, option_map, Result, Ok}
 use Rattle.std.proofs.Common.{Err, refl, sym, ap, ◌∙◌, subst, inl, inr}
 use Rattle.std.specs.Prelude.{find, position, slice_index_or}
 use Rattle.std.specs.List.{list_any}
@@ -17,11 +17,11 @@ use Rattle.proof_model.specs.declared.code.What.TheVariants as what
 use Rattle.proof_model.specs.declared.theorem.Theorem.{Theorem}
 use Rattle.proof_model.specs.DatabaseProofs.{frames_of_database, theorem_of_frame}
 use Rattle.proof_model.specs.Machine.{Frames, MachineFault, State, start, use_frame, use_hyp, use_label, use_what, use_step, numbered}
-use Rattle.proof_model.specs.Machine.{run_steps, ended_fault, proof_fault, and_then, keep_top}
+use Rattle.proof_model.specs.Machine.{run_steps, ended_fault, proof_fault, keep_top}
 use Rattle.std.specs.Option.{option_and_then}
 use Rattle.install_model.specs.declared.install.NewTheorem.{NewTheorem}
 use Rattle.install_model.specs.Installed.{installed}
-use Rattle.install_laws.specs.TwoDatabases.{unplaced, assertion_before}
+use Rattle.install_laws.specs.TwoDatabases.{assertion_before}
 use Rattle.install_laws.specs.InstalledStatements.{IsPlainTheorem, block_statements}
 use Rattle.install_laws.specs.InstalledActive.{IsOutside}
 use Rattle.install_laws.specs.InstalledDatabase.{moved, moved_frame, HasNewLabels}

@@ -1,15 +1,15 @@
 -- The labels and the symbols of a text with a theorem in it.
-use Rattle.std.proofs.Common.{◌≡◌, ℕ, zero, suc, ◌+◌, Bool, true, false, not, cond, ◌||◌, ◌==◌, append-nil, arith, List, [], ◌∷◌, ◌++◌, length}
-use Rattle.std.proofs.Common.{take, drop, map, flat_map, refl, sym, ap, ◌∙◌, codes, append_assoc}
+use Rattle.std.proofs.Common.{◌≡◌, suc, ◌+◌, Bool, true, false, not, cond, ◌||◌, ◌==◌, append-nil, arith, List, [], ◌∷◌, ◌++◌}
+use Rattle.std.proofs.Common.{take, drop, map, flat_map, refl, sym, ap, ◌∙◌, codes}
 use Rattle.std.specs.Prelude.{filter, take_while}
 use Rattle.std.specs.List.{list_any, prefix_len, AllByRecursion, take-map, drop-map}
 use Rattle.std.specs.Str.{bytes_eq}
 use Rattle.std.proofs.lemmas.Grind.{flat_map-append}
-use Rattle.std.proofs.lemmas.List.{map-append, take-append-drop}
+use Rattle.std.proofs.lemmas.List.{take-append-drop}
 use Rattle.mm_model.specs.Names.{Name}
 use Rattle.mm_model.specs.Words.{Word, words}
-use Rattle.mm_model.specs.Statements.{Statement, is_one_of, is_word, labels_in, body, has_one_of, symbols_in, labels, statements}
-use Rattle.mm_model.specs.Frames.{without_repeats, symbols}
+use Rattle.mm_model.specs.Statements.{Statement, is_one_of, is_word, body, has_one_of, symbols_in, labels, statements}
+use Rattle.mm_model.specs.Frames.{without_repeats}
 use Rattle.mm_model.proofs.Lists.{labels-cons}
 use Rattle.install_model.specs.declared.install.NewTheorem.{NewTheorem}
 use Rattle.install_model.specs.Installed.{installed}

@@ -1,5 +1,5 @@
 -- The theorems and the proofs of a text with a theorem in it.
-use Rattle.std.proofs.Common.{◌≡◌, ◌≤◌, ◌<◌, ℕ, suc, ◌+◌, ◌-◌, Bool, true, false, not, cond, ◌||◌, List, [], ◌∷◌, length, take, drop, map}
+use Rattle.std.proofs.Common.{◌≡◌, ◌≤◌, ◌<◌, ℕ, ◌+◌, ◌-◌, true, false, not, cond, List, [], ◌∷◌, length, take, drop, map}
 use Rattle.std.proofs.Common.{Option, Some, None, option_map, refl, sym, ap, ◌∙◌, arith, inl, inr, codes, Contains}
 use Rattle.std.specs.Prelude.{nat_lt, slice_get, option_and_then}
 use Rattle.std.specs.List.{AllByRecursion, list_any, position_or_len, before_first, after_first, take-map, drop-map}
@@ -19,7 +19,7 @@ use Rattle.proof_model.specs.DatabaseProofs.{frames_of_database, theorem_of_fram
 use Rattle.proof_model.specs.Machine.{proof_fault}
 use Rattle.install_model.specs.declared.install.NewTheorem.{NewTheorem}
 use Rattle.install_model.specs.Installed.{installed}
-use Rattle.install_laws.specs.TwoDatabases.{labels_named, unplaced, assertion_before}
+use Rattle.install_laws.specs.TwoDatabases.{labels_named, unplaced}
 use Rattle.install_laws.specs.InstalledStatements.{names, IsPlainTheorem, block_statements}
 use Rattle.install_laws.specs.InstalledNames.{new_labels}
 use Rattle.install_laws.specs.InstalledActive.{IsOutside}

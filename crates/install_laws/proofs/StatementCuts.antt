@@ -1,5 +1,5 @@
 -- The words of a text are cut behind one of its statements.
-use Rattle.std.proofs.Common.{◌≡◌, ◌<◌, ◌≤◌, ℕ, zero, suc, ◌+◌, Bool, true, false, not, cond, eqb, Option, Some, None, List, [], ◌∷◌, ◌++◌}
+use Rattle.std.proofs.Common.{◌≡◌, ◌<◌, ℕ, zero, suc, Bool, true, false, not, cond, eqb, Option, Some, None, List, [], ◌∷◌, ◌++◌}
 use Rattle.std.proofs.Common.{length, take, drop, refl, sym, ap, ◌∙◌, subst, arith, inl, inr, codes, append_assoc, append-nil}
 use Rattle.std.specs.List.{list_any, last_or, slice_index_or, AllByRecursion}
 use Rattle.std.specs.Option.{option_map_or}
@@ -8,7 +8,7 @@ use Rattle.std.proofs.lemmas.Bool.{cases_Bool}
 use Rattle.std.proofs.lemmas.List.{map-append}
 use Rattle.std.proofs.lemmas.Slice.Eq.{bytes_eq-Decides}
 use Rattle.mm_model.specs.Names.{Name}
-use Rattle.mm_model.specs.Words.{Word, word, words}
+use Rattle.mm_model.specs.Words.{Word, words}
 use Rattle.mm_model.specs.Tokens.{tokens, tokens_where, is_open_comment, is_close_comment}
 use Rattle.mm_model.specs.Statements.{Statement, ends_statement, statements}
 use Rattle.mm_model.proofs.Scopes.{cond_then, cond_else}

@@ -1,12 +1,12 @@
 -- The statements of a text with a theorem in it are those before the place, those of the block, and the others.
 use Rattle.std.proofs.Common.{◌≡◌, ◌<◌, ◌≤◌, ℕ, zero, suc, ◌+◌, false, List, [], ◌∷◌, ◌++◌, length, take, drop, map, flat_map, refl, sym, ap, ◌∙◌}
-use Rattle.std.proofs.Common.{subst, arith, codes, append_assoc, None, length-append}
+use Rattle.std.proofs.Common.{arith, codes, append_assoc, None, length-append}
 use Rattle.std.specs.List.{AllByRecursion, slice_index_or, last_or, drop-map}
 use Rattle.std.specs.Option.{option_map_or}
 use Rattle.std.proofs.Math.Seq.{take-append_seam}
 use Rattle.std.proofs.lemmas.List.{take-append-drop, length-map, length-take-le}
 use Rattle.mm_model.specs.Names.{Name}
-use Rattle.mm_model.specs.Words.{Word, word, words, words_from}
+use Rattle.mm_model.specs.Words.{Word, words}
 use Rattle.mm_model.specs.Tokens.{tokens}
 use Rattle.mm_model.specs.Statements.{Statement, statements}
 use Rattle.sheet_text.specs.Layout.{ended}
@@ -16,10 +16,10 @@ use Rattle.install_laws.specs.InstalledStatements.{names, tokens_of, HasNoDollar
 use Rattle.install_laws.specs.InstalledStatements.{theorem_statement, block_statements, StatementsArePutIn}
 use Rattle.install_laws.proofs.Forward.{split, statements_forward}
 use Rattle.install_laws.proofs.Lines.{behind, pair_is, hyp_is, theorem_is, block_is}
-use Rattle.install_laws.proofs.WordLaws.{EndsWord, names_in, names_join, names_from, names_white, names_token, names_next, names_behind}
+use Rattle.install_laws.proofs.WordLaws.{names_in, names_join, names_from, names_white, names_token, names_next, names_behind}
 use Rattle.install_laws.proofs.WordLaws.{names_dollar, behind_ends, plain_token, plain_dollar}
-use Rattle.install_laws.proofs.WordCuts.{Cut, cut, word_at}
-use Rattle.install_laws.proofs.StatementCuts.{statements_among, statements_are, IsCut, cut_behind, plain_run}
+use Rattle.install_laws.proofs.WordCuts.{Cut, cut}
+use Rattle.install_laws.proofs.StatementCuts.{statements_among, statements_are, cut_behind, plain_run}
 
 -- ---- the lines of the block; behind each is more text
 
