@@ -1,17 +1,16 @@
 -- The byte behind the statement before a place is found from word to word.
-use Rattle.std.proofs.Common.{◌≡◌, ℕ, zero, suc, ◌+◌, ◌-◌, ◌≤◌, Bool, true, false, not, cond, eqb, List, [], ◌∷◌, ◌++◌, length, Option}
+use Rattle.std.proofs.Common.{◌≡◌, ℕ, zero, suc, ◌-◌, Bool, true, false, not, cond, eqb, List, [], ◌∷◌, ◌++◌, Option}
 use Rattle.std.proofs.Common.{Some, None, refl, sym, ap, ◌∙◌, inl, inr, arith}
-use Rattle.std.specs.List.{last_or, slice_index_or, slice_range}
+use Rattle.std.specs.List.{last_or, slice_index_or}
 use Rattle.std.specs.Option.{option_map_or}
 use Rattle.std.proofs.lemmas.Bool.{cases_Bool}
 use Rattle.std.proofs.lemmas.Bool.Decides.{nat_tests}
-use Rattle.mm_model.specs.Words.{Word, words, word}
+use Rattle.mm_model.specs.Words.{Word, words}
 use Rattle.mm_model.specs.Tokens.{tokens, tokens_where, is_open_comment, is_close_comment}
 use Rattle.mm_model.specs.Statements.{Statement, ends_statement, statements}
-use Rattle.mm_model.proofs.Scopes.{cond_then, cond_else}
 use Rattle.install_model.specs.Installed.{byte_behind, place_byte}
 use Rattle.install_laws.proofs.Forward.{split, split-end, split-on, statements_forward}
-use Rattle.db_install.specs.Ends.{is_end, end_from}
+use Rattle.db_install.specs.Ends.{end_from}
 
 -- ---- among the tokens
 

@@ -62,7 +62,8 @@ pub byte : place_byte (statements short) 5 ≡ 59
 byte = refl
 
 pub within : installed short 5 t
-    ≡ codes "$c |- w $. $v p q $. wp $f w p $. wq $f w q $. a $a |- p $." ++ 10 ∷ flat_map ended (codes "${" ∷ codes "$d p q $." ∷ codes "t.1 $e |- q $." ∷ codes "t $p |- p $= wp a $." ∷ codes "$}" ∷ [])
+    ≡ codes "$c |- w $. $v p q $. wp $f w p $. wq $f w q $. a $a |- p $."
+    ++ 10 ∷ flat_map ended (codes "${" ∷ codes "$d p q $." ∷ codes "t.1 $e |- q $." ∷ codes "t $p |- p $= wp a $." ∷ codes "$}" ∷ [])
     ++ codes " $( none $) b $p |- q $= wq a $."
 within = refl
 

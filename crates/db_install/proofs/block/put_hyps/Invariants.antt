@@ -1,4 +1,4 @@
-use Rattle.std.proofs.Common.{◌≡◌, ◌∷◌, ◌++◌, take, flat_map}
+use Rattle.std.proofs.Common.{◌≡◌, ◌++◌, take, flat_map}
 use Rattle.sheet_text.specs.Layout.{ended}
 use Rattle.install_model.specs.Installed.{hyp_line}
 use Rattle.db_install.proofs.block.put_hyps.Given as goal

@@ -1,4 +1,4 @@
-use Rattle.std.proofs.Common.{◌≡◌, ◌+◌, ◌-◌, ℕ, suc, subst, ◌∙◌, arith}
+use Rattle.std.proofs.Common.{◌≡◌, ◌-◌, ℕ, suc, subst, ◌∙◌, arith}
 use Rattle.mm_model.specs.Statements.{statements}
 use Rattle.install_model.specs.Installed.{place_byte}
 use Rattle.db_install.proofs.EndLaws.{end_is_place_byte}
