@@ -94,6 +94,10 @@ ORDER = [
     ("export_model", "Proofs of a database as worksheets.", [
         ("Exported", "the worksheet of an accepted proof", ""),
     ]),
+    ("install_model", "A worksheet's theorem put into the text of a database.", [
+        ("Installed", "where a theorem goes, and the text with it", ""),
+        ("InstallAnswers", "the answer to a worksheet whose theorem is to be put in", ""),
+    ]),
     ("call_answers", "What a call of the program answers.", [
         ("CommandLine", "the words of the command line", "FORMAT, Command words"),
         ("Verified", "what `verify` says of a label", "FORMAT, The proof code, The stack machine"),
@@ -104,7 +108,7 @@ ORDER = [
     ]),
 ]
 
-LAWS = ["model_laws", "theorem_laws", "proof_laws", "solve_laws", "sheet_laws", "chain_laws", "again_laws", "answer_laws", "push_laws", "writing_laws", "headline_laws", "phase_laws", "filling_laws", "whole_laws"]
+LAWS = ["model_laws", "theorem_laws", "proof_laws", "solve_laws", "sheet_laws", "chain_laws", "again_laws", "answer_laws", "push_laws", "writing_laws", "headline_laws", "phase_laws", "filling_laws", "whole_laws", "install_laws"]
 
 # The statements that no contract names, by crate and file.
 STATED = []

@@ -1,0 +1,4 @@
+pub mod Installed
+pub mod InstalledExamples
+pub mod InstallAnswers
+pub mod InstallAnswersExamples
