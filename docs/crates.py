@@ -17,10 +17,10 @@ TOP = os.path.join(HERE, "..")
 LAYERS = [
     ("Base", ["mm_base"]),
     ("Definitions", ["mm_model", "sheet_text", "proof_model", "solve_model", "fault_lines", "trial_texts", "written_model",
-                     "call_answers"]),
-    ("Laws of the definitions", ["model_laws", "theorem_laws", "proof_laws", "solve_laws", "sheet_laws"]),
+                     "export_model", "install_model", "call_answers"]),
+    ("Laws of the definitions", ["model_laws", "theorem_laws", "proof_laws", "solve_laws", "sheet_laws", "install_laws"]),
     ("Readers of databases", ["mm_tokens", "names", "number_set", "frame_lists", "mm_frames"]),
-    ("Proofs of a database", ["compressed_proof", "stack_verify"]),
+    ("Proofs of a database", ["compressed_proof", "stack_verify", "db_install"]),
     ("Formulas", ["syntax_grammar", "formula_parse", "mm_database"]),
     ("Text of worksheets", ["sheet_read", "sheet_print"]),
     ("Small calls under the worksheet", ["work_vars", "pair_set", "distinct_vars", "hyp_order", "hyp_derive"]),
@@ -32,7 +32,7 @@ LAYERS = [
                                                   "step_report", "sheet_writing", "proof_tree", "sheet_proof", "phase_laws",
                                                   "filling_laws"]),
     ("The program", ["sheet_unify", "sheet_gen", "mmp_run", "mmp"]),
-    ("Tests", ["database_tests", "sheet_tests", "step_tests", "mmp_tests", "failure_tests"]),
+    ("Tests", ["database_tests", "sheet_tests", "step_tests", "mmp_tests", "failure_tests", "install_tests"]),
 ]
 
 HEAD = """# Crates
