@@ -1,6 +1,6 @@
 -- Why a theorem is not put in.
 use Rattle.std.specs.Prelude.{◌≡◌, ◌<◌, ℕ}
-use Rattle.mm_model.specs.Limits.{most_database_bytes}
+use Rattle.mm_base.specs.Limits.{most_database_bytes}
 use Rattle.db_install.specs.declared.text.InstallFault.{InstallFault}
 use Rattle.db_install.specs.declared.text.InstallFault.TheVariants.{TooLarge, Memory}
 

@@ -1,7 +1,7 @@
 //! The text of a database with a theorem in it.
 
 ghost use Rattle.std.specs.Prelude.{◌≡◌, ◌++◌, ◌≤◌, take, drop, length, IfOk, IfErr};
-ghost use Rattle.mm_model.specs.Limits.{most_database_bytes};
+ghost use Rattle.mm_base.specs.Limits.{most_database_bytes};
 ghost use Rattle.install_model.specs.Installed.{installed};
 ghost use Rattle.db_install.specs.Faults.{IsLarge};
 

@@ -4,7 +4,7 @@ use Rattle.fault_lines.specs.FaultLines.{sheet_error}
 use Rattle.fault_lines.specs.Refusals.{Refusal}
 use Rattle.install_model.specs.Installed.{installed_text}
 use Rattle.mm_model.specs.Book.{Database}
-use Rattle.mm_model.specs.Limits.{most_database_bytes}
+use Rattle.mm_base.specs.Limits.{most_database_bytes}
 use Rattle.written_model.specs.declared.options.Options.{Options}
 use Rattle.written_model.specs.Written.{Writing, Answers, refused, wrote}
 
