@@ -1,5 +1,5 @@
 #!/usr/bin/env python3
-"""Measures what `mmp` takes for inputs that are large, deep or made to hurt, each at sizes n, 2n and 4n.
+"""Measures what `mmp` takes for inputs that are large, deep or made to hurt, each at three sizes, mostly n, 2n and 4n.
 
     bench/hostile.py PROGRAM [WORD ..]      PROGRAM: the built mmp; WORD: only the kinds whose name has one of these words
         --seconds S     the processor seconds of one run, else 60; a run that needs more is told as `over`
@@ -7,8 +7,8 @@
         --scale K       all sizes times K, else 1
         --table         rows of a table for docs/LIMITS.md
 
-A kind is one database, with a theorem `x` or a worksheet or both. A row tells the size n, the processor time, its ratio to the time
-of n / 2, the greatest memory, the status, and the first line of what was told. The stack has 8 MB; a status of -11 means that it ran out.
+A kind is one database, with a theorem `x` or a worksheet or both. A row tells the size, the processor time, its ratio to the time
+of the size before, the greatest memory, the status, and the first line of what was told. The stack has 8 MB; a status of -11 means that it ran out.
 Times are of one run, so that short ones are noise.
 """
 import argparse, os, re, resource, shutil, subprocess, sys, tempfile
@@ -136,7 +136,7 @@ def distinct_outside(n):
     return P + "$d ph ps $.\n" * n + "".join(f"l{k} $a |- -. ph $.\n" for k in range(n)) + X, SMALL
 
 
-@kind("`$d` of two of n variables each, all pairs apart, and one assertion with two", 10_000, 20_000, 40_000)
+@kind("`$d` of two of n variables each, all pairs apart, and an assertion without them", 10_000, 20_000, 40_000)
 def distinct_apart(n):
     names = [f"v{k}" for k in range(n)]
     pairs = "".join(f"$d v{k} v{(7 * k + 1) % n} $.\n" for k in range(n) if k != (7 * k + 1) % n)
@@ -538,9 +538,14 @@ def words_for(program, make, n, folder):
     # in a process of its own: what is started from a large one counts the memory of that one
     maker = os.fork()
     if maker == 0:
-        write_files(make, n, folder)
-        os._exit(0)
-    os.waitpid(maker, 0)
+        ended = 1
+        try:
+            write_files(make, n, folder)
+            ended = 0
+        finally:
+            os._exit(ended)
+    if os.waitpid(maker, 0)[1]:
+        sys.exit(f"{make.__name__}: its files could not be made")
     path, text = f"{folder}/d.mm", f"{folder}/s.mmp"
     commands = []
     if os.path.exists(f"{folder}/x"):

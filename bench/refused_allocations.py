@@ -7,8 +7,8 @@ Over small inputs `verify`, `unify` to standard output, `unify --in-place`, `tri
 refused, for each N up to the number of allocations of the call; and, in a second pass, with all from the Nth on. Each run has to end with
 status 7 with nothing written and each file as before, or with the answer of the call where nothing was refused: status, both texts and
 files the same. The allocations are the calls of `malloc`, `calloc` and `realloc` that take memory, counted and refused by a small library
-that is compiled here by `cc` and loaded before the C library. A run in which another number of allocations was asked for before the
-refused one, or in which the refused one was not reached, is told as well: none is counted twice or passed over.
+that is compiled here by `cc` and loaded before the C library; `posix_memalign`, `aligned_alloc` and `mmap` are not refused. A run in which
+the refused one was not reached, or more than one was refused, is told as well. A call of which no allocation is counted ends the script.
 The last line sums up; the exit status is 1 where one run differs.
 """
 import os, shutil, subprocess, sys, tempfile
@@ -135,6 +135,8 @@ def tried(program, name, words, folder, library, told):
     before = state(folder)
     whole, count, _ = run(program, words, folder, library, told)
     changed = state(folder)
+    if count < 1:
+        sys.exit(f"{name}: no allocation was counted")
     runs = sevens = wrong = 0
     for all_from in (False, True):
         for at in range(1, count + 1):

@@ -4,7 +4,7 @@
     examples/answers.py PROGRAM [SET_MM]     PROGRAM: the built mmp, as crates/mmp/out/mmp; SET_MM: the database set.mm, else that of
                                              Debian's package metamath-databases
 
-It stops where a file ends with another status than its name says: `finished` with 0, `unfinished` with 1, `refused` with 3.
+It stops where a call ends with another status than the one that is listed for it.
 """
 import os
 import subprocess
