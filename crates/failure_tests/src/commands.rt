@@ -11,6 +11,8 @@ const THEOREMS: &str = "$c |- wff $. $v ph $. wph $f wff ph $. any $a |- ph $.
 good $p |- ph $= ( any ) AB $. bad $p |- ph $= ( ) ZA $.
 ";
 
+const NO_SHEET: &[u8] = b"no worksheet\n";
+
 // Words over devices of which some fail, and what comes of it.
 #[derive(Clone, Copy)]
 struct Row {
@@ -45,6 +47,15 @@ const VERIFYING: &[Row] = &[
         status: Status::Read,
         written: "",
         told: "read fault P.mm\n",
+        ..ACCEPTED
+    },
+    Row {
+        name: "a database that is not there",
+        words: &["verify", "Q.mm", "good"],
+        log: Device::Sound,
+        status: Status::Read,
+        written: "",
+        told: "read fault Q.mm\n",
         ..ACCEPTED
     },
     Row {
@@ -145,6 +156,16 @@ const OTHERS: &[Row] = &[
         ..TRIAL
     },
     Row {
+        name: "a worksheet that is not there",
+        words: &["unify", "P.mm", "s.mmp"],
+        store: Device::Fails(3),
+        log: Device::Sound,
+        status: Status::Read,
+        written: "",
+        told: "read fault s.mmp\n",
+        ..TRIAL
+    },
+    Row {
         name: "no log for a text that is no worksheet",
         words: &["unify", "P.mm", "r.mmp"],
         store: Device::Fails(3),
@@ -163,7 +184,7 @@ const OTHERS: &[Row] = &[
 ];
 
 fn check_row(rt: &impl Abort, alloc: Global, row: Row) -> Result<(), Fail> {
-    let mut store = store_of(alloc, THEOREMS.as_bytes(), b"no worksheet\n", row.store)?;
+    let mut store = store_of(alloc, THEOREMS.as_bytes(), NO_SHEET, row.store)?;
     let ended = call(alloc, row.words, &mut store, row.out, row.log)?;
     let want = Want {
         status: row.status,
@@ -171,6 +192,8 @@ fn check_row(rt: &impl Abort, alloc: Global, row: Row) -> Result<(), Fail> {
         log: row.told,
     };
     compare(rt, row.name, &ended, want);
+    assert!(rt; store.file("P.mm").unwrap_or(b"") == THEOREMS.as_bytes());
+    assert!(rt; store.file("r.mmp").unwrap_or(b"") == NO_SHEET);
     Ok(())
 }
 

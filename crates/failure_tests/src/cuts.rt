@@ -37,7 +37,7 @@ fn worksheets_are_cut_after_each_line(rt: HostRuntime) -> Result<(), Fail> {
         check(
             &rt,
             rt.alloc(),
-            "a cut",
+            line,
             PROP.as_bytes(),
             before(text, rest),
             want,

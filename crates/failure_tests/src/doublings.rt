@@ -31,9 +31,9 @@ const CUT_SHORT: &str = "sheet error 75 FormulaTooLong step 12 tokens 8190\n";
 // One more and forty have a formula that is too long, and no later one is looked at.
 #[test]
 fn doublings_are_cut(rt: HostRuntime) -> Result<(), Fail> {
-    for count in [11, 40] {
+    for (count, name) in [(11, "eleven doublings"), (40, "forty doublings")] {
         let ended = doubled(rt.alloc(), count)?;
-        compare(&rt, "doublings", &ended, refused(Status::Sheet, CUT_SHORT));
+        compare(&rt, name, &ended, refused(Status::Sheet, CUT_SHORT));
     }
     Ok(())
 }
@@ -72,5 +72,7 @@ fn a_longer_proof(rt: HostRuntime) -> Result<(), Fail> {
 fn a_longer_proof_is_compressed(rt: HostRuntime) -> Result<(), Fail> {
     let ended = doubled_proof(rt.alloc(), 14, USUAL)?;
     assert!(rt; ended.status == Status::Finished);
+    assert!(rt; !line_of(ended.out.bytes(), b"$= ( ").is_empty());
+    assert!(rt; ended.log.bytes().ends_with(b"finished\n"));
     Ok(())
 }
