@@ -1,6 +1,6 @@
 -- A proof of the database as a worksheet.
-use Rattle.std.specs.Prelude.{ℕ, suc, Bool, true, false, not, List, [], ◌∷◌, ◌++◌, length, take, reverse, filter, map, slice_index_or}
-use Rattle.std.specs.Prelude.{if◌then◌else◌, Option, Some, None, Result, Ok, Err, decimal, codes}
+use Rattle.std.specs.Prelude.{ℕ, suc, Bool, true, false, not, List, [], ◌∷◌, ◌++◌, length, take, reverse, filter, find, map, slice_index_or}
+use Rattle.std.specs.Prelude.{if◌then◌else◌, Option, Some, None, is_some, Result, Ok, Err, decimal, codes}
 use Rattle.std.specs.List.{list_any, zip}
 use Rattle.std.specs.Option.{option_map_or}
 use Rattle.std.specs.Str.{bytes_eq}
@@ -54,7 +54,7 @@ module _ (db : Database) (theorem : Theorem) where
   -- the label of an active hypothesis names no assertion
   abbrev pub push_of_label : Name → List Formula → List Formula → List Push
   push_of_label label before behind =
-      if list_any (λ (h : Hyp). bytes_eq h.name label) theorem.hyps then [] else push_of_frame db label before behind (frames_of db label)
+      if is_some (find (λ (h : Hyp). bytes_eq h.name label) theorem.hyps) then [] else push_of_frame db label before behind (frames_of db label)
 
   abbrev pub push_of : List Name → What → List Formula → List Formula → List Push
   push_of labels (what.Hyp k) before behind = push_of_label (slice_index_or theorem.mandatory k []) before behind

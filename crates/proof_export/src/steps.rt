@@ -1,5 +1,13 @@
 //! The steps of the worksheet so far.
 
+ghost use Rattle.std.specs.Prelude.{◌≡◌, List, Option, Some, ◌∷◌, [], ◌++◌, length, map, codes, false, OnOk, IfOk};
+ghost use Rattle.mm_model.specs.Names.{Name};
+ghost use Rattle.proof_model.specs.Machine.{Formula};
+ghost use Rattle.sheet_text.specs.declared.sheet.SheetItem.TheVariants as item;
+ghost use Rattle.export_model.specs.Exported.{Push, hyp_steps, number_name, place_in, step_with};
+ghost use Rattle.proof_export.specs.Books.{book_in};
+ghost use Rattle.proof_export.specs.Leads.{Goes, HasFormulas, ArePlaces, items_of, push_with, taken_for};
+
 use crate::places::{first_step, put_step};
 use crate::sheet::{number_name, tokens};
 use indexmap::IndexMap;
@@ -17,7 +25,10 @@ pub(crate) struct Steps {
 }
 
 impl Steps {
-    pub(crate) fn new(alloc: Global) -> Steps {
+    pub(crate) fn new(alloc: Global) -> Steps
+        ensures formulas { HasFormulas result [] }
+        ensures items { result.items.items ≡ [] }
+    {
         Steps {
             alloc,
             items: Vec::new(alloc),
@@ -25,7 +36,9 @@ impl Steps {
         }
     }
 
-    pub(crate) fn into_items(self) -> List<SheetItem> {
+    pub(crate) fn into_items(self) -> List<SheetItem>
+        ensures { result ≡ self.items.items }
+    {
         let Steps {
             alloc: _,
             items,
@@ -35,7 +48,9 @@ impl Steps {
     }
 
     /// The first step with a formula, or `?`.
-    fn place(&self, formula: &[Sym]) -> Result<Given, Memory> {
+    fn place(&self, formula: &[Sym]) -> Result<Given, Memory>
+        ensures { (fs : List Formula) → HasFormulas self.now fs → IfOk result (λ g. g ≡ place_in fs formula.now) }
+    {
         match first_step(self.alloc, &self.places, formula)? {
             None => Ok(Given::Gap),
             Some(number) => Ok(Given::Step(number)),
@@ -43,11 +58,10 @@ impl Steps {
     }
 
     /// The places of the `$e` among these hypotheses, where these entries are taken for them.
-    pub(crate) fn places(
-        &self,
-        hyps: &[Hyp],
-        entries: &[List<Sym>],
-    ) -> Result<List<Given>, Memory> {
+    pub(crate) fn places(&self, hyps: &[Hyp], entries: &[List<Sym>]) -> Result<List<Given>, Memory>
+        requires { length entries.now ≡ length hyps.now }
+        ensures { (fs : List Formula) → HasFormulas self.now fs → IfOk result (λ gs. gs ≡ map (place_in fs) (taken_for hyps.now entries.now)) }
+    {
         let mut places = Vec::new(self.alloc);
         for (hyp, entry) in hyps.iter().zip(entries) {
             if !hyp.floating {
@@ -57,7 +71,9 @@ impl Steps {
         Ok(List::from_vec(places))
     }
 
-    fn count(&self) -> Result<u32, Memory> {
+    fn count(&self) -> Result<u32, Memory>
+        ensures { IfOk result (λ n. n ≡ length self.now.items.items) }
+    {
         match u32::try_from(self.items.len()) {
             Err(_) => Err(Memory),
             Ok(count) => Ok(count),
@@ -72,7 +88,10 @@ impl Steps {
         places: List<Given>,
         reference: Option<Name>,
         formula: &[Sym],
-    ) -> Result<(), Memory> {
+    ) -> Result<(), Memory>
+        ensures items { OnOk result (self.new.items.items ≡ self.old.items.items ++ item.Step (step_with (book_in frames.now []) hyp name places reference formula.now) ∷ []) }
+        ensures places { self.new.places.entries ≡ self.old.places.entries }
+    {
         let formula = tokens(self.alloc, frames, formula)?;
         self.items.push(SheetItem::Step(SheetStep {
             line: 0,
@@ -86,7 +105,10 @@ impl Steps {
     }
 
     /// The step of a `$e` behind the steps so far.
-    pub(crate) fn put_hyp(&mut self, frames: &Frames, hyp: &Hyp) -> Result<(), Memory> {
+    pub(crate) fn put_hyp(&mut self, frames: &Frames, hyp: &Hyp) -> Result<(), Memory>
+        ensures formulas { OnOk result ((fs : List Formula) → HasFormulas self.old fs → HasFormulas self.new (fs ++ hyp.now.formula ∷ [])) }
+        ensures items { OnOk result (self.new.items.items ≡ self.old.items.items ++ items_of (hyp_steps (book_in frames.now []) (length self.old.items.items) (hyp.now ∷ []))) }
+    {
         let number = self.count()?;
         let name = number_name(self.alloc, number)?;
         let label = List::copy_of(self.alloc, hyp.name.as_slice())?;
@@ -103,7 +125,11 @@ impl Steps {
         label: Name,
         places: List<Given>,
         formula: &[Sym],
-    ) -> Result<(), Memory> {
+    ) -> Result<(), Memory>
+        ensures formulas { OnOk result ((fs : List Formula) → HasFormulas self.old fs → HasFormulas self.new (fs ++ formula.now ∷ [])) }
+        ensures items { OnOk result (self.new.items.items ≡ self.old.items.items
+            ++ item.Step (step_with (book_in frames.now []) false (number_name (length self.old.items.items)) places (Some label) formula.now) ∷ []) }
+    {
         let number = self.count()?;
         let name = number_name(self.alloc, number)?;
         put_step(self.alloc, &mut self.places, formula, number)?;
@@ -117,7 +143,10 @@ impl Steps {
         places: List<Given>,
         reference: Option<Name>,
         formula: &[Sym],
-    ) -> Result<(), Memory> {
+    ) -> Result<(), Memory>
+        ensures { OnOk result (self.new.items.items ≡ self.old.items.items
+            ++ item.Step (step_with (book_in frames.now []) false (codes "qed") places reference formula.now) ∷ []) }
+    {
         let name = List::copy_of(self.alloc, b"qed")?;
         self.put(frames, false, name, places, reference, formula)
     }
@@ -131,16 +160,21 @@ impl Steps {
         label: &[u8],
         places: List<Given>,
         formula: &[Sym],
-    ) -> Result<bool, Memory> {
+    ) -> Result<bool, Memory>
+        ensures { IfOk result (λ last. (provable : Name) (taken : List Formula) (rest : List Push) → ArePlaces self.old places taken
+            → Goes last (book_in frames.now provable) theorem.now self.old (push_with label.now taken formula.now ∷ rest) self.new rest) }
+    {
         let label = List::copy_of(self.alloc, label)?;
         if formula == theorem {
             self.put_qed(frames, places, Some(label), formula)?;
             return Ok(true);
         }
         match first_step(self.alloc, &self.places, formula)? {
-            Some(_) => {}
-            None => self.put_new(frames, label, places, formula)?,
+            Some(_) => Ok(false),
+            None => {
+                self.put_new(frames, label, places, formula)?;
+                Ok(false)
+            }
         }
-        Ok(false)
     }
 }

@@ -1,0 +1,6 @@
+pub mod Firsts
+pub mod Going
+pub mod Opening
+pub mod Standing
+pub mod Tops
+pub mod Using
