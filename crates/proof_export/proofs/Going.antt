@@ -1,8 +1,7 @@
 -- What the steps so far become with the pushes that follow.
-use Rattle.std.proofs.Common.{◌≡◌, ℕ, Bool, true, false, cond, List, [], ◌∷◌, ◌++◌, length, map, Option, Some, None, option_map, refl, sym, ap, ◌∙◌, subst, inl, inr, absurd}
-use Rattle.std.specs.Prelude.{codes}
+use Rattle.std.proofs.Common.{◌≡◌, ℕ, Bool, true, false, suc, ◌||◌, cond, List, [], ◌∷◌, ◌++◌, length, map, Option, Some, None, option_map, refl, sym, ap, ◌∙◌}
+use Rattle.std.specs.Prelude.{codes, is_some}
 use Rattle.std.specs.List.{list_any}
-use Rattle.std.proofs.lemmas.Bool.{cases_Bool}
 use Rattle.std.proofs.lemmas.List.{append_assoc}
 use Rattle.mm_model.specs.Names.{Name, first_number}
 use Rattle.mm_model.specs.Book.{Database}
@@ -19,27 +18,15 @@ use Rattle.proof_export.specs.declared.steps.Steps.{Steps}
 
 -- ---- tests and searches
 
-first_next : {X : Type 0} (p : X → Bool) (xs : List X) (o : Option ℕ) → (o ≡ None → list_any p xs ≡ false) → option_map (λ (n : ℕ). n) o ≡ None → list_any p xs ≡ false
-first_next p xs None h e = h refl
-first_next p xs (Some k) h e = absurd cc
+any_step : (t a : Bool) (o : Option ℕ) → a ≡ is_some o → (t || a) ≡ is_some (cond t (Some 0) (option_map (λ n. suc n) o))
+any_step true a o e = refl
+any_step false a None e = e
+any_step false a (Some k) e = e
 
-pub none_first : {X : Type 0} (p : X → Bool) (xs : List X) → first_number p xs ≡ None → list_any p xs ≡ false
-none_first p [] e = refl
-none_first {X} p (x ∷ xs) e = by (p x) refl (first_number p xs) refl
-  where
-    by : (t : Bool) → p x ≡ t → (o : Option ℕ) → first_number p xs ≡ o → list_any p (x ∷ xs) ≡ false
-    by true t o q = let is : Some 0 ≡ None = sym (cond_then (p x) (Some 0) (option_map (λ (n : ℕ). 1 + n) (first_number p xs)) t) ∙ e in absurd cc
-    by false t (Some k) q = let is : Some (1 + k) ≡ None = sym (cond_else (p x) (Some 0) (option_map (λ (n : ℕ). 1 + n) (first_number p xs)) t ∙ ap (option_map (λ (n : ℕ). 1 + n)) q) ∙ e in absurd cc
-    by false t None q = rw t (none_first p xs q)
-
-pub some_first : {X : Type 0} (p : X → Bool) (xs : List X) (k : ℕ) → first_number p xs ≡ Some k → list_any p xs ≡ true
-some_first p [] k e = absurd cc
-some_first {X} p (x ∷ xs) k e = by (p x) refl (first_number p xs) refl
-  where
-    by : (t : Bool) → p x ≡ t → (o : Option ℕ) → first_number p xs ≡ o → list_any p (x ∷ xs) ≡ true
-    by true t o q = rw t refl
-    by false t None q = let is : None ≡ Some k = sym (cond_else (p x) (Some 0) (option_map (λ (n : ℕ). 1 + n) (first_number p xs)) t ∙ ap (option_map (λ (n : ℕ). 1 + n)) q) ∙ e in absurd cc
-    by false t (Some j) q = rw t (some_first p xs j q)
+-- some item passes where there is a first that does
+any_first : {X : Type 0} (p : X → Bool) (xs : List X) → list_any p xs ≡ is_some (first_number p xs)
+any_first p [] = refl
+any_first p (x ∷ xs) = any_step (p x) (list_any p xs) (first_number p xs) (any_first p xs)
 
 -- ---- what follows
 
@@ -48,7 +35,7 @@ pub stays : (db : Database) (theorem : Formula) (s : Steps) (ps : List Push) →
 stays db theorem s ps = record { each = λ fs h. (fs, h, refl) }
 
 module _ (db : Database) (theorem : Formula) (old new : Steps) (label : Name) (taken : List Formula) (f : Formula) (rest : List Push) (places : List Given) (are : ArePlaces old places taken) where
-  p : Push
+  abbrev p : Push
   p = push_with label taken f
 
   row : List Formula → Name → List Given → SheetItem
@@ -69,7 +56,7 @@ module _ (db : Database) (theorem : Formula) (old new : Steps) (label : Name) (t
   pub goes_on : same_formula f theorem ≡ false → (k : ℕ) → Some k ≡ number_at old.places.entries (key_of f) → Goes false db theorem old (push_with label taken f ∷ rest) old rest
   goes_on other k there = record {
     each = λ fs h.
-        let any : list_any (same_formula f) fs ≡ true = some_first (same_formula f) fs k (sym (h.places.each f) ∙ sym there) in (
+        let any : list_any (same_formula f) fs ≡ true = any_first (same_formula f) fs ∙ ap (λ (o : Option ℕ). is_some o) (sym (h.places.each f) ∙ sym there) in (
           fs,
           h,
           ap (λ (l : List SheetStep). old.items.items ++ items_of l) (
@@ -86,7 +73,7 @@ module _ (db : Database) (theorem : Formula) (old new : Steps) (label : Name) (t
       → Goes false db theorem old (push_with label taken f ∷ rest) new rest
   goes_past other absent has items = record {
     each = λ fs h.
-        let none : list_any (same_formula f) fs ≡ false = none_first (same_formula f) fs (sym (h.places.each f) ∙ sym absent) in
+        let none : list_any (same_formula f) fs ≡ false = any_first (same_formula f) fs ∙ ap (λ (o : Option ℕ). is_some o) (sym (h.places.each f) ∙ sym absent) in
         let here : SheetStep = push_step db fs (number_name (length fs)) p in
         let made : SheetStep = step_with db false (number_name (length old.items.items)) places (Some label) f in
         let same : here ≡ made =

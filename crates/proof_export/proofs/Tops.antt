@@ -5,10 +5,10 @@ use Rattle.std.proofs.lemmas.List.{length-drop, length-reverse, reverse-append, 
 use Rattle.std.proofs.Math.Seq.{drop-append_seam, take-append_seam}
 
 module _ {A : Type 0} (xs : List A) (n : ℕ) (enough : n ≤ length xs) where
-  below : List A
+  abbrev below : List A
   below = take (length xs - n) xs
 
-  top : List A
+  abbrev top : List A
   top = drop (length xs - n) xs
 
   count : length (reverse top) ≡ n

@@ -1,5 +1,5 @@
 -- Steps of an accepted proof, which have no fault.
-use Rattle.std.proofs.Common.{◌≡◌, ◌<◌, ◌≤◌, ℕ, zero, suc, Bool, true, false, cond, ltb, List, [], ◌∷◌, length, take, drop, get_or, Option, Some, None, option_map, Result, Ok, Err, refl, sym, ap, ◌∙◌, arith, inl, inr, subst, absurd}
+use Rattle.std.proofs.Common.{◌≡◌, ◌<◌, ◌≤◌, ℕ, zero, suc, Bool, true, false, cond, ltb, List, [], ◌∷◌, length, take, drop, get_or, Option, Some, None, option_map, Result, Ok, Err, refl, sym, ap, ◌∙◌, arith, inl, inr, subst}
 use Rattle.std.specs.Prelude.{MatchOption, find, slice_get}
 use Rattle.std.specs.List.{zip}
 use Rattle.std.specs.Str.{bytes_eq}
@@ -29,42 +29,33 @@ bytes_turned a b =
           ]
     ]
 
+-- what a number says of the first hypothesis with a label
+abbrev pub IsFirst : List Hyp → Name → Option ℕ → Type 0
+IsFirst hyps label o =
+    MatchOption o (find (λ (h : Hyp). bytes_eq h.name label) hyps ≡ None) (λ k. (k < length hyps) × ((d : Hyp) → find (λ (h : Hyp). bytes_eq h.name label) hyps ≡ Some (get_or hyps k d)))
+
+abbrev number : List Hyp → Name → Option ℕ
+number hyps label = first_number (λ (h : Hyp). bytes_eq label h.name) hyps
+
+behind : (h : Hyp) (hs : List Hyp) (label : Name) (o : Option ℕ) → bytes_eq label h.name ≡ false → IsFirst hs label o → IsFirst (h ∷ hs) label (option_map (λ n. suc n) o)
+behind h hs label None t is = cond_else (bytes_eq h.name label) (Some h) (find (λ (x : Hyp). bytes_eq x.name label) hs) (bytes_turned h.name label ∙ t) ∙ is
+behind h hs label (Some k) t is =
+    let low = is.0 in
+    (omega (arith, low), λ d. cond_else (bytes_eq h.name label) (Some h) (find (λ (x : Hyp). bytes_eq x.name label) hs) (bytes_turned h.name label ∙ t) ∙ is.1 d)
+
 -- the first hypothesis with a label is that of its number
-pub find_by_number : (hyps : List Hyp) (label : Name) (o : Option ℕ) → first_number (λ (h : Hyp). bytes_eq label h.name) hyps ≡ o
-    → MatchOption o (find (λ (h : Hyp). bytes_eq h.name label) hyps ≡ None) (λ k. (k < length hyps) × ((d : Hyp) → find (λ (h : Hyp). bytes_eq h.name label) hyps ≡ Some (get_or hyps k d)))
-find_by_number [] label None e = refl
-find_by_number [] label (Some k) e = absurd cc
-find_by_number (h ∷ hs) label o e = by (bytes_eq label h.name) refl o e (first_number (λ (h : Hyp). bytes_eq label h.name) hs) refl
-  where
-    rest : List Hyp
-    rest = hs
-
-    test : Hyp → Bool
-    test x = bytes_eq x.name label
-
-    number : Option ℕ
-    number = first_number (λ (x : Hyp). bytes_eq label x.name) hs
-
-    here : (t : Bool) → bytes_eq label h.name ≡ t → find test (h ∷ hs) ≡ cond t (Some h) (find test hs)
-    here t q = ap (λ (b : Bool). cond b (Some h) (find test hs)) (bytes_turned h.name label ∙ q)
-
-    by : (t : Bool) → bytes_eq label h.name ≡ t → (o : Option ℕ) → first_number (λ (x : Hyp). bytes_eq label x.name) (h ∷ hs) ≡ o
-        → (n : Option ℕ) → first_number (λ (x : Hyp). bytes_eq label x.name) hs ≡ n
-        → MatchOption o (find (λ (x : Hyp). bytes_eq x.name label) (h ∷ hs) ≡ None)
-        (λ k. (k < length (h ∷ hs)) × ((d : Hyp) → find (λ (x : Hyp). bytes_eq x.name label) (h ∷ hs) ≡ Some (get_or (h ∷ hs) k d)))
-    by true t o e n q =
-        let is : Some 0 ≡ o = sym (cond_then (bytes_eq label h.name) (Some 0) (option_map suc number) t) ∙ e in
-        subst (λ (o : Option ℕ). MatchOption o (find test (h ∷ hs) ≡ None) (λ k. (k < length (h ∷ hs)) × ((d : Hyp) → find test (h ∷ hs) ≡ Some (get_or (h ∷ hs) k d)))) is
-        ((omega arith, λ d. here true t))
-    by false t o e None q =
-        let is : None ≡ o = sym (cond_else (bytes_eq label h.name) (Some 0) (option_map suc number) t ∙ ap (option_map suc) q) ∙ e in
-        subst (λ (o : Option ℕ). MatchOption o (find test (h ∷ hs) ≡ None) (λ k. (k < length (h ∷ hs)) × ((d : Hyp) → find test (h ∷ hs) ≡ Some (get_or (h ∷ hs) k d)))) is
-        (here false t ∙ find_by_number hs label None q)
-    by false t o e (Some k) q =
-        let is : Some (suc k) ≡ o = sym (cond_else (bytes_eq label h.name) (Some 0) (option_map suc number) t ∙ ap (option_map suc) q) ∙ e in
-        let on = find_by_number hs label (Some k) q in
-        subst (λ (o : Option ℕ). MatchOption o (find test (h ∷ hs) ≡ None) (λ k. (k < length (h ∷ hs)) × ((d : Hyp) → find test (h ∷ hs) ≡ Some (get_or (h ∷ hs) k d)))) is
-        ((omega (arith, on.0), λ d. here false t ∙ on.1 d))
+pub first_hyp : (hyps : List Hyp) (label : Name) → IsFirst hyps label (number hyps label)
+first_hyp [] label = refl
+first_hyp (h ∷ hs) label =
+    let rest = first_hyp hs label in
+    elim (cases_Bool (bytes_eq label h.name)) [
+      | inl t ↦
+          subst (λ (o : Option ℕ). IsFirst (h ∷ hs) label o) (sym (cond_then (bytes_eq label h.name) (Some 0) (option_map (λ n. suc n) (number hs label)) t))
+          ((omega arith, λ d. cond_then (bytes_eq h.name label) (Some h) (find (λ (x : Hyp). bytes_eq x.name label) hs) (bytes_turned h.name label ∙ t)))
+      | inr t ↦
+          subst (λ (o : Option ℕ). IsFirst (h ∷ hs) label o) (sym (cond_else (bytes_eq label h.name) (Some 0) (option_map (λ n. suc n) (number hs label)) t))
+          (behind h hs label (number hs label) t rest)
+    ]
 
 -- ---- what passes
 
