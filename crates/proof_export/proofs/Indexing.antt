@@ -1,5 +1,6 @@
 -- Labels and formulas, put in one after the other.
-use Rattle.std.proofs.Common.{◌≡◌, ℕ, Bool, ◌&&◌, ◌==◌, List, [], ◌∷◌, ◌++◌, length, None, refl, ap, ◌∙◌}
+use Rattle.std.proofs.Common.{◌≡◌, ℕ, Bool, true, false, Option, Some, ◌&&◌, ◌==◌, List, [], ◌∷◌, ◌++◌, length, None, refl, ap, ◌∙◌}
+use Rattle.std.specs.Prelude.{is_some}
 use Rattle.std.specs.Global.{Vec}
 use Rattle.std.specs.Str.{bytes_eq}
 use Rattle.mm_base.specs.declared.symbols.Sym.{Sym}
@@ -7,6 +8,14 @@ use Rattle.mm_model.specs.declared.frames.Hyp.{Hyp}
 use Rattle.proof_model.specs.Machine.{Formula, same_formula}
 use Rattle.proof_export.specs.Places.{AreHyps, AreSteps, key_of, number_at}
 use Rattle.proof_export.proofs.Firsts.{keep_first, put_first}
+
+pub is_there : (o : Option ℕ) → is_some o ≡ true → o ≡ None → ⊥
+is_there None e n = cc
+is_there (Some k) e n = cc
+
+pub is_absent : (o : Option ℕ) → is_some o ≡ false → o ≡ None
+is_absent None e = refl
+is_absent (Some k) e = absurd cc
 
 -- ---- hypotheses
 

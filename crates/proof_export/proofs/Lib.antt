@@ -1,7 +1,9 @@
 pub mod Firsts
 pub mod Going
 pub mod Indexing
+pub mod Looping
 pub mod Opening
+pub mod Proving
 pub mod Standing
 pub mod Tops
 pub mod Using

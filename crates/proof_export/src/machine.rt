@@ -1,6 +1,6 @@
 //! The stack machine over the steps of an accepted proof: it looks for no faults.
 
-ghost use Rattle.std.specs.Prelude.{◌≡◌, ◌≤◌, ◌<◌, length, take, reverse, slice_get, slice_index_or, [], OnOk, Ok};
+ghost use Rattle.std.specs.Prelude.{◌≡◌, ◌≤◌, ◌<◌, length, drop, take, reverse, slice_get, slice_index_or, [], OnOk, Ok};
 ghost use Rattle.proof_model.specs.Machine.{start, push, use_kept, keep_top};
 ghost use Rattle.proof_export.specs.Machines.{state, applied_to};
 
@@ -19,6 +19,13 @@ pub(crate) struct Machine {
     kept: Vec<List<Sym>>,
 }
 
+fn behind(entries: &[List<Sym>], place: usize) -> &[List<Sym>]
+    requires { place ≤ length entries.now }
+    ensures { result.now ≡ drop place entries.now }
+{
+    &entries[place..]
+}
+
 impl Machine {
     pub(crate) fn new(alloc: Global) -> Machine
         ensures { state result ≡ start }
@@ -35,7 +42,7 @@ impl Machine {
         requires { count ≤ length (state self.now).stack }
         ensures { result.now ≡ reverse (take count (state self.now).stack) }
     {
-        &self.stack.as_slice()[self.stack.len() - count..]
+        behind(self.stack.as_slice(), self.stack.len() - count)
     }
 
     /// The newest entry; the empty one where there is none.
@@ -60,7 +67,7 @@ impl Machine {
         requires { number < length (state self.old).kept }
         ensures { OnOk result (use_kept (slice_get (state self.old).kept number) (state self.old) ≡ Ok (state self.new)) }
     {
-        let formula = List::copy_of(self.alloc, self.kept[number as usize].as_slice())?;
+        let formula = List::copy_of(self.alloc, self.kept.as_slice()[number as usize].as_slice())?;
         self.stack.push(formula)?;
         Ok(())
     }

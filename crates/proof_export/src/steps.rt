@@ -63,9 +63,9 @@ impl Steps {
         ensures { (fs : List Formula) → HasFormulas self.now fs → IfOk result (λ gs. gs ≡ map (place_in fs) (taken_for hyps.now entries.now)) }
     {
         let mut places = Vec::new(self.alloc);
-        for (hyp, entry) in hyps.iter().zip(entries) {
+        for (place, hyp) in hyps.iter().enumerate() {
             if !hyp.floating {
-                places.push(self.place(entry.as_slice())?)?;
+                places.push(self.place(entries[place].as_slice())?)?;
             }
         }
         Ok(List::from_vec(places))
