@@ -1,5 +1,6 @@
 pub mod Firsts
 pub mod Going
+pub mod Growing
 pub mod Indexing
 pub mod Looping
 pub mod Opening

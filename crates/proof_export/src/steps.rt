@@ -2,7 +2,7 @@
 
 ghost use Rattle.std.specs.Prelude.{◌≡◌, List, Option, Some, ◌∷◌, [], ◌++◌, length, map, codes, false, OnOk, IfOk};
 ghost use Rattle.mm_model.specs.Names.{Name};
-ghost use Rattle.proof_model.specs.Machine.{Formula};
+ghost use Rattle.proof_model.specs.Machine.{Formula, same_formula};
 ghost use Rattle.sheet_text.specs.declared.sheet.SheetItem.TheVariants as item;
 ghost use Rattle.export_model.specs.Exported.{Push, hyp_steps, number_name, place_in, step_with};
 ghost use Rattle.proof_export.specs.Books.{book_in};
@@ -22,6 +22,12 @@ pub(crate) struct Steps {
     items: Vec<SheetItem>,
     /// By the numbers of a formula's symbols the first step with that formula.
     places: IndexMap<Vec<u32>, u32>,
+}
+
+fn same_formula(one: &[Sym], other: &[Sym]) -> bool
+    ensures { result ≡ same_formula one.now other.now }
+{
+    one == other
 }
 
 impl Steps {
@@ -51,7 +57,8 @@ impl Steps {
     fn place(&self, formula: &[Sym]) -> Result<Given, Memory>
         ensures { (fs : List Formula) → HasFormulas self.now fs → IfOk result (λ g. g ≡ place_in fs formula.now) }
     {
-        match first_step(self.alloc, &self.places, formula)? {
+        let number = first_step(self.alloc, &self.places, formula)?;
+        match number {
             None => Ok(Given::Gap),
             Some(number) => Ok(Given::Step(number)),
         }
@@ -115,7 +122,8 @@ impl Steps {
         let formula = hyp.formula.as_slice();
         put_step(self.alloc, &mut self.places, formula, number)?;
         let places = List::from_vec(Vec::new(self.alloc));
-        self.put(frames, true, name, places, Some(label), formula)
+        self.put(frames, true, name, places, Some(label), formula)?;
+        Ok(())
     }
 
     /// The step of a formula that an assertion gives, where no step has it.
@@ -133,7 +141,8 @@ impl Steps {
         let number = self.count()?;
         let name = number_name(self.alloc, number)?;
         put_step(self.alloc, &mut self.places, formula, number)?;
-        self.put(frames, false, name, places, Some(label), formula)
+        self.put(frames, false, name, places, Some(label), formula)?;
+        Ok(())
     }
 
     /// The last step, for the theorem's formula.
@@ -148,7 +157,8 @@ impl Steps {
             ++ item.Step (step_with (book_in frames.now []) false (codes "qed") places reference formula.now) ∷ []) }
     {
         let name = List::copy_of(self.alloc, b"qed")?;
-        self.put(frames, false, name, places, reference, formula)
+        self.put(frames, false, name, places, reference, formula)?;
+        Ok(())
     }
 
     /// What an assertion gives: the last step, where it is the theorem's formula; else a step, where none has it. Whether
@@ -165,11 +175,12 @@ impl Steps {
             → Goes last (book_in frames.now provable) theorem.now self.old (push_with label.now taken formula.now ∷ rest) self.new rest) }
     {
         let label = List::copy_of(self.alloc, label)?;
-        if formula == theorem {
+        if same_formula(formula, theorem) {
             self.put_qed(frames, places, Some(label), formula)?;
             return Ok(true);
         }
-        match first_step(self.alloc, &self.places, formula)? {
+        let number = first_step(self.alloc, &self.places, formula)?;
+        match number {
             Some(_) => Ok(false),
             None => {
                 self.put_new(frames, label, places, formula)?;
