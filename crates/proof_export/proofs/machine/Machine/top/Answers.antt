@@ -1,4 +1,5 @@
-use Rattle.std.proofs.Common.{◌-◌, ℕ, List, ap, drop, length, sym, ◌∙◌}
+use Rattle.std.proofs.Common.{arith, ◌-◌, ℕ, List, ap, drop, length, sym, ◌∙◌}
+use Rattle.std.proofs.lemmas.List.{length-reverse}
 use Rattle.proof_model.specs.Machine.{Formula}
 use Rattle.proof_export.proofs.Tops.{top_is}
 use Rattle.proof_export.proofs.machine.Machine.top.Goals as goal
@@ -7,4 +8,4 @@ pub returns : goal.returns
 returns c =
     let xs = c.args.self.now.stack.items in
     c.behind.ensures ∙ ap (λ (l : List Formula). drop (c.len.result - c.args.count) l) c.as_slice.ensures.value
-    ∙ ap (λ (n : ℕ). drop (n - c.args.count) xs) c.len.ensures ∙ sym (top_is xs c.args.count c.requires)
+    ∙ ap (λ (n : ℕ). drop (n - c.args.count) xs) c.len.ensures ∙ sym (top_is xs c.args.count (let low = c.requires in omega (arith, low, length-reverse xs)))
