@@ -56,6 +56,6 @@ returns c =
     on_ok_weaker c.put_qed.result (λ items.
     loop_open db thm labels c.as_slice-labels.result.now c.as_slice-labels.ensures c.args.steps.now c.loop-step.steps c.put_qed.new.self (pushes_from db thm labels steps start) (drop i steps)
     (state c.loop-step.machine) end c.loop-step.invariant.leads
-    (items ∙ ap (λ (gs : List Given). old ++ item.Step (step_with book false (codes "qed") gs None c.as_slice-2.result.now) ∷ []) c.from_vec-none.ensures
+    (items ∙ ap (λ (gs : List Given). old ++ item.Step (step_with book false (codes "qed") gs None c.as_slice-2.result.now) ∷ []) (c.from_vec-none.ensures ∙ c.new.ensures.items)
     ∙ ap (λ (f : Formula). old ++ item.Step (step_with book false (codes "qed") [] None f) ∷ []) c.as_slice-2.ensures))
     c.put_qed.ensures
