@@ -45,7 +45,7 @@ returns-in_ok-push-in-Some-clause-state c =
     let h = c.index-as_slice-number.result in
     let first = placed thm.hyps c.args.places.now.entries c.args.name.now c.hyp_place.result (Some c.in-Some.number) c.requires.hyps c.hyp_place.ensures c.in-Some.is in
     hyp_taken (frames_of (book_in c.args.frames.now c.args.kinds.now.provable)) thm c.args.name.now (state c.args.machine.now) (state c.push.new.self) h c.as_slice-in-Some.result.now
-    (found_hyp thm c.args.name.now c.as_slice.result.now c.in-Some.number h first c.as_slice.ensures c.index-as_slice-number.is) c.as_slice-in-Some.ensures c.in_ok-push-in-Some.ensures
+    (found_hyp thm c.args.name.now c.as_slice.result.now c.in-Some.number h first c.as_slice.ensures c.index-as_slice-number.is) (c.as_slice-in-Some.ensures ∙ ap (λ (x : Hyp). x.formula) (sym c.index-as_slice-number.is)) c.in_ok-push-in-Some.ensures
 
 pub returns-in_ok-push-in-Some-clause-goes : goal.returns-in_ok-push-in-Some-clause-goes
 returns-in_ok-push-in-Some-clause-goes c = λ rest.
