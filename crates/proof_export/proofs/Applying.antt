@@ -1,50 +1,26 @@
 -- What an assertion and a label add to the worksheet.
-use Rattle.std.proofs.Common.{◌≡◌, ◌<◌, ◌≤◌, ℕ, suc, ◌+◌, Bool, true, false, cond, List, [], ◌∷◌, ◌++◌, length, take, drop, drop-cons, get_or, Option, Some, None, Result, Ok, Err, refl, sym, ap, ◌∙◌, arith, subst}
-use Rattle.std.specs.Prelude.{find, reverse, slice_index_or, OnOk, IfOk}
+use Rattle.std.proofs.Common.{◌≡◌, ◌<◌, ℕ, suc, ◌+◌, Bool, false, List, [], ◌∷◌, ◌++◌, length, drop, drop-cons, get_or, Option, Some, None, Ok, sym, ap, ◌∙◌, arith, subst}
+use Rattle.std.specs.Prelude.{find}
 use Rattle.std.specs.Str.{bytes_eq}
-use Rattle.std.proofs.lemmas.List.{length-reverse, length-take-le}
 use Rattle.mm_model.specs.declared.frames.Hyp.{Hyp}
 use Rattle.mm_model.specs.declared.frames.Frame.{Frame}
 use Rattle.mm_model.specs.Names.{Name}
 use Rattle.mm_model.specs.Book.{Database}
 use Rattle.proof_model.specs.declared.theorem.Theorem.{Theorem}
 use Rattle.proof_model.specs.Machine.{Formula, Frames, State, push, use_label}
-use Rattle.export_model.specs.Exported.{Push, is_provable, push_of_frame, push_of_label, taken_from}
+use Rattle.export_model.specs.Exported.{Push, push_of_frame, push_of_label}
 use Rattle.written_model.specs.Written.{frames_of}
-use Rattle.stack_verify.proofs.Substitutes.{cond_then, cond_else}
-use Rattle.proof_export.specs.Leads.{Goes, push_with}
+use Rattle.proof_export.specs.Leads.{Goes}
 use Rattle.proof_export.specs.declared.steps.Steps.{Steps}
 use Rattle.proof_export.proofs.Going.{stays}
 use Rattle.proof_export.proofs.Proving.{frame_pushes, goes_same, hyp_pushes}
 use Rattle.proof_export.proofs.Using.{IsFirst, hyp_used}
 
-pub on_ok : {X E : Type 0} {P : Type 0} (r : Result X E) → P → OnOk r P
-on_ok (Ok x) p = p
-on_ok (Err e) p = tt
-
-pub top_count : {X : Type 0} (xs top : List X) (n : ℕ) → n ≤ length xs → top ≡ reverse (take n xs) → length top ≡ n
-top_count {X} xs top n enough e = ap (λ (l : List X). length l) e ∙ length-reverse (take n xs) ∙ length-take-le n xs enough
-
-pub next_of : {X : Type 0} (xs list : List X) (i : ℕ) (x : X) → list ≡ xs → i < length list → x ≡ get_or list i x → drop i xs ≡ x ∷ drop (i + 1) xs
-next_of {X} xs list i x e low is =
+pub next_of : {X : Type 0} (xs list : List X) (i : ℕ) (d : X) → list ≡ xs → i < length list → drop i xs ≡ get_or list i d ∷ drop (i + 1) xs
+next_of {X} xs list i d e low =
     let one : suc i ≡ i + 1 = omega arith in
-    let cut : drop i list ≡ x ∷ drop (i + 1) list = drop-cons list i x low ∙ ap (λ (y : X). y ∷ drop (suc i) list) (sym is) ∙ ap (λ (k : ℕ). x ∷ drop k list) one in
-    subst (λ (l : List X). drop i l ≡ x ∷ drop (i + 1) l) e cut
-
--- ---- an assertion
-
-module _ (db : Database) (theorem : Formula) (old new : Steps) (name : Name) (frame : Frame) (before behind : List Formula) (rest : List Push) where
-  pub not_pushed : is_provable db frame.formula ≡ false → Goes false db theorem old (push_of_frame db name before behind (Some frame) ++ rest) old rest
-  not_pushed t =
-      goes_same false db theorem old old [] (push_of_frame db name before behind (Some frame)) rest
-      (sym (cond_else (is_provable db frame.formula) (push_with name (taken_from before frame) (slice_index_or behind 0 []) ∷ []) [] t)) (stays db theorem old rest)
-
-  pub pushed : (last : Bool) (taken : List Formula) (f : Formula) → is_provable db frame.formula ≡ true → taken ≡ taken_from before frame → f ≡ slice_index_or behind 0 []
-      → Goes last db theorem old (push_with name taken f ∷ rest) new rest → Goes last db theorem old (push_of_frame db name before behind (Some frame) ++ rest) new rest
-  pushed last taken f t et ef g =
-      goes_same last db theorem old new (push_with name taken f ∷ []) (push_of_frame db name before behind (Some frame)) rest
-      (ap (λ (fs : List Formula). push_with name fs f ∷ []) et ∙ ap (λ (g : Formula). push_with name (taken_from before frame) g ∷ []) ef
-      ∙ sym (cond_then (is_provable db frame.formula) (push_with name (taken_from before frame) (slice_index_or behind 0 []) ∷ []) [] t)) g
+    let cut : drop i list ≡ get_or list i d ∷ drop (i + 1) list = drop-cons list i d low ∙ ap (λ (k : ℕ). get_or list i d ∷ drop k list) one in
+    subst (λ (l : List X). drop i l ≡ get_or list i d ∷ drop (i + 1) l) e cut
 
 -- ---- a label
 

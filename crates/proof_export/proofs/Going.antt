@@ -1,5 +1,5 @@
 -- What the steps so far become with the pushes that follow.
-use Rattle.std.proofs.Common.{◌≡◌, ℕ, Bool, true, false, suc, ◌||◌, cond, List, [], ◌∷◌, ◌++◌, length, map, Option, Some, None, option_map, refl, sym, ap, ◌∙◌}
+use Rattle.std.proofs.Common.{◌≡◌, ℕ, Bool, true, false, suc, ◌||◌, cond, List, [], ◌∷◌, ◌++◌, length, Option, Some, None, option_map, refl, sym, ap, ◌∙◌}
 use Rattle.std.specs.Prelude.{codes, is_some}
 use Rattle.std.specs.List.{list_any}
 use Rattle.std.proofs.lemmas.List.{append_assoc}
@@ -10,7 +10,7 @@ use Rattle.sheet_text.specs.declared.sheet.Given.{Given}
 use Rattle.sheet_text.specs.declared.sheet.SheetItem.{SheetItem}
 use Rattle.sheet_text.specs.declared.sheet.SheetItem.TheVariants as item
 use Rattle.sheet_text.specs.declared.sheet.SheetStep.{SheetStep}
-use Rattle.export_model.specs.Exported.{Push, number_name, place_in, push_step, push_steps, step_with}
+use Rattle.export_model.specs.Exported.{Push, number_name, push_step, push_steps, step_with}
 use Rattle.stack_verify.proofs.Substitutes.{cond_then, cond_else}
 use Rattle.proof_export.specs.Leads.{ArePlaces, Ends, Goes, HasFormulas, LeadsTo, items_of, push_with}
 use Rattle.proof_export.specs.Places.{key_of, number_at}

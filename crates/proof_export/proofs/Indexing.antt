@@ -3,7 +3,6 @@ use Rattle.std.proofs.Common.{◌≡◌, ℕ, Bool, true, false, Option, Some, �
 use Rattle.std.specs.Prelude.{is_some}
 use Rattle.std.specs.Global.{Vec}
 use Rattle.std.specs.Str.{bytes_eq}
-use Rattle.mm_base.specs.declared.symbols.Sym.{Sym}
 use Rattle.mm_model.specs.declared.frames.Hyp.{Hyp}
 use Rattle.proof_model.specs.Machine.{Formula, same_formula}
 use Rattle.proof_export.specs.Places.{AreHyps, AreSteps, key_of, number_at}

@@ -1,13 +1,12 @@
 -- What is said over the contents of a database is said over the database.
 use Rattle.std.proofs.Common.{◌≡◌, ℕ, List, map, Option, None, refl, sym, ap, ◌∙◌, subst}
-use Rattle.std.specs.Prelude.{option_and_then}
 use Rattle.std.proofs.Math.Path.{fun_ext}
 use Rattle.mm_base.specs.declared.kinds.Kinds.{Kinds}
 use Rattle.mm_base.specs.declared.symbols.Label.{Label}
 use Rattle.mm_model.specs.declared.frames.Frame.{Frame}
 use Rattle.mm_model.specs.declared.rows.Production.{Production}
-use Rattle.mm_model.specs.Names.{Name, label_named}
-use Rattle.mm_model.specs.Statements.{statements, labels}
+use Rattle.mm_model.specs.Names.{Name}
+use Rattle.mm_model.specs.Statements.{statements}
 use Rattle.mm_model.specs.Frames.{frame_of}
 use Rattle.mm_model.specs.Book.{Database}
 use Rattle.mm_frames.specs.Contents.{Contents, contents_of, frame_at}

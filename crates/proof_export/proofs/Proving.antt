@@ -1,5 +1,5 @@
 -- What the steps of an accepted proof add to the worksheet.
-use Rattle.std.proofs.Common.{◌≡◌, ℕ, suc, Bool, true, false, List, [], ◌∷◌, ◌++◌, length, drop, Option, Some, None, Result, Ok, refl, sym, ap, ◌∙◌, subst}
+use Rattle.std.proofs.Common.{◌≡◌, Bool, true, false, List, [], ◌∷◌, ◌++◌, Option, Some, None, Result, Ok, sym, ap, ◌∙◌, subst}
 use Rattle.std.specs.Prelude.{codes, find, is_some, if◌then◌else◌}
 use Rattle.std.specs.Str.{bytes_eq}
 use Rattle.mm_model.specs.declared.frames.Hyp.{Hyp}
@@ -11,8 +11,8 @@ use Rattle.proof_model.specs.declared.theorem.Theorem.{Theorem}
 use Rattle.proof_model.specs.Machine.{Formula, MachineFault, State, use_step}
 use Rattle.sheet_text.specs.declared.sheet.SheetItem.TheVariants as item
 use Rattle.written_model.specs.Written.{frames_of}
-use Rattle.export_model.specs.Exported.{Push, behind_step, push_of, push_of_frame, push_of_label, pushes_from, push_steps, step_with}
-use Rattle.proof_export.specs.Leads.{Ends, Goes, HasFormulas, LeadsTo, items_of}
+use Rattle.export_model.specs.Exported.{Push, behind_step, push_of, push_of_frame, push_of_label, pushes_from, step_with}
+use Rattle.proof_export.specs.Leads.{Ends, Goes, LeadsTo}
 use Rattle.proof_export.specs.declared.steps.Steps.{Steps}
 use Rattle.proof_export.proofs.Going.{leads_on, leads_to_end}
 

@@ -1,13 +1,13 @@
 -- One round of a loop, and one call of a machine.
-use Rattle.std.proofs.Common.{◌≡◌, ◌<◌, ◌≤◌, ℕ, ◌+◌, false, true, List, [], ◌∷◌, ◌++◌, length, map, take, get_or, Option, Some, Ok, refl, zero, suc, sym, ap, ◌∙◌, arith, subst}
+use Rattle.std.proofs.Common.{◌≡◌, ◌<◌, ℕ, ◌+◌, false, true, List, [], ◌∷◌, ◌++◌, length, map, take, get_or, Option, Some, Ok, refl, zero, suc, sym, ap, ◌∙◌, arith, subst}
 use Rattle.std.specs.Prelude.{reverse, slice_get}
 use Rattle.std.proofs.lemmas.List.{length-map, length-take-le, map-append, reverse-append}
 use Rattle.std.specs.Global.{Vec}
 use Rattle.mm_model.specs.declared.frames.Hyp.{Hyp}
 use Rattle.mm_model.specs.Productions.{essentials}
-use Rattle.mm_model.specs.Names.{Name, first_number}
+use Rattle.mm_model.specs.Names.{Name}
 use Rattle.mm_model.specs.Book.{Database}
-use Rattle.proof_model.specs.Machine.{Formula, State, use_kept}
+use Rattle.proof_model.specs.Machine.{Formula, use_kept}
 use Rattle.sheet_text.specs.declared.sheet.Given.{Given}
 use Rattle.export_model.specs.Exported.{hyp_steps, place_in}
 use Rattle.proof_export.specs.Leads.{HasFormulas, items_of, taken_for}

@@ -1,5 +1,5 @@
 -- A database as its contents give it, for what is said of its names and frames.
-use Rattle.std.specs.Prelude.{List, [], Option, None, false, option_and_then}
+use Rattle.std.specs.Prelude.{[], None, false}
 use Rattle.mm_model.specs.Names.{Name}
 use Rattle.mm_model.specs.Book.{Database}
 use Rattle.mm_frames.specs.Contents.{Contents, frame_at}

@@ -1,12 +1,11 @@
 -- Proofs that are accepted, and what their steps push.
-use Rattle.std.specs.Prelude.{◌≡◌, ℕ, List, Option, Some, Result, Ok}
+use Rattle.std.specs.Prelude.{◌≡◌, ℕ, List, Some, Result, Ok}
 use Rattle.mm_base.specs.declared.kinds.Kinds.{Kinds}
 use Rattle.mm_base.specs.declared.symbols.Label.{Label}
 use Rattle.mm_model.specs.declared.frames.Frame.{Frame}
 use Rattle.mm_model.specs.Names.{Name}
 use Rattle.mm_model.specs.Statements.{statements}
 use Rattle.mm_model.specs.Frames.{frame_of}
-use Rattle.mm_model.specs.Book.{Database}
 use Rattle.proof_model.specs.declared.code.Code.{Code}
 use Rattle.proof_model.specs.declared.code.Step.{Step}
 use Rattle.proof_model.specs.declared.theorem.Theorem.{Theorem}

@@ -1,5 +1,5 @@
 -- Statements of a worksheet, by the names of symbols.
-use Rattle.std.specs.Prelude.{List, [], ◌∷◌, map, slice_index_or}
+use Rattle.std.specs.Prelude.{List, [], ◌∷◌, slice_index_or}
 use Rattle.mm_base.specs.declared.symbols.Sym.{Sym}
 use Rattle.mm_base.specs.declared.symbols.Pair.{Pair}
 use Rattle.mm_model.specs.Names.{Name}

@@ -1,4 +1,4 @@
-use Rattle.std.proofs.Common.{◌≡◌, ◌+◌, ℕ, List, [], ◌∷◌, ◌++◌, drop, sym, subst, ap, ◌∙◌, false, None}
+use Rattle.std.proofs.Common.{◌≡◌, ◌+◌, List, [], ◌∷◌, ◌++◌, drop, subst, ap, ◌∙◌, false, None}
 use Rattle.std.specs.Prelude.{codes}
 use Rattle.std.proofs.lemmas.List.{drop_all}
 use Rattle.std.proofs.lemmas.Result.{on_ok_weaker}
@@ -20,9 +20,8 @@ returns-then-last c =
     let labels = c.args.code.now.labels in
     let steps = c.args.code.now.steps in
     let i = c.loop-step.step-index in
-    let s = c.step-item.result in
-    let cut = next_of steps c.as_slice-step-items.result.now i s c.as_slice-step-items.ensures c.loop-step-test.true c.step-item.is in
-    loop_ends db thm labels c.as_slice-labels.result.now c.as_slice-labels.ensures (drop i steps) s (drop (i + 1) steps) (state c.loop-step.machine) cut c.loop-step.invariant.runs
+    loop_ends db thm labels c.as_slice-labels.result.now c.as_slice-labels.ensures (drop i steps) _ (drop (i + 1) steps) (state c.loop-step.machine)
+    (next_of steps c.as_slice-step-items.result.now i _ c.as_slice-step-items.ensures c.loop-step-test.true) c.loop-step.invariant.runs
     c.args.steps.now c.loop-step.steps c.use_step.new.steps (pushes_from db thm labels steps start) (state c.use_step.new.machine) c.loop-step.invariant.leads c.in_ok-last.ensures.state
     c.in_ok-last.last c.if-last.true (c.in_ok-last.ensures.goes (pushes_from db thm labels (drop (i + 1) steps) (state c.use_step.new.machine)))
 
@@ -33,12 +32,12 @@ loop-step-preserved c =
     let labels = c.args.code.now.labels in
     let steps = c.args.code.now.steps in
     let i = c.loop-step.step-index in
-    let s = c.step-item.result in
-    let cut = next_of steps c.as_slice-step-items.result.now i s c.as_slice-step-items.ensures c.loop-step-test.true c.step-item.is in
     record {
-      runs = loop_runs db thm labels c.as_slice-labels.result.now c.as_slice-labels.ensures (drop i steps) s (drop (i + 1) steps) (state c.loop-step.machine) cut c.loop-step.invariant.runs
+      runs = loop_runs db thm labels c.as_slice-labels.result.now c.as_slice-labels.ensures (drop i steps) _ (drop (i + 1) steps) (state c.loop-step.machine)
+    (next_of steps c.as_slice-step-items.result.now i _ c.as_slice-step-items.ensures c.loop-step-test.true) c.loop-step.invariant.runs
           c.args.steps.now c.loop-step.steps c.use_step.new.steps (pushes_from db thm labels steps start) (state c.use_step.new.machine) c.loop-step.invariant.leads c.in_ok-last.ensures.state;
-      leads = loop_leads db thm labels c.as_slice-labels.result.now c.as_slice-labels.ensures (drop i steps) s (drop (i + 1) steps) (state c.loop-step.machine) cut c.loop-step.invariant.runs
+      leads = loop_leads db thm labels c.as_slice-labels.result.now c.as_slice-labels.ensures (drop i steps) _ (drop (i + 1) steps) (state c.loop-step.machine)
+    (next_of steps c.as_slice-step-items.result.now i _ c.as_slice-step-items.ensures c.loop-step-test.true) c.loop-step.invariant.runs
           c.args.steps.now c.loop-step.steps c.use_step.new.steps (pushes_from db thm labels steps start) (state c.use_step.new.machine) c.loop-step.invariant.leads c.in_ok-last.ensures.state
           c.in_ok-last.last c.if-last.false (c.in_ok-last.ensures.goes (pushes_from db thm labels (drop (i + 1) steps) (state c.use_step.new.machine)));
     }

@@ -1,13 +1,10 @@
-use Rattle.std.proofs.Common.{◌≡◌, ◌<◌, List, Bool, Option, Some, None, [], ◌++◌, length, sym, subst, ap, ◌∙◌, arith, rules, Ok}
+use Rattle.std.proofs.Common.{◌≡◌, ◌<◌, List, Option, Some, None, length, sym, subst, ap, ◌∙◌, arith, rules, Ok}
 use Rattle.std.proofs.lemmas.Result.{IfOk-weaker, on_ok_weaker}
 use Rattle.std.specs.Option.{option_copied}
-use Rattle.mm_base.specs.declared.symbols.Sym.{Sym}
 use Rattle.mm_model.specs.declared.frames.Hyp.{Hyp}
-use Rattle.proof_model.specs.Machine.{State, use_label}
+use Rattle.proof_model.specs.Machine.{State}
 use Rattle.written_model.specs.Written.{frames_of}
-use Rattle.export_model.specs.Exported.{Push, push_of_frame}
 use Rattle.proof_export.specs.Books.{book_in}
-use Rattle.proof_export.specs.Leads.{Goes}
 use Rattle.proof_export.specs.Machines.{state, applied_to}
 use Rattle.proof_export.proofs.Applying.{found_hyp, hyp_taken, hyp_goes, frame_goes}
 use Rattle.proof_export.proofs.Rounds.{placed}

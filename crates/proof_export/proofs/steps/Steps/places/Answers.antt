@@ -1,4 +1,4 @@
-use Rattle.std.proofs.Common.{ap, sym, ◌∙◌}
+use Rattle.std.proofs.Common.{ap, ◌∙◌}
 use Rattle.std.specs.Global.{Vec}
 use Rattle.sheet_text.specs.declared.sheet.Given.{Given}
 use Rattle.proof_export.proofs.Rounds.{places_more, places_same}

@@ -1,4 +1,4 @@
-use Rattle.std.proofs.Common.{List, Some, ◌∷◌, [], ◌++◌, length, false, ap, sym, ◌∙◌}
+use Rattle.std.proofs.Common.{Some, ◌∷◌, [], ◌++◌, length, false, ap, sym, ◌∙◌}
 use Rattle.mm_model.specs.Names.{Name}
 use Rattle.sheet_text.specs.declared.sheet.SheetItem.TheVariants as item
 use Rattle.export_model.specs.Exported.{number_name, step_with}
