@@ -1,0 +1,13 @@
+pub mod Applying
+pub mod Firsts
+pub mod Going
+pub mod Growing
+pub mod Indexing
+pub mod Looping
+pub mod Opening
+pub mod Proving
+pub mod Rounds
+pub mod Standing
+pub mod Stepping
+pub mod Tops
+pub mod Using
