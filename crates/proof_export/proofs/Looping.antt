@@ -58,9 +58,12 @@ hyp_steps_more db n (x ∷ hs) h =
     let same : suc n + length hs ≡ n + suc (length hs) = omega arith in
     ap (λ (l : List SheetStep). hyp_steps db n (x ∷ []) ++ l) (hyp_steps_more db (suc n) hs h ∙ ap (λ (k : ℕ). hyp_steps db (suc n) hs ++ hyp_steps db k (h ∷ [])) same)
 
-pub hyp_items_more : (db : Database) (hs : List Hyp) (h : Hyp) (n : ℕ) (old new : List SheetItem) → n ≡ length hs → old ≡ items_of (hyp_steps db 0 hs) → new ≡ old ++ items_of (hyp_steps db n (h ∷ []))
+pub hyp_items_more : (db : Database) (hs : List Hyp) (h : Hyp) (n : ℕ) (old new : List SheetItem) → n ≡ length hs → old ≡ items_of (hyp_steps db 0 hs)
+    → new ≡ old ++ items_of (hyp_steps db n (h ∷ []))
     → new ≡ items_of (hyp_steps db 0 (hs ++ h ∷ []))
 hyp_items_more db hs h n old new e o w =
     let zero : 0 + length hs ≡ length hs = omega arith in
     w ∙ ap (λ (l : List SheetItem). l ++ items_of (hyp_steps db n (h ∷ []))) o ∙ ap (λ (k : ℕ). items_of (hyp_steps db 0 hs) ++ items_of (hyp_steps db k (h ∷ []))) e
-    ∙ sym (ap items_of (hyp_steps_more db 0 hs h) ∙ ap (λ (k : ℕ). items_of (hyp_steps db 0 hs ++ hyp_steps db k (h ∷ []))) zero ∙ map-append (λ s. item.Step s) (hyp_steps db 0 hs) (hyp_steps db (length hs) (h ∷ [])))
+    ∙ sym
+    (ap items_of (hyp_steps_more db 0 hs h) ∙ ap (λ (k : ℕ). items_of (hyp_steps db 0 hs ++ hyp_steps db k (h ∷ []))) zero
+    ∙ map-append (λ s. item.Step s) (hyp_steps db 0 hs) (hyp_steps db (length hs) (h ∷ [])))

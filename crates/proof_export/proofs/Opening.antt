@@ -57,7 +57,8 @@ abbrev sheet_with : Name → List SheetItem → List PairLine → Sheet
 sheet_with name items pairs = record { line = 0; theorem = name; loc = None; items = items; pairs = pairs }
 
 -- a worksheet of these parts
-pub sheet_is : (c : Contents) (text : List ℕ) (kinds : Kinds) (rows : List Production) (parsed : List (Option Parsed)) (thm real : Theorem) (t name : Name) (code : Code) (items : List SheetItem) (ps : List Pair) (pairs : List PairLine)
+pub sheet_is : (c : Contents) (text : List ℕ) (kinds : Kinds) (rows : List Production) (parsed : List (Option Parsed)) (thm real : Theorem)
+    (t name : Name) (code : Code) (items : List SheetItem) (ps : List Pair) (pairs : List PairLine)
     → c ≡ contents_of text → thm ≡ real → t ≡ name → items ≡ items_of (export_steps (book_in c kinds.provable) thm code) → ps ≡ thm.pairs → pairs ≡ map (line_in c.symbols) ps
     → sheet_with t items pairs ≡ export_sheet (database_of kinds text rows parsed) real name code
 sheet_is c text kinds rows parsed thm real t name code items ps pairs e et en ei es ep =

@@ -18,7 +18,8 @@ use Rattle.proof_export.proofs.Going.{leads_on, leads_to_end}
 
 -- ---- what a label pushes
 
-pub hyp_pushes : (db : Database) (thm : Theorem) (label : Name) (before behind : List Formula) (h : Hyp) → find (λ (h : Hyp). bytes_eq h.name label) thm.hyps ≡ Some h → push_of_label db thm label before behind ≡ []
+pub hyp_pushes : (db : Database) (thm : Theorem) (label : Name) (before behind : List Formula) (h : Hyp)
+    → find (λ (h : Hyp). bytes_eq h.name label) thm.hyps ≡ Some h → push_of_label db thm label before behind ≡ []
 hyp_pushes db thm label before behind h e = ap (λ (o : Option Hyp). if is_some o then [] else push_of_frame db label before behind (frames_of db label)) e
 
 pub frame_pushes : (db : Database) (thm : Theorem) (label : Name) (before behind : List Formula) (f : Frame) → find (λ (h : Hyp). bytes_eq h.name label) thm.hyps ≡ None → frames_of db label ≡ Some f
@@ -27,7 +28,8 @@ frame_pushes db thm label before behind f e q =
     ap (λ (o : Option Hyp). if is_some o then [] else push_of_frame db label before behind (frames_of db label)) e ∙ ap (push_of_frame db label before behind) q
 
 -- what goes with some pushes goes with the same
-pub goes_same : (last : Bool) (db : Database) (theorem : Formula) (old new : Steps) (ps qs rest : List Push) → ps ≡ qs → Goes last db theorem old (ps ++ rest) new rest → Goes last db theorem old (qs ++ rest) new rest
+pub goes_same : (last : Bool) (db : Database) (theorem : Formula) (old new : Steps) (ps qs rest : List Push) → ps ≡ qs
+    → Goes last db theorem old (ps ++ rest) new rest → Goes last db theorem old (qs ++ rest) new rest
 goes_same last db theorem old new ps qs rest e g = subst (λ (l : List Push). Goes last db theorem old (l ++ rest) new rest) e g
 
 -- ---- the loop
@@ -57,6 +59,7 @@ module _ (db : Database) (thm : Theorem) (labels : List Name) where
       (subst (λ (l : List Push). LeadsTo db thm.formula first all old l) (pushes_on s ss st next e) one) other
 
   -- no step was the last
-  pub ends_open : (first old new : Steps) (all : List Push) → LeadsTo db thm.formula first all old [] → new.items.items ≡ old.items.items ++ item.Step (step_with db false (codes "qed") [] None thm.formula) ∷ []
+  pub ends_open : (first old new : Steps) (all : List Push) → LeadsTo db thm.formula first all old []
+      → new.items.items ≡ old.items.items ++ item.Step (step_with db false (codes "qed") [] None thm.formula) ∷ []
       → Ends db thm.formula first all new
   ends_open first old new all one items = record { each = λ fs h. let there = one.each fs h in there.2 ∙ sym items }

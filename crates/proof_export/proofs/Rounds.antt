@@ -35,7 +35,8 @@ found_there [] k low = absurd (omega (arith, low))
 found_there (x ∷ xs) zero low = refl
 found_there (x ∷ xs) (suc k) low = found_there xs k (omega (arith, low))
 
-module _ (fs : List Formula) (hs : List Hyp) (es : List Formula) (i : ℕ) (h : Hyp) (old new : List Given) (n : length es ≡ length hs) (low : i < length hs) (eh : h ≡ get_or hs i h) (was : old ≡ map (place_in fs) (taken_for (take i hs) (take i es))) where
+module _ (fs : List Formula) (hs : List Hyp) (es : List Formula) (i : ℕ) (h : Hyp) (old new : List Given) (n : length es ≡ length hs)
+    (low : i < length hs) (eh : h ≡ get_or hs i h) (was : old ≡ map (place_in fs) (taken_for (take i hs) (take i es))) where
   counts : length (take i es) ≡ length (take i hs)
   counts = length-take-le i es (omega (arith, low, n)) ∙ sym (length-take-le i hs (omega (arith, low)))
 
@@ -61,7 +62,8 @@ module _ (fs : List Formula) (hs : List Hyp) (es : List Formula) (i : ℕ) (h : 
 abbrev pub formulas_of : List Hyp → List Formula
 formulas_of hs = map (λ (h : Hyp). h.formula) (essentials hs)
 
-module _ (db : Database) (hs : List Hyp) (i : ℕ) (h : Hyp) (old new : Steps) (low : i < length hs) (eh : h ≡ get_or hs i h) (has : HasFormulas old (formulas_of (take i hs))) (was : old.items.items ≡ items_of (hyp_steps db 0 (essentials (take i hs)))) where
+module _ (db : Database) (hs : List Hyp) (i : ℕ) (h : Hyp) (old new : Steps) (low : i < length hs) (eh : h ≡ get_or hs i h)
+    (has : HasFormulas old (formulas_of (take i hs))) (was : old.items.items ≡ items_of (hyp_steps db 0 (essentials (take i hs)))) where
   pub hyps_same : h.floating ≡ true → new ≡ old → HasFormulas new (formulas_of (take (i + 1) hs)) × (new.items.items ≡ items_of (hyp_steps db 0 (essentials (take (i + 1) hs))))
   hyps_same t same =
       let less : essentials (take i hs) ≡ essentials (take (i + 1) hs) = sym (ap essentials (take_more hs i h low eh) ∙ essentials_same (take i hs) h t) in

@@ -10,10 +10,10 @@ use Rattle.sheet_text.specs.declared.sheet.SheetItem.TheVariants as item
 use Rattle.written_model.specs.Written.{frames_of}
 use Rattle.export_model.specs.Exported.{Push, push_of, pushes_from, push_steps, step_with}
 use Rattle.proof_export.specs.Leads.{Goes, HasFormulas, LeadsTo, items_of}
-use Rattle.proof_export.specs.Proofs.{Passes, Runs}
+use Rattle.proof_export.specs.Proofs.{Runs}
 use Rattle.proof_export.specs.declared.steps.Steps.{Steps}
 use Rattle.proof_export.proofs.Proving.{leads_past, ends_with, ends_open}
-use Rattle.proof_export.proofs.Using.{runs_on, step_passes}
+use Rattle.proof_export.proofs.Using.{runs_on}
 
 -- the list of labels that the program reads is that of the code
 module _ (db : Database) (thm : Theorem) (labels list : List Name) (el : list ≡ labels) where
@@ -32,9 +32,6 @@ module _ (db : Database) (thm : Theorem) (labels list : List Name) (el : list �
   module _ (here : List Step) (s : Step) (rest : List Step) (st : State) (cut : here ≡ s ∷ rest) (runs : Runs (frames_of db) thm labels here st) where
     from_here : Runs (frames_of db) thm labels (s ∷ rest) st
     from_here = subst (λ (l : List Step). Runs (frames_of db) thm labels l st) cut runs
-
-    pub loop_passes : Passes (use_step (frames_of db) thm list s st)
-    loop_passes = subst (λ (l : List Name). Passes (use_step (frames_of db) thm l s st)) (sym el) (step_passes (frames_of db) thm labels s rest st from_here)
 
     module _ (first old new : Steps) (all : List Push) (next : State) (leads : LeadsTo db thm.formula first all old (follow here st)) (e : use_step (frames_of db) thm list s st ≡ Ok next) where
       used : use_step (frames_of db) thm labels s st ≡ Ok next

@@ -1,5 +1,6 @@
 -- Steps of an accepted proof, which have no fault.
-use Rattle.std.proofs.Common.{◌≡◌, ◌<◌, ◌≤◌, ℕ, zero, suc, Bool, true, false, ltb, List, [], ◌∷◌, length, drop, get_or, Option, Some, None, option_map, Result, Ok, Err, refl, sym, ap, ◌∙◌, arith, inl, inr, subst}
+use Rattle.std.proofs.Common.{◌≡◌, ◌<◌, ◌≤◌, ℕ, zero, suc, Bool, true, false, ltb, List, [], ◌∷◌, length, drop, get_or, Option, Some, None}
+use Rattle.std.proofs.Common.{option_map, Result, Ok, Err, refl, sym, ap, ◌∙◌, arith, inl, inr, subst}
 use Rattle.std.specs.Prelude.{MatchOption, find, slice_get}
 use Rattle.std.specs.List.{zip}
 use Rattle.std.specs.Str.{bytes_eq}
@@ -11,7 +12,9 @@ use Rattle.mm_model.specs.Names.{Name, first_number}
 use Rattle.proof_model.specs.declared.code.Step.{Step}
 use Rattle.proof_model.specs.declared.code.Code.{Code}
 use Rattle.proof_model.specs.declared.theorem.Theorem.{Theorem}
-use Rattle.proof_model.specs.Machine.{Formula, Frames, MachineFault, State, and_then, apply_frame, ended_fault, entries_fault, keep_top, not_earlier, numbered, proof_fault, push, run_steps, start, substituted, underflow, unknown, unless, use_frame, use_hyp, use_kept, use_label, use_step, use_what}
+use Rattle.proof_model.specs.Machine.{Formula, Frames, MachineFault, State, and_then, apply_frame, ended_fault, entries_fault, keep_top, not_earlier}
+use Rattle.proof_model.specs.Machine.{numbered, proof_fault, push, run_steps, start, substituted, underflow, unknown, unless, use_frame, use_hyp}
+use Rattle.proof_model.specs.Machine.{use_kept, use_label, use_step, use_what}
 use Rattle.stack_verify.proofs.Substitutes.{cond_then, cond_else}
 use Rattle.proof_export.specs.Machines.{applied_to, top_of}
 use Rattle.proof_export.specs.Proofs.{Passes, Runs}

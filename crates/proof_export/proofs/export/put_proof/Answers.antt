@@ -34,10 +34,10 @@ loop-step-preserved c =
     let i = c.loop-step.step-index in
     record {
       runs = loop_runs db thm labels c.as_slice-labels.result.now c.as_slice-labels.ensures (drop i steps) _ (drop (i + 1) steps) (state c.loop-step.machine)
-    (next_of steps c.as_slice-step-items.result.now i _ c.as_slice-step-items.ensures c.loop-step-test.true) c.loop-step.invariant.runs
+          (next_of steps c.as_slice-step-items.result.now i _ c.as_slice-step-items.ensures c.loop-step-test.true) c.loop-step.invariant.runs
           c.args.steps.now c.loop-step.steps c.use_step.new.steps (pushes_from db thm labels steps start) (state c.use_step.new.machine) c.loop-step.invariant.leads c.in_ok-last.ensures.state;
       leads = loop_leads db thm labels c.as_slice-labels.result.now c.as_slice-labels.ensures (drop i steps) _ (drop (i + 1) steps) (state c.loop-step.machine)
-    (next_of steps c.as_slice-step-items.result.now i _ c.as_slice-step-items.ensures c.loop-step-test.true) c.loop-step.invariant.runs
+          (next_of steps c.as_slice-step-items.result.now i _ c.as_slice-step-items.ensures c.loop-step-test.true) c.loop-step.invariant.runs
           c.args.steps.now c.loop-step.steps c.use_step.new.steps (pushes_from db thm labels steps start) (state c.use_step.new.machine) c.loop-step.invariant.leads c.in_ok-last.ensures.state
           c.in_ok-last.last c.if-last.false (c.in_ok-last.ensures.goes (pushes_from db thm labels (drop (i + 1) steps) (state c.use_step.new.machine)));
     }

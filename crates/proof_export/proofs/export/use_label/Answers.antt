@@ -42,7 +42,8 @@ returns-in_ok-push-in-Some-clause-state c =
     let h = c.index-as_slice-number.result in
     let first = placed thm.hyps c.args.places.now.entries c.args.name.now c.hyp_place.result (Some c.in-Some.number) c.requires.hyps c.hyp_place.ensures c.in-Some.is in
     hyp_taken (frames_of (book_in c.args.frames.now c.args.kinds.now.provable)) thm c.args.name.now (state c.args.machine.now) (state c.push.new.self) h c.as_slice-in-Some.result.now
-    (found_hyp thm c.args.name.now c.as_slice.result.now c.in-Some.number h first c.as_slice.ensures c.index-as_slice-number.is) (c.as_slice-in-Some.ensures ∙ ap (λ (x : Hyp). x.formula) (sym c.index-as_slice-number.is)) c.in_ok-push-in-Some.ensures
+    (found_hyp thm c.args.name.now c.as_slice.result.now c.in-Some.number h first c.as_slice.ensures c.index-as_slice-number.is)
+    (c.as_slice-in-Some.ensures ∙ ap (λ (x : Hyp). x.formula) (sym c.index-as_slice-number.is)) c.in_ok-push-in-Some.ensures
 
 pub returns-in_ok-push-in-Some-clause-goes : goal.returns-in_ok-push-in-Some-clause-goes
 returns-in_ok-push-in-Some-clause-goes c = λ rest.
@@ -58,7 +59,9 @@ returns-in-Some-frame_named-clause-state c =
     let none = placed c.args.theorem.now.hyps c.args.places.now.entries c.args.name.now c.hyp_place.result None c.requires.hyps c.hyp_place.ensures c.in-None.is in
     let found = sym (c.frame_named.ensures c.args.kinds.now.provable) ∙ ap (λ (o : Option _). option_copied o) c.in-Some-frame_named.is in
     let used = frame_used (frames_of db) c.args.theorem.now c.args.name.now (state c.args.machine.now) c.in-Some-frame_named.frame.now none found c.requires.passes in
-    on_ok_weaker c.apply.result (λ (e : state c.apply.new.machine ≡ applied_to c.in-Some-frame_named.frame.now (state c.args.machine.now)). used.1 ∙ ap (λ (x : State). Ok x) (sym e)) c.apply.ensures.state
+    on_ok_weaker c.apply.result
+    (λ (e : state c.apply.new.machine ≡ applied_to c.in-Some-frame_named.frame.now (state c.args.machine.now)). used.1
+    ∙ ap (λ (x : State). Ok x) (sym e)) c.apply.ensures.state
 
 pub returns-in-Some-frame_named-clause-goes : goal.returns-in-Some-frame_named-clause-goes
 returns-in-Some-frame_named-clause-goes c =

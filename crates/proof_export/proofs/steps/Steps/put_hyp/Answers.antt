@@ -18,4 +18,5 @@ pub returns-clause-items : goal.returns-clause-items
 returns-clause-items c =
     c.in_ok-put.ensures.items
     ∙ ap (λ (s : SheetStep). c.args.self.now.items.items ++ item.Step s ∷ []) (
-    same_step (book_in c.args.frames.now []) true _ _ _ _ _ _ _ _ (c.in_ok-name.ensures ∙ ap number_name c.in_ok-number.ensures) (c.from_vec-places.ensures ∙ c.new.ensures.items) (c.in_ok-label.ensures ∙ c.as_slice.ensures) c.as_slice-formula.ensures)
+    same_step (book_in c.args.frames.now []) true _ _ _ _ _ _ _ _ (c.in_ok-name.ensures ∙ ap number_name c.in_ok-number.ensures)
+    (c.from_vec-places.ensures ∙ c.new.ensures.items) (c.in_ok-label.ensures ∙ c.as_slice.ensures) c.as_slice-formula.ensures)

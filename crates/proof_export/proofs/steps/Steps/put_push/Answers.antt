@@ -16,5 +16,10 @@ returns-in_ok-put_new-in-None c = λ provable taken rest are.
     goes_past (book_in c.args.frames.now provable) c.args.theorem.now c.args.self.now c.put_new.new.self c.args.label.now taken c.args.formula.now rest c.args.places are
     (sym c.same_formula.ensures ∙ c.if-same_formula.false) (sym c.in-None.is ∙ c.in_ok-number.ensures) c.in_ok-put_new-in-None.ensures.formulas
     (c.in_ok-put_new-in-None.ensures.items
-    ∙ ap (λ (n : Name). c.args.self.now.items.items ++ item.Step (step_with (book_in c.args.frames.now []) false (number_name (length c.args.self.now.items.items)) c.args.places (Some n) c.args.formula.now) ∷ [])
+    ∙ ap
+    (λ (n : Name). c.args.self.now.items.items
+    ++ item.Step
+    (step_with (book_in c.args.frames.now []) false (number_name (length c.args.self.now.items.items)) c.args.places
+    (Some n) c.args.formula.now)
+    ∷ [])
     c.in_ok-label.ensures)
