@@ -5,32 +5,24 @@ use Rattle.std.specs.Global.{Vec}
 use Rattle.std.specs.Str.{bytes_eq}
 use Rattle.std.proofs.lemmas.Slice.Eq.{bytes_eq-Decides}
 use Rattle.mm_model.specs.Names.{first_number}
+use Rattle.stack_verify.proofs.Lookup.{or_at}
 use Rattle.proof_export.specs.Places.{number_at}
 
--- the first, or else the second
-abbrev or_at : Option ℕ → Option ℕ → Option ℕ
-or_at (Some k) o = Some k
-or_at None o = o
+behind : (o : Option ℕ) (t : Bool) (n : ℕ) → option_map (λ (n : ℕ). suc n) (or_at o (cond t (Some n) None)) ≡ or_at (option_map (λ (n : ℕ). suc n) o) (cond t (Some (suc n)) None)
+behind (Some k) t n = refl
+behind None true n = refl
+behind None false n = refl
 
-mapped : (a b : Option ℕ) → option_map (λ (n : ℕ). suc n) (or_at a b) ≡ or_at (option_map (λ (n : ℕ). suc n) a) (option_map (λ (n : ℕ). suc n) b)
-mapped (Some k) b = refl
-mapped None b = refl
-
-chosen : (t : Bool) (n : ℕ) → option_map (λ (n : ℕ). suc n) (cond t (Some n) None) ≡ cond t (Some (suc n)) None
-chosen true n = refl
-chosen false n = refl
-
-at_head : (t : Bool) (a b : Option ℕ) → cond t (Some 0) (or_at a b) ≡ or_at (cond t (Some 0) a) b
-at_head true a b = refl
-at_head false a b = refl
+one_more : (b t : Bool) (o : Option ℕ) (n : ℕ)
+    → cond b (Some 0) (option_map (λ (n : ℕ). suc n) (or_at o (cond t (Some n) None)))
+    ≡ or_at (cond b (Some 0) (option_map (λ (n : ℕ). suc n) o)) (cond t (Some (suc n)) None)
+one_more true t o n = refl
+one_more false t o n = behind o t n
 
 first_more : {X : Type 0} (p : X → Bool) (xs : List X) (x : X) → first_number p (xs ++ x ∷ []) ≡ or_at (first_number p xs) (cond (p x) (Some (length xs)) None)
 first_more p [] x = refl
 first_more p (y ∷ xs) x =
-    ap (λ (o : Option ℕ). cond (p y) (Some 0) (option_map (λ (n : ℕ). suc n) o)) (first_more p xs x)
-    ∙ ap (λ (o : Option ℕ). cond (p y) (Some 0) o) (mapped (first_number p xs) (cond (p x) (Some (length xs)) None))
-    ∙ at_head (p y) (option_map (λ (n : ℕ). suc n) (first_number p xs)) (option_map (λ (n : ℕ). suc n) (cond (p x) (Some (length xs)) None))
-    ∙ ap (or_at (cond (p y) (Some 0) (option_map (λ (n : ℕ). suc n) (first_number p xs)))) (chosen (p x) (length xs))
+    ap (λ (o : Option ℕ). cond (p y) (Some 0) (option_map (λ (n : ℕ). suc n) o)) (first_more p xs x) ∙ one_more (p y) (p x) (first_number p xs) (length xs)
 
 found_or : (t : Bool) (n : ℕ) (a b : Option ℕ) → cond t (Some n) (or_at a b) ≡ or_at (cond t (Some n) a) b
 found_or true n a b = refl
