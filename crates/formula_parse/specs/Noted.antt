@@ -1,4 +1,4 @@
--- What is noted of lists, so that an item is found in them at once.
+-- Part of the proof, and not of the claim: what is noted of lists, so that an item is found in them at once.
 use Rattle.std.specs.Prelude.{◌≡◌, ◌≤◌, ℕ, Bool, true, List, slice_get, Some}
 use Rattle.mm_base.specs.Rows.{row_at}
 use Rattle.mm_base.specs.declared.rows.Rows.{Rows}

@@ -6,8 +6,8 @@ use mm_base::Memory;
 use std::alloc::Global;
 use std::marker::Model;
 
-/// Places of a text, each once, in the order in which they were found. Whether a place is among them takes constant
-/// time.
+/// Places of a text, in the order in which they were found. A place that is added and is among them is not added again;
+/// whether it is among them takes constant time.
 #[derive(Drop)]
 pub struct PlaceSet {
     /// The places.
