@@ -41,13 +41,18 @@ module _ (leaves : List Leaf) (chart : List (List Entry)) (rows : List Productio
   begins_from : (s : Sym) (entries : List Entry) → EntersFirst leaves chart rows before s (b + 1) entries → Begins leaves chart rows before s b entries
   begins_from s entries entered i r rest at below is = entered i (r, at, below, ap (first_sym r.slots) is)
 
-  pub begun_const : (s : Sym) (entries : List Entry) → slice_get leaves b ≡ Some (leaf.Const s)
-      → EntersFirst leaves chart rows before s (b + 1) entries → IsOnce entries → IsBegun leaves chart rows before b entries
-  begun_const s entries here entered once = record {
+  -- the entries of a constant are those of the productions that begin with it
+  pub begun_by : (s : Sym) (entries : List Entry) → slice_get leaves b ≡ Some (leaf.Const s) → Begins leaves chart rows before s b entries → IsOnce entries
+      → IsBegun leaves chart rows before b entries
+  begun_by s entries here begins once = record {
     leaf_in = λ x code at h. (let same : x ≡ leaf.Const s = cc in absurd (subst (λ y. HasCode y code) same h));
-    by_const = λ t at. (let same : s ≡ t = (let a : leaf.Const s ≡ leaf.Const t = cc in cc) in subst (λ u. Begins leaves chart rows before u b entries) same (begins_from s entries entered));
+    by_const = λ t at. (let same : s ≡ t = (let a : leaf.Const s ≡ leaf.Const t = cc in cc) in subst (λ u. Begins leaves chart rows before u b entries) same begins);
     once = once;
   }
+
+  pub begun_const : (s : Sym) (entries : List Entry) → slice_get leaves b ≡ Some (leaf.Const s)
+      → EntersFirst leaves chart rows before s (b + 1) entries → IsOnce entries → IsBegun leaves chart rows before b entries
+  begun_const s entries here entered once = begun_by s entries here (begins_from s entries entered) once
 
   -- the productions that begin with the typecode's symbol are all that begin with a slot of the typecode
   pub follows_from : (entry : Entry) (entries : List Entry) → EntersFirst leaves chart rows before entry.code.0 entry.end entries → Follows leaves chart rows before entry entries

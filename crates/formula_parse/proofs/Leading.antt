@@ -9,9 +9,9 @@ use Rattle.mm_model.specs.declared.rows.Item.{Item}
 use Rattle.mm_model.specs.declared.rows.Item.TheVariants.{Const, Slot}
 use Rattle.mm_model.specs.declared.rows.Leaf.{Leaf}
 use Rattle.mm_model.specs.declared.rows.Production.{Production}
-use Rattle.syntax_grammar.specs.Selections.{numbers, begins_slot, first_code, is_code, is_sym, first_sym, next_const, sym_where_none, has_next, is_lone}
+use Rattle.syntax_grammar.specs.Selections.{numbers, begins_const, begins_slot, first_const, first_code, is_code, is_sym, first_sym, next_const, sym_where_none, has_next, is_lone}
 use Rattle.formula_parse.specs.declared.reach.Entry.{Entry}
-use Rattle.formula_parse.specs.Charts.{IsIn, IsEntry, IsStart, Stays, Reaches, Enters, EntersFirst, EntersNext, Follows, entry_of}
+use Rattle.formula_parse.specs.Charts.{IsIn, IsEntry, IsStart, Stays, Reaches, Enters, EntersFirst, EntersNext, Begins, Follows, entry_of}
 use Rattle.formula_parse.proofs.Grows.{enters_grow}
 
 same_number : (n : ℕ) → (n == n) ≡ true
@@ -38,6 +38,16 @@ number_from test at (x ∷ rows) (suc i) r is pass =
 
 number_in : (test : Production → Bool) (rows : List Production) (i : ℕ) (r : Production) → slice_get rows i ≡ Some r → test r ≡ true → IsIn (numbers test 0 rows) i
 number_in test rows i r is pass = let place : 0 + i ≡ i = omega arith in subst (IsIn (numbers test 0 rows)) place (number_from test 0 rows i r is pass)
+
+-- where no production begins with a constant, none is to begin there
+pub begins_none : (leaves : List Leaf) (chart : List (List Entry)) (rows : List Production) (before : ℕ) (s : Sym) (b : ℕ) (entries : List Entry)
+    (ns : List ℕ)
+    → ns ≡ numbers (begins_const s.0) 0 rows → length ns ≡ 0
+    → Begins leaves chart rows before s b entries
+begins_none leaves chart rows before s b entries ns are none i r rest at below is =
+    let first : first_const r.items ≡ Some s = ap first_const is in
+    let number = number_in (begins_const s.0) rows i r at (ap (is_sym s.0) first ∙ same_number s.0) in
+    absurd (omega (arith, slice_get_within (numbers (begins_const s.0) 0 rows) number.0 i number.1, ap length are, none))
 
 -- where no production begins with a slot of an entry's typecode, none is to follow the entry
 pub follows_none : (leaves : List Leaf) (chart : List (List Entry)) (rows : List Production) (before : ℕ) (entry : Entry) (entries : List Entry)

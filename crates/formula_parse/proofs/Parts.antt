@@ -1,5 +1,5 @@
 -- The turns of the search over the places at which a part of a text is divided.
-use Rattle.std.specs.Prelude.{◌≡◌, ◌≤◌, ◌+◌, ℕ, List, length, take, drop}
+use Rattle.std.specs.Prelude.{◌≡◌, ◌<◌, ◌≤◌, ◌+◌, ◌-◌, ℕ, zero, suc, List, length, take, drop}
 use Rattle.std.proofs.Common.{arith, sym, ap, ◌∙◌, subst}
 use Rattle.mm_base.specs.declared.symbols.Typecode.{Typecode}
 use Rattle.mm_base.specs.declared.tree.Tree.{Tree}
@@ -9,11 +9,12 @@ use Rattle.mm_model.specs.declared.rows.Production.{Production}
 use Rattle.mm_model.specs.Typed.{Parses}
 use Rattle.mm_model.specs.Rows.{AreRows}
 use Rattle.formula_parse.specs.declared.found.Found.{Found}
+use Rattle.formula_parse.specs.declared.found.Found.TheVariants.{Nothing}
 use Rattle.formula_parse.specs.declared.reach.Entry.{Entry}
 use Rattle.formula_parse.specs.Finds.{Finds, joined, paired}
 use Rattle.formula_parse.specs.Fits.{Fits, IsDivided, IsDividedBelow}
 use Rattle.formula_parse.specs.Charts.{span, IsEntry, Reaches, IsChart}
-use Rattle.formula_parse.proofs.Divisions.{place_skip, place_skip_rest, place_skip_both, place_end, place_found}
+use Rattle.formula_parse.proofs.Divisions.{place_begin, place_skip, place_skip_rest, place_skip_both, place_end, place_found}
 use Rattle.formula_parse.proofs.Reaching.{parses_entry, fits_reaches}
 use Rattle.formula_parse.proofs.Spans.{span_length, span_take, span_drop}
 
@@ -57,3 +58,25 @@ module _ (rows : List Production) (before : ℕ) (ok : AreRows rows) (leaves : L
 
   pub part_end : (k : ℕ) → e ≤ b + k + length items → (a : Found (List Tree)) → Finds (Below k) a → Finds (IsDivided rows before slots items code (span leaves b e)) a
   part_end k i a h = place_end rows before ok slots items code (span leaves b e) k (omega (arith, span_length leaves b e l m)) a h
+
+  -- more places, of each of which not both hold
+  part_skip_more : (d k : ℕ) → ((j : ℕ) → k ≤ j → j < k + d → b + j + 1 ≤ e)
+      → ((j : ℕ) → k ≤ j → j < k + d → IsEntry chart b (b + j + 1) code → Reaches leaves chart slots items (b + j + 1) e → ⊥)
+      → (a : Found (List Tree)) → Finds (Below k) a → Finds (Below (k + d)) a
+  part_skip_more zero k i none a h = subst (λ n. Finds (Below n) a) (let same : k ≡ k + 0 = omega arith in same) h
+  part_skip_more (suc d) k i none a h =
+      let more = part_skip_both k (i k (omega arith) (omega arith)) (none k (omega arith) (omega arith)) a h in
+      subst (λ n. Finds (Below n) a) (let same : k + 1 + d ≡ k + suc d = omega arith in same)
+      (part_skip_more d (k + 1) (λ j p q. i j (omega arith) (omega arith)) (λ j p q. none j (omega arith) (omega arith)) a more)
+
+  -- up to the first place of which both hold
+  pub part_first : (k : ℕ) → b + k ≤ e → ((j : ℕ) → j < k → IsEntry chart b (b + j + 1) code → Reaches leaves chart slots items (b + j + 1) e → ⊥) → Finds (Below k) Nothing
+  part_first k i none = subst (λ n. Finds (Below n) Nothing) (let same : 0 + k ≡ k = omega arith in same)
+      (part_skip_more k 0 (λ j p q. omega arith) (λ j p q. none j (omega arith)) Nothing (place_begin rows before ok slots items code (span leaves b e)))
+
+  -- behind the last place of which both hold
+  pub part_last : (k most : ℕ) → b + most ≤ e → e ≤ b + most + length items
+      → ((j : ℕ) → k ≤ j → j < most → IsEntry chart b (b + j + 1) code → Reaches leaves chart slots items (b + j + 1) e → ⊥)
+      → (a : Found (List Tree)) → Finds (Below k) a → Finds (IsDivided rows before slots items code (span leaves b e)) a
+  part_last k most i last none a h = part_end (k + (most - k)) (omega arith) a
+      (part_skip_more (most - k) k (λ j p q. omega arith) (λ j p q. none j p (omega arith)) a h)

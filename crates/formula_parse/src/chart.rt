@@ -298,6 +298,9 @@ fn begin_entries(
         Leaf::Work(code, _) => variable_entry(alloc, begin, code, g.kept().as_slice().len()),
         Leaf::Const(sym) => {
             let mut entries = Entries::new(alloc);
+            if g.rows_by_const(sym).is_empty() {
+                return Ok(entries);
+            }
             enter_first(
                 alloc,
                 g,

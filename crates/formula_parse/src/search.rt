@@ -1,10 +1,10 @@
-ghost use Rattle.std.specs.Prelude.{◌≡◌, ◌<◌, ◌≤◌, length, IfOk, IsTrue, OnOk, slice_get, Some};
+ghost use Rattle.std.specs.Prelude.{◌≡◌, ◌<◌, ◌≤◌, ◌+◌, ℕ, length, IfOk, IsTrue, OnOk, slice_get, Some};
 ghost use Rattle.mm_model.specs.declared.rows.Leaf.TheVariants.{Const};
 ghost use Rattle.mm_model.specs.Rows.{IsGrammar};
 ghost use Rattle.mm_model.specs.Typed.{Parses};
 ghost use Rattle.formula_parse.specs.Finds.{Finds};
 ghost use Rattle.formula_parse.specs.Fits.{Fits, IsLeaf, IsDivided};
-ghost use Rattle.formula_parse.specs.Charts.{span, IsChart, IsEntry, CanLead, Reaches};
+ghost use Rattle.formula_parse.specs.Charts.{span, IsChart, IsEntry, Reaches};
 ghost use Rattle.formula_parse.specs.Ends.{IsAmong};
 
 use crate::found::{Found, add_pairs, discard, write_last};
@@ -78,14 +78,27 @@ fn may_fit(
     Ok(has_end(&reached, end))
 }
 
-/// Whether a place is one of those that were found, and the items can begin there.
-fn may_divide(ends: Ends, leaves: &[Leaf], items: &[Item], middle: usize) -> bool
-    ensures { IsAmong ends middle → CanLead leaves.now items.now middle → IsTrue result }
+/// How far behind the beginning, less one, the first of these places lies, and no more than `most`.
+fn first_place(ends: Ends, begin: usize, most: usize) -> usize
+    ensures within { result ≤ most }
+    ensures none { (m : ℕ) → IsAmong ends m → begin < m → begin + result < m }
 {
     match ends {
-        Ends::Nowhere => false,
-        Ends::Only(end) => end == middle,
-        Ends::Several => can_lead(leaves, items, middle),
+        Ends::Nowhere => 0,
+        Ends::Only(end) => end.saturating_sub(begin).saturating_sub(1).min(most),
+        Ends::Several => 0,
+    }
+}
+
+/// How far behind the beginning the last of these places lies, and no more than `most`.
+fn last_place(ends: Ends, begin: usize, most: usize) -> usize
+    ensures within { result ≤ most }
+    ensures none { (m : ℕ) → IsAmong ends m → m ≤ begin + most → m ≤ begin + result }
+{
+    match ends {
+        Ends::Nowhere => 0,
+        Ends::Only(end) => end.saturating_sub(begin).min(most),
+        Ends::Several => most,
     }
 }
 
@@ -214,7 +227,8 @@ fn sequences(
     }
 }
 
-/// The same for a slot of that typecode, followed by items: each place of division is tried.
+/// The same for a slot of that typecode, followed by items: each place of division is tried. Where the chart has one
+/// place only at which the slot's part may end, the search goes straight on from there.
 #[cycle(parse)]
 #[inline(never)]
 fn divisions(
@@ -241,16 +255,21 @@ fn divisions(
         return Ok(());
     }
     let ends = ends_from(chart, begin, code, leaves, items);
-    for n in 0..end - begin - items.len() {
+    let most = end - begin - items.len();
+    let from = first_place(ends, begin, most);
+    let to = last_place(ends, begin, most);
+    for n in from..to {
         let middle = begin + n + 1;
-        if !may_divide(ends, leaves, items, middle) {
-            continue;
-        }
-        if !may_fit(alloc, leaves, chart, items, slots, middle, end)? {
-            continue;
-        }
-        if !has(chart, begin, middle, code) {
-            continue;
+        if let Ends::Several = ends {
+            if !can_lead(leaves, items, middle) {
+                continue;
+            }
+            if !may_fit(alloc, leaves, chart, items, slots, middle, end)? {
+                continue;
+            }
+            if !has(chart, begin, middle, code) {
+                continue;
+            }
         }
         let mut first = Found::Nothing;
         if let Err(fault) = trees(

@@ -6,8 +6,8 @@ use Rattle.formula_parse.specs.declared.found.Found.TheVariants.{One}
 use Rattle.formula_parse.proofs.LastSlot.{last_slot}
 use Rattle.formula_parse.specs.Fits.{Splits, Fits, IsDivided}
 use Rattle.formula_parse.specs.Charts.{span, IsComplete}
-use Rattle.formula_parse.proofs.Divisions.{place_begin, place_none, place_stop}
-use Rattle.formula_parse.proofs.Parts.{part_skip, part_skip_rest, part_skip_both, part_found, part_end}
+use Rattle.formula_parse.proofs.Divisions.{place_none, place_stop}
+use Rattle.formula_parse.proofs.Parts.{part_first, part_skip, part_skip_rest, part_found, part_last}
 use Rattle.formula_parse.proofs.Spans.{span_length}
 use Rattle.formula_parse.proofs.Consts.{off, const_turn, const_none, end_none}
 use Rattle.formula_parse.proofs.EntryTurns.{chart_entries, IsSoFar, nothing_there, entry_skip, entry_found, entry_stop, entry_end}
@@ -43,7 +43,14 @@ divisions-returns-then-end-begin t c =
     (omega (arith, span_length c.args.leaves.now c.args.begin c.args.end c.requires.order c.requires.within, c.if-end-begin.true))
 
 pub divisions-loop-n-init : goal.divisions-loop-n-init
-divisions-loop-n-init t c = place_begin c.args.rows.now c.args.before c.requires.grammar.rows_hold c.args.slots.now c.args.items.now c.args.code (span c.args.leaves.now c.args.begin c.args.end)
+divisions-loop-n-init t c =
+    let b = c.args.begin in
+    part_first c.args.rows.now c.args.before c.requires.grammar.rows_hold c.args.leaves.now c.args.chart.now c.requires.full c.args.slots.now
+    c.args.items.now c.args.code b c.args.end c.requires.order c.requires.within
+    c.first_place-from.result (omega (arith, c.first_place-from.ensures.within)) (λ j l has reach.
+    let can = can_of c.args.leaves.now c.args.chart.now c.args.slots.now c.args.items.now (b + j + 1) c.args.end reach in
+    let among = c.ends_from-ends.ensures (b + j + 1) has can in
+    omega (arith, l, c.first_place-from.ensures.none (b + j + 1) among (omega arith)))
 
 pub divisions-loop-n-preserved-then-not-has : goal.divisions-loop-n-preserved-then-not-has
 divisions-loop-n-preserved-then-not-has t c =
@@ -51,14 +58,14 @@ divisions-loop-n-preserved-then-not-has t c =
     c.args.items.now c.args.code c.args.begin c.args.end c.requires.order c.requires.within
     c.loop-n.n (omega arith) (λ h. off c.has.result (c.has.ensures h) c.if-not-has.true) c.loop-n.found c.loop-n.invariant
 
-pub divisions-loop-n-preserved-then-not-may_divide : goal.divisions-loop-n-preserved-then-not-may_divide
-divisions-loop-n-preserved-then-not-may_divide t c =
+pub divisions-loop-n-preserved-then-not-can_lead : goal.divisions-loop-n-preserved-then-not-can_lead
+divisions-loop-n-preserved-then-not-can_lead t c =
     let middle = c.args.begin + c.loop-n.n + 1 in
-    part_skip_both c.args.rows.now c.args.before c.requires.grammar.rows_hold c.args.leaves.now c.args.chart.now c.requires.full c.args.slots.now
+    part_skip_rest c.args.rows.now c.args.before c.requires.grammar.rows_hold c.args.leaves.now c.args.chart.now c.requires.full c.args.slots.now
     c.args.items.now c.args.code c.args.begin c.args.end c.requires.order c.requires.within
-    c.loop-n.n (omega arith) (λ has reach.
+    c.loop-n.n (omega arith) (λ reach.
     let can = can_of c.args.leaves.now c.args.chart.now c.args.slots.now c.args.items.now middle c.args.end reach in
-    off c.may_divide.result (c.may_divide.ensures (c.ends_from-ends.ensures middle has can) can) c.if-not-may_divide.true) c.loop-n.found c.loop-n.invariant
+    off c.can_lead.result (c.can_lead.ensures can) c.if-not-can_lead.true) c.loop-n.found c.loop-n.invariant
 
 pub divisions-loop-n-preserved-then-not-branch : goal.divisions-loop-n-preserved-then-not-branch
 divisions-loop-n-preserved-then-not-branch t c =
@@ -83,7 +90,7 @@ divisions-returns-in-Two t c =
     c.args.items.now c.args.code c.args.begin c.args.end c.requires.order c.requires.within
     c.loop-n.n (omega arith) c.loop-n.found c.trees.new.found c.sequences-searched.new.found
     (paired c.trees.new.found
-    c.sequences-searched.new.found) c.add_pairs.new.found c.loop-n.invariant c.in_default.ensures c.in-Ok.ensures refl c.in_ok-add_pairs-in-Ok.ensures in
+    c.sequences-searched.new.found) c.add_pairs.new.found c.loop-n.invariant c.in_default-trees.ensures c.in-Ok.ensures refl c.in_ok-add_pairs-in-Ok.ensures in
     place_stop c.args.rows.now c.args.before c.requires.grammar.rows_hold c.args.slots.now c.args.items.now c.args.code
     (span c.args.leaves.now c.args.begin c.args.end) (c.loop-n.n + 1) c.add_pairs.new.found c.in-Two.field-0 c.in-Two.field-1 c.in-Two.is turn
 
@@ -93,13 +100,18 @@ divisions-loop-n-preserved t c =
     c.args.items.now c.args.code c.args.begin c.args.end c.requires.order c.requires.within
     c.loop-n.n (omega arith) c.loop-n.found c.trees.new.found c.sequences-searched.new.found
     (paired c.trees.new.found
-    c.sequences-searched.new.found) c.add_pairs.new.found c.loop-n.invariant c.in_default.ensures c.in-Ok.ensures refl c.in_ok-add_pairs-in-Ok.ensures
+    c.sequences-searched.new.found) c.add_pairs.new.found c.loop-n.invariant c.in_default-trees.ensures c.in-Ok.ensures refl c.in_ok-add_pairs-in-Ok.ensures
 
 pub divisions-returns : goal.divisions-returns
 divisions-returns t c =
-    part_end c.args.rows.now c.args.before c.requires.grammar.rows_hold c.args.leaves.now c.args.chart.now c.requires.full c.args.slots.now
-    c.args.items.now c.args.code c.args.begin c.args.end c.requires.order c.requires.within
-    c.loop-n.n (omega arith) c.loop-n.found c.loop-n.invariant
+    let b = c.args.begin in
+    let most = c.args.end - b - length c.args.items.now in
+    part_last c.args.rows.now c.args.before c.requires.grammar.rows_hold c.args.leaves.now c.args.chart.now c.requires.full c.args.slots.now
+    c.args.items.now c.args.code b c.args.end c.requires.order c.requires.within
+    c.loop-n.n most (omega arith) (omega arith) (λ j l m has reach.
+    let can = can_of c.args.leaves.now c.args.chart.now c.args.slots.now c.args.items.now (b + j + 1) c.args.end reach in
+    let among = c.ends_from-ends.ensures (b + j + 1) has can in
+    omega (arith, l, m, c.loop-n-test.false, c.last_place-to.ensures.none (b + j + 1) among (omega (arith, m)))) c.loop-n.found c.loop-n.invariant
 
 pub sequences-divisions-requires : goal.sequences-divisions-requires
 sequences-divisions-requires t c =
