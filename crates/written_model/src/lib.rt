@@ -1,6 +1,6 @@
 //! The written worksheet: how the missing places are filled, new work variables named and references found, which
-//! pairs and which proof are written, the report, and what a call of the program answers. It has definitions and the
-//! types that they speak of, and no code of its own.
+//! pairs and which proof are written, the report, and which worksheets are refused. It has definitions and the types that
+//! they speak of, and no code of its own.
 #![tactic(auto)]
 
 mod filled;
