@@ -1,6 +1,5 @@
 -- What is reached along chains is what they lead to.
-use Rattle.std.proofs.Common.{cond, ◌⊎◌, ⊎_elim, inl, inr, reverse, fold, ◌≡◌, ◌==◌, ◌<◌, ◌≤◌, ◌+◌, ◌&&◌, ◌||◌, ℕ, zero, suc, Bool, true, false, List, [], ◌∷◌, ◌++◌, Option, Some, None, nat_eq, take, length, get_or, refl, sym, ap, subst, ◌∙◌, arith}
-use Rattle.std.specs.List.{list_any}
+use Rattle.std.proofs.Common.{cond, ◌⊎◌, ⊎_elim, inl, inr, reverse, fold, ◌≡◌, ◌==◌, ◌&&◌, ◌||◌, ℕ, Bool, true, false, List, [], ◌∷◌, ◌++◌, Option, Some, None, nat_eq, refl, sym, ap, subst, ◌∙◌, arith}
 use Rattle.std.proofs.lemmas.Bool.Decides.{nat_tests}
 use Rattle.std.proofs.lemmas.List.{reverse-append}
 use Rattle.std.proofs.lemmas.List.Folds.{list_any-append}
@@ -9,7 +8,7 @@ use Rattle.mm_base.specs.declared.rows.Rows.{Rows}
 use Rattle.mm_base.specs.Rows.{row_at}
 use Rattle.mm_base.specs.declared.symbols.Typecode.{Typecode}
 use Rattle.mm_model.specs.declared.rows.Production.{Production}
-use Rattle.mm_model.specs.Chains.{same_code, chain_from, joined, leads, keep, keep_by}
+use Rattle.mm_model.specs.Chains.{chain_from, joined, leads, keep, keep_by}
 use Rattle.mm_model.proofs.ChainLaws.{leads_self}
 use Rattle.syntax_grammar.specs.Joins.{has, has_code, is_noted, is_between, has_chain, IsClosedUnder, IsReached}
 

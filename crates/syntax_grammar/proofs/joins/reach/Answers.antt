@@ -1,6 +1,6 @@
 use Rattle.std.proofs.Common.{◌∙◌, ap, arith, get_or}
 use Rattle.mm_base.specs.Rows.{row_at}
-use Rattle.syntax_grammar.proofs.ReachLaws.{reach_begin, reach_turn, reach_end}
+use Rattle.syntax_grammar.proofs.ReachLaws.{reach_turn}
 use Rattle.syntax_grammar.proofs.joins.reach.Goals as goal
 
 pub loop-done-preserved : goal.loop-done-preserved

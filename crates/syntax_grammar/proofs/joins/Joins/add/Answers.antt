@@ -1,1 +1,0 @@
-use Rattle.syntax_grammar.proofs.JoinLaws.{noted_new, noted_old}
