@@ -1,5 +1,5 @@
 -- What is reached along chains is what they lead to.
-use Rattle.std.proofs.Common.{cond, ◌⊎◌, ⊎_elim, inl, inr, reverse, fold, ◌≡◌, ◌==◌, ◌&&◌, ◌||◌, ℕ, Bool, true, false, List, [], ◌∷◌, ◌++◌, Option, Some, None, nat_eq, refl, sym, ap, subst, ◌∙◌, arith}
+use Rattle.std.proofs.Common.{cond, ⊎_elim, reverse, fold, ◌≡◌, ◌==◌, ◌&&◌, ◌||◌, ℕ, Bool, true, false, List, [], ◌∷◌, ◌++◌, Option, Some, None, nat_eq, refl, sym, ap, subst, ◌∙◌, arith}
 use Rattle.std.proofs.lemmas.Bool.Decides.{nat_tests}
 use Rattle.std.proofs.lemmas.List.{reverse-append}
 use Rattle.std.proofs.lemmas.List.Folds.{list_any-append}
@@ -10,22 +10,11 @@ use Rattle.mm_base.specs.declared.symbols.Typecode.{Typecode}
 use Rattle.mm_model.specs.declared.rows.Production.{Production}
 use Rattle.mm_model.specs.Chains.{chain_from, joined, leads, keep, keep_by}
 use Rattle.mm_model.proofs.ChainLaws.{leads_self}
+use Rattle.syntax_grammar.proofs.ReachLaws.{or_case, or_left, or_right, number_is}
 use Rattle.syntax_grammar.specs.Joins.{has, has_code, is_noted, is_between, has_chain, IsClosedUnder, IsReached}
 
 abbrev code : ℕ → Typecode
 code q = record { 0 = record { 0 = q } }
-
-or_case : (a b : Bool) → (a || b) ≡ true → (a ≡ true) ⊎ (b ≡ true)
-or_case true b e = inl refl
-or_case false b e = inr e
-
-or_left : (a b : Bool) → a ≡ true → (a || b) ≡ true
-or_left true b e = refl
-or_left false b e = absurd (cc)
-
-or_right : (a b : Bool) → b ≡ true → (a || b) ≡ true
-or_right true b e = refl
-or_right false b e = e
 
 both : (a b : Bool) → a ≡ true → b ≡ true → (a && b) ≡ true
 both true b e f = f
@@ -39,9 +28,6 @@ same_bool : (a b : Bool) → (a ≡ true → b ≡ true) → (b ≡ true → a �
 same_bool true b h k = sym (h refl)
 same_bool false true h k = k refl
 same_bool false false h k = refl
-
-number_is : (a b : ℕ) → (a == b) ≡ true → a ≡ b
-number_is a b e = grind (arith, nat_tests, e)
 
 -- a closed set has what chains lead to from its typecodes
 closed_at : (o : Option Typecode) (to : Typecode) (before : Typecode → Typecode → Bool) (S : ℕ → Bool)
