@@ -1,3 +1,4 @@
 mod CheckLaws
 mod IndexLaws
 mod JoinLaws
+mod ReachLaws

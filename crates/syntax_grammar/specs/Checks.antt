@@ -1,4 +1,4 @@
--- Tests of what is asked of the rows of a grammar. This is part of the proof, and not of the claim.
+-- Part of the proof, and not of the claim: tests of what is asked of the rows of a grammar.
 use Rattle.std.specs.Prelude.{◌==◌, ◌&&◌, ℕ, zero, suc, Bool, true, List, [], ◌∷◌, length, nat_lt}
 use Rattle.mm_model.specs.Rows.{place_of}
 

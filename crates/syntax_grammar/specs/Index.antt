@@ -1,4 +1,4 @@
--- What the indexes of productions have at a key.
+-- Part of the proof, and not of the claim: what the indexes of productions have at a key.
 use Rattle.std.specs.Prelude.{◌≡◌, Bool, ℕ, List}
 use Rattle.mm_base.specs.declared.rows.Rows.{Rows}
 use Rattle.mm_base.specs.Rows.{row_at}

@@ -6,7 +6,7 @@ ghost use Rattle.mm_model.specs.Texts.{row_of};
 ghost use Rattle.syntax_grammar.specs.Selections as spec;
 
 use crate::index::{const_index, label_index, lone_index, next_index, slot_index};
-use crate::joins::{leads, take_chain};
+use crate::joins::Joins;
 use mm_base::{Label, List, Memory, Rows, Sym, Typecode};
 use mm_model::{Item, Production};
 use std::alloc::Global;
@@ -71,7 +71,8 @@ fn indexed(alloc: Global, rows: List<Production>) -> Result<Grammar, Memory>
 
 /// Keeps the productions, in their order, but a chain for which the chains kept before it already lead from what it
 /// gives to its variable's typecode: it would close a cycle. `are_rows` tells whether productions can be given. It takes
-/// time in proportion to them, where chains join few typecodes.
+/// time in proportion to them, and for each chain to those kept before it that are reached from what it gives, of which
+/// those that join the same two typecodes count once.
 ///
 /// Fails where memory runs out.
 pub fn keep_rows(rows: List<Production>) -> Result<Grammar, Memory>
@@ -80,13 +81,13 @@ pub fn keep_rows(rows: List<Production>) -> Result<Grammar, Memory>
 {
     let alloc = rows.allocator();
     let mut kept = Vec::new(alloc);
-    let mut joins = Vec::new(alloc);
+    let mut joins = Joins::new(alloc);
     for row in rows.into_vec() {
         if let Some(from) = chain_from(&row) {
-            if leads(&joins, row.gives, from) {
+            if joins.leads(row.gives, from)? {
                 continue;
             }
-            take_chain(alloc, &mut joins, from, row.gives)?;
+            joins.add(alloc, from, row.gives)?;
         }
         kept.push(row)?;
     }

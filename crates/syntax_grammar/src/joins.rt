@@ -1,106 +1,86 @@
-ghost use Rattle.std.specs.Prelude.{◌≡◌, ◌||◌, ◌&&◌, IfOk, OnOk, Some};
-ghost use Rattle.std.specs.List.{list_any};
-ghost use Rattle.mm_base.specs.declared.symbols.Typecode.{Typecode};
-ghost use Rattle.mm_model.specs.Chains.{joined, same_code};
+ghost use Rattle.std.specs.Prelude.{◌≡◌, ◌==◌, ◌&&◌, ◌||◌, ℕ, false, List, IfOk, OnOk};
+ghost use Rattle.mm_model.specs.declared.rows.Production.{Production};
+ghost use Rattle.mm_model.specs.Chains as chain;
 ghost use Rattle.syntax_grammar.specs.Joins as spec;
 
-use mm_base::{Memory, Typecode};
+use mm_base::{Memory, Rows, Typecode};
+use number_set::NumberSet;
 use std::alloc::Global;
 
-/// Chains lead from the one typecode to the other, which is not the same.
-#[derive(Clone, Copy, Debug, PartialEq, Eq)]
-pub struct Join {
-    pub from: Typecode,
-    pub to: Typecode,
+/// Which typecodes chains join.
+#[derive(Drop)]
+pub struct Joins {
+    /// To which typecodes a chain leads, by the typecode where it begins, each once.
+    ends: Rows<Typecode>,
+    /// What a walk has reached.
+    reached: NumberSet,
 }
 
-impl Join {
-    /// Whether it joins the one typecode to the other.
-    fn is_of(&self, from: Typecode, to: Typecode) -> bool
-        ensures { result ≡ spec.is_of from to self.now }
+/// Puts in those typecodes that are not there.
+fn reach_each(reached: &mut NumberSet, codes: &[Typecode]) -> Result<(), Memory>
+    ensures { OnOk result (spec.IsReachedToo reached.old reached.new codes.now) }
+{
+    for code in codes {
+        if !reached.contains(code.0.0) {
+            reached.insert(code.0.0)?;
+        }
+    }
+    Ok(())
+}
+
+/// Reaches all to which chains lead from a typecode, and no others. It looks at each chain at most once.
+fn reach(ends: &Rows<Typecode>, reached: &mut NumberSet, from: Typecode) -> Result<(), Memory>
+    ensures { OnOk result (spec.IsReached (spec.is_noted ends.now) from.0.0 reached.new) }
+{
+    reached.cut(0);
+    reached.insert(from.0.0)?;
+    let mut done = 0;
+    while done < reached.len() {
+        let code = reached.items()[done];
+        reach_each(reached, ends.at(code as u64))?;
+        done += 1;
+    }
+    Ok(())
+}
+
+/// Whether the typecode is among some.
+fn has_code(codes: &[Typecode], code: Typecode) -> bool
+    ensures { result ≡ spec.has_code codes.now code.0.0 }
+{
+    codes.iter().any(|one| code.0.0 == one.0.0)
+}
+
+impl Joins {
+    /// No chains. It takes no memory.
+    pub fn new(alloc: Global) -> Joins
+        ensures { (q e : ℕ) → spec.is_noted result.ends q e ≡ false }
     {
-        self.from == from && self.to == to
-    }
-}
-
-/// Whether a pair of the list joins one typecode to another.
-fn has_pair(joins: &[Join], from: Typecode, to: Typecode) -> bool
-    ensures { result ≡ list_any (spec.is_of from to) joins.now }
-{
-    joins.iter().any(|join| join.is_of(from, to))
-}
-
-/// Whether chains lead from one typecode to another, which may be the same.
-pub fn leads(joins: &[Join], from: Typecode, to: Typecode) -> bool
-    ensures { result ≡ spec.joined_by joins.now from to }
-{
-    from == to || has_pair(joins, from, to)
-}
-
-/// The typecodes from which chains lead to one.
-fn sources(alloc: Global, joins: &[Join], to: Typecode) -> Result<Vec<Typecode>, Memory>
-    ensures { IfOk result (λ codes. codes.items ≡ spec.sources joins.now to) }
-{
-    let mut codes = Vec::new(alloc);
-    codes.push(to)?;
-    for join in joins {
-        if join.to == to {
-            codes.push(join.from)?;
+        Joins {
+            ends: Rows::new(alloc),
+            reached: NumberSet::new(alloc),
         }
     }
-    Ok(codes)
-}
 
-/// The typecodes to which chains lead from one.
-fn targets(alloc: Global, joins: &[Join], from: Typecode) -> Result<Vec<Typecode>, Memory>
-    ensures { IfOk result (λ codes. codes.items ≡ spec.targets joins.now from) }
-{
-    let mut codes = Vec::new(alloc);
-    codes.push(from)?;
-    for join in joins {
-        if join.from == from {
-            codes.push(join.to)?;
+    /// Whether chains lead from one typecode to another, which may be the same. It takes time in proportion to the chains
+    /// that are reached, those that join the same two typecodes counted once.
+    pub fn leads(&mut self, from: Typecode, to: Typecode) -> Result<bool, Memory>
+        ensures same { self.new.ends ≡ self.old.ends }
+        ensures leads { IfOk result (λ b. (rows : List Production)
+            → ((q e : ℕ) → spec.is_noted self.old.ends q e ≡ spec.has_chain rows q e) → b ≡ chain.leads rows from to) }
+    {
+        reach(&self.ends, &mut self.reached, from)?;
+        Ok(self.reached.contains(to.0.0))
+    }
+
+    /// Takes a chain.
+    pub fn add(&mut self, alloc: Global, from: Typecode, to: Typecode) -> Result<(), Memory>
+        ensures { OnOk result ((q e : ℕ) → spec.is_noted self.new.ends q e
+            ≡ (spec.is_noted self.old.ends q e || (from.0.0 == q && e == to.0.0))) }
+    {
+        if has_code(self.ends.at(from.0.0 as u64), to) {
+            return Ok(());
         }
+        self.ends.add(alloc, from.0.0 as u64, to)?;
+        Ok(())
     }
-    Ok(codes)
-}
-
-/// Joins one typecode to another.
-fn join_one(joins: &mut Vec<Join>, from: Typecode, to: Typecode) -> Result<(), Memory>
-    ensures { OnOk result ((a b : Typecode) → spec.joined_by joins.new.items a b
-        ≡ (spec.joined_by joins.old.items a b || (same_code from a && same_code to b))) }
-{
-    if !leads(joins, from, to) {
-        joins.push(Join { from, to })?;
-    }
-    Ok(())
-}
-
-/// Joins one typecode to each of some.
-fn join_each(joins: &mut Vec<Join>, from: Typecode, ends: &[Typecode]) -> Result<(), Memory>
-    ensures { OnOk result ((a b : Typecode) → spec.joined_by joins.new.items a b
-        ≡ (spec.joined_by joins.old.items a b || (same_code from a && spec.has_code ends.now b))) }
-{
-    for end in ends {
-        join_one(joins, from, *end)?;
-    }
-    Ok(())
-}
-
-/// Takes a chain: what led to where it begins leads to what its end led to.
-pub fn take_chain(
-    alloc: Global,
-    joins: &mut Vec<Join>,
-    from: Typecode,
-    to: Typecode,
-) -> Result<(), Memory>
-    ensures { OnOk result ((a b : Typecode) → spec.joined_by joins.new.items a b
-        ≡ joined (Some from) to (spec.joined_by joins.old.items) a b) }
-{
-    let begins = sources(alloc, joins, from)?;
-    let ends = targets(alloc, joins, to)?;
-    for begin in &begins {
-        join_each(joins, *begin, &ends)?;
-    }
-    Ok(())
 }
