@@ -1,3 +1,4 @@
+pub mod Marked
 pub mod NextWord
 pub mod ScanLaw
 pub mod ScanSteps

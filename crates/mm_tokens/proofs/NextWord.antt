@@ -6,10 +6,10 @@ use Rattle.mm_model.specs.Words.{word, words_from, is_white}
 use Rattle.mm_tokens.proofs.WordLaws.{is_inked, words_from-white, words_from-inked, inked_after_white}
 
 -- how the code spells the bytes from a place on
-abbrev tail : List ℕ → ℕ → List ℕ
+abbrev pub tail : List ℕ → ℕ → List ℕ
 tail text at = take (length text - at) (drop at text)
 
-tail_is : (text : List ℕ) (at : ℕ) → tail text at ≡ drop at text
+pub tail_is : (text : List ℕ) (at : ℕ) → tail text at ≡ drop at text
 tail_is text at = take_all (length text - at) (drop at text) (omega (arith, length-drop at text))
 
 -- white space is passed over

@@ -1,7 +1,7 @@
 -- Reading from word to word, with the first fault that is met. This is part of the proof, and not of the claim.
-use Rattle.std.specs.Prelude.{◌≡◌, ℕ, Bool, true, false, not, ◌||◌, List, [], ◌∷◌, ◌++◌, Result, Ok, Err, if◌then◌else◌, nat_le}
+use Rattle.std.specs.Prelude.{◌≡◌, ℕ, Bool, true, false, not, ◌&&◌, ◌||◌, ◌==◌, List, [], ◌∷◌, ◌++◌, Result, Ok, Err, if◌then◌else◌, nat_le}
 use Rattle.mm_model.specs.Faults.{Fault, fault}
-use Rattle.mm_model.specs.Words.{Word}
+use Rattle.mm_model.specs.Words.{Word, is_white}
 use Rattle.mm_model.specs.Tokens.{is_open_comment, is_close_comment, is_bad_keyword}
 use Rattle.mm_tokens.specs.declared.token.Token.{Token}
 use Rattle.mm_tokens.specs.declared.token.TokenFault.{TokenFault}
@@ -35,3 +35,11 @@ first_of bad (faults.BadByte at) = if nat_le bad at then faults.BadByte bad else
 first_of bad (faults.OpenComment at) = if nat_le bad at then faults.BadByte bad else faults.OpenComment at
 first_of bad (faults.CommentInComment at) = if nat_le bad at then faults.BadByte bad else faults.CommentInComment at
 first_of bad (faults.BadKeyword at) = if nat_le bad at then faults.BadByte bad else faults.BadKeyword at
+
+-- a byte of a word that is no dollar
+abbrev pub is_plain : ℕ → Bool
+is_plain b = not (is_white b) && not (b == 36)
+
+abbrev pub begins_with_dollar : List ℕ → Bool
+begins_with_dollar [] = false
+begins_with_dollar (b ∷ bs) = b == 36

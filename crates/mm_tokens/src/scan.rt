@@ -12,26 +12,36 @@ ghost use Rattle.mm_tokens.specs.Scan.{FailsWith, first_of, read_words};
 ghost use Rattle.mm_tokens.specs.Tokens.{IsFault, token_of};
 
 use crate::token::{Token, TokenFault, TokenKind};
-use crate::words::{is_white, next_word};
+use crate::words::next_marked;
 use mm_base::List;
 use std::alloc::Global;
 
+// By `|` and `&`, so that many bytes are tested at once.
 fn is_bad_byte(byte: u8) -> bool
     ensures { result ≡ is_bad_byte byte }
 {
-    !is_white(byte) && !(33..=126).contains(&byte)
+    let white = (byte == b' ') | (byte == b'\t') | (byte == b'\r') | (byte == b'\n') | (byte == 12);
+    !white & !((33 <= byte) & (byte <= 126))
+}
+
+/// Whether a byte may not stand there. It looks at all of them, which is faster than to stop at the first.
+fn has_bad_byte(text: &[u8]) -> bool
+    ensures { result ≡ list_any is_bad_byte text.now }
+{
+    let mut found = false;
+    for byte in text {
+        found |= is_bad_byte(*byte);
+    }
+    found
 }
 
 fn first_bad_byte(text: &[u8]) -> Option<usize>
     ensures { result ≡ position is_bad_byte text.now }
 {
-    text.iter().position(|b| is_bad_byte(*b))
-}
-
-fn has_dollar(word: &[u8]) -> bool
-    ensures { result ≡ list_any (λ b. b == 36) word.now }
-{
-    word.iter().any(|b| *b == b'$')
+    if has_bad_byte(text) {
+        return text.iter().position(|b| is_bad_byte(*b));
+    }
+    None
 }
 
 fn mark_kind(mark: u8) -> Option<TokenKind>
@@ -81,10 +91,12 @@ pub fn is_close_comment(word: &[u8]) -> bool
     word == b"$)".as_slice()
 }
 
-fn is_bad_keyword(word: &[u8]) -> bool
+/// Whether a word has a dollar and is no keyword, where the first is known.
+fn is_bad_keyword(word: &[u8], dollar: bool) -> bool
+    requires { dollar ≡ list_any (λ b. b == 36) word.now }
     ensures { result ≡ (list_any (λ b. b == 36) word.now && not (list_any (bytes_eq word.now) keywords)) }
 {
-    has_dollar(word) && keyword_kind(word).is_none()
+    dollar && keyword_kind(word).is_none()
 }
 
 fn kind_of(word: &[u8]) -> TokenKind
@@ -102,7 +114,7 @@ fn read_words(alloc: Global, text: &[u8]) -> Result<Vec<Token>, TokenFault>
     let mut tokens = Vec::new(alloc);
     let mut in_comment = false;
     let mut at = 0;
-    while let Some((start, end)) = next_word(text, at) {
+    while let Some((start, end, dollar)) = next_marked(text, at) {
         let word = &text[start..end];
         if in_comment {
             if is_open_comment(word) {
@@ -111,7 +123,7 @@ fn read_words(alloc: Global, text: &[u8]) -> Result<Vec<Token>, TokenFault>
             in_comment = !is_close_comment(word);
         } else if is_open_comment(word) {
             in_comment = true;
-        } else if is_close_comment(word) || is_bad_keyword(word) {
+        } else if is_close_comment(word) || is_bad_keyword(word, dollar) {
             return Err(TokenFault::BadKeyword(start as u32));
         } else {
             tokens.push(Token {
