@@ -1,4 +1,4 @@
--- What a step of a walk counts. This is part of the proof, and not of the claim.
+-- Part of the proof, and not of the claim: what a step of a walk counts.
 use Rattle.std.specs.Prelude.{◌≡◌, ℕ, Option, List, set}
 use Rattle.term_arena.specs.declared.walk.Step.{Step}
 use Rattle.term_model.specs.Terms.{Term, term_at}

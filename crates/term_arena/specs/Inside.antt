@@ -1,4 +1,4 @@
--- What the store keeps true of its fields.
+-- Part of the proof, and not of the claim: what the store keeps true of its fields.
 use Rattle.std.specs.Prelude.{◌≡◌, ℕ, ◌+◌, ◌^◌, ◌<◌, ◌≤◌, Bool, true, Option, List, [], ◌∷◌, length, map, take, drop, unwrap_or, is_some, count_by}
 use Rattle.undo_trail.specs.Noted.{Noted}
 use Rattle.term_model.specs.declared.shape.Id.{Id}

@@ -1,4 +1,4 @@
--- A walk through the nodes of a store: what it knows of each node, and the path on which it is.
+-- Part of the proof, and not of the claim: a walk through the nodes of a store, what it knows of each node, and the path on which it is.
 use Rattle.std.specs.Prelude.{◌≡◌, ℕ, ◌+◌, ◌<◌, ◌≤◌, ◌^◌, ◌==◌, if◌then◌else◌, Bool, true, false, List, [], ◌∷◌, length, map, reverse, set, sum_by}
 use Rattle.std.specs.Prelude.{count_by, slice_index_or, slice_get, Option, Some}
 use Rattle.undo_trail.specs.Noted.{Noted}

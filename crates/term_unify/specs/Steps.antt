@@ -1,4 +1,4 @@
--- Bindings that one unification makes.
+-- Part of the proof, and not of the claim, but for `HaveSameTree`: bindings that one unification makes.
 use Rattle.std.specs.Prelude.{◌≡◌, ℕ, ◌==◌, ◌&&◌, if◌then◌else◌, Option, Some, None, true, List, ◌++◌}
 use Rattle.std.specs.List.{AllByRecursion}
 use Rattle.mm_base.specs.declared.tree.Tree.{Tree}
