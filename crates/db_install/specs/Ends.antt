@@ -1,4 +1,4 @@
--- The end of a statement, from word to word.
+-- The end of a statement, from word to word. This is part of the proof, and not of the claim.
 use Rattle.std.specs.Prelude.{ℕ, ◌-◌, ◌==◌, Bool, true, false, not, List, [], ◌∷◌, if◌then◌else◌, codes}
 use Rattle.std.specs.List.{list_any}
 use Rattle.std.specs.Str.{bytes_eq}

@@ -1,4 +1,4 @@
--- Charts: for each place of a text the entries that begin there.
+-- Charts: for each place of a text the entries that begin there. This is part of the proof, and not of the claim.
 use Rattle.std.specs.Prelude.{◌≡◌, ◌<◌, ◌≤◌, ◌+◌, ◌-◌, ℕ, List, [], ◌∷◌, length, take, drop, Some, slice_get}
 use Rattle.mm_base.specs.declared.symbols.Sym.{Sym}
 use Rattle.mm_base.specs.declared.symbols.Typecode.{Typecode}

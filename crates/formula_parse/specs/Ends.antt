@@ -1,4 +1,4 @@
--- What is known of the places that were found.
+-- What is known of the places that were found. This is part of the proof, and not of the claim.
 use Rattle.std.specs.Prelude.{◌≡◌, ℕ}
 use Rattle.formula_parse.specs.declared.reach.Ends.{Ends}
 use Rattle.formula_parse.specs.declared.reach.Ends.TheVariants.{Nowhere, Only, Several}

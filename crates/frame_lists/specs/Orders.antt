@@ -1,4 +1,4 @@
--- Lists in order, each item once.
+-- Lists in order, each item once. This is part of the proof, and not of the claim.
 use Rattle.std.specs.Prelude.{ℕ, Bool, true, false, List, [], ◌∷◌, ◌++◌, Option, Some, None, Contains, map, ◌≡◌}
 use Rattle.std.specs.Ordering.{nat_cmp, ordering_then}
 use Rattle.std.specs.List.Sorted.{IsStrictlySortedBy}

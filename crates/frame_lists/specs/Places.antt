@@ -1,4 +1,4 @@
--- Passes over the statements that keep a place by symbol, typecodes, or how many blocks are open.
+-- Passes over the statements that keep a place by symbol, typecodes, or how many blocks are open. This is part of the proof, and not of the claim.
 use Rattle.std.specs.Prelude.{ℕ, zero, suc, ◌+◌, ◌-◌, ◌^◌, ◌==◌, ◌&&◌, Bool, true, false, List, [], ◌∷◌, ◌++◌, length, fold, Option, Some, None}
 use Rattle.std.specs.Prelude.{if◌then◌else◌, nat_lt, slice_get, slice_set, slice_index_or, replicate, unwrap_or, find}
 use Rattle.std.specs.List.{range_with_len}

@@ -1,4 +1,4 @@
--- What the passes make of their lists, step by step. Variables, labels and statements are numbers here.
+-- What the passes make of their lists, step by step. Variables, labels and statements are numbers here. This is part of the proof, and not of the claim.
 use Rattle.std.specs.Prelude.{ℕ, zero, suc, ◌+◌, ◌-◌, ◌==◌, Bool, true, false, not, ◌&&◌, List, [], ◌∷◌, ◌++◌, length, take, fold, Option, None, Some}
 use Rattle.std.specs.Prelude.{if◌then◌else◌, nat_eq, nat_lt, slice_get, slice_index_or, unwrap_or, option_map, option_and_then, position}
 use Rattle.std.specs.List.{list_any}

@@ -1,4 +1,4 @@
--- Which variables stand together in the first ones of the active `$d`.
+-- Which variables stand together in the first ones of the active `$d`. This is part of the proof, and not of the claim.
 use Rattle.std.specs.Prelude.{ℕ, Bool, true, false, ◌≡◌, ◌≤◌, ◌&&◌, ◌⊎◌, List, [], length, take, drop, Option, Some, None, nat_eq, nat_lt, slice_get, Contains}
 use Rattle.std.specs.List.{list_any, filter}
 use Rattle.std.specs.HashMap.{get}

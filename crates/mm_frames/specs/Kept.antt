@@ -1,4 +1,4 @@
--- What a reader keeps of the statements of a text.
+-- What a reader keeps of the statements of a text. This is part of the proof, and not of the claim.
 use Rattle.std.specs.Prelude.{◌≡◌, List, map}
 use Rattle.mm_model.specs.Statements.{Statement, labels}
 use Rattle.mm_model.specs.Frames.{symbols, positions}

@@ -1,4 +1,4 @@
--- Kinds of tokens.
+-- Kinds of tokens. This is part of the proof, and not of the claim.
 use Rattle.std.specs.Prelude.{Bool, true, false, not, Option, None, Some}
 use Rattle.mm_tokens.specs.declared.token.TokenKind.{TokenKind}
 use Rattle.mm_tokens.specs.declared.token.TokenKind.TheVariants as token

@@ -1,4 +1,4 @@
--- What the reader does with a token: the code of its fault, and what the reader keeps where it has none.
+-- What the reader does with a token: the code of its fault, and what the reader keeps where it has none. This is part of the proof, and not of the claim.
 use Rattle.std.specs.Prelude.{◌≡◌, ℕ, ◌+◌, ◌<◌, ◌^◌, Bool, true, false, not, ◌&&◌, List, [], ◌∷◌, ◌++◌, length, take, Option, None, Some}
 use Rattle.std.specs.Prelude.{if◌then◌else◌, nat_eq, nat_lt, position, slice_get, unwrap_or}
 use Rattle.std.specs.List.{list_any, list_all}

@@ -1,4 +1,4 @@
--- A database as its contents give it, for what is said of its names and frames.
+-- A database as its contents give it, for what is said of its names and frames. This is part of the proof, and not of the claim.
 use Rattle.std.specs.Prelude.{[], None, false}
 use Rattle.mm_model.specs.Names.{Name}
 use Rattle.mm_model.specs.Book.{Database}

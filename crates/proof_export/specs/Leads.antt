@@ -1,4 +1,4 @@
--- What the steps so far become with the pushes that follow.
+-- What the steps so far become with the pushes that follow. This is part of the proof, and not of the claim.
 use Rattle.std.specs.Prelude.{◌≡◌, Bool, true, false, not, List, ◌++◌, length, map, filter}
 use Rattle.std.specs.List.{zip}
 use Rattle.mm_model.specs.Book.{Database}

@@ -1,4 +1,4 @@
--- The state that a machine stands for.
+-- The state that a machine stands for. This is part of the proof, and not of the claim.
 use Rattle.std.specs.Prelude.{List, ◌∷◌, length, take, drop, reverse}
 use Rattle.std.specs.List.{zip}
 use Rattle.mm_model.specs.declared.frames.Frame.{Frame}

@@ -1,4 +1,4 @@
--- Numbers by key.
+-- Numbers by key. This is part of the proof, and not of the claim.
 use Rattle.std.specs.Prelude.{◌≡◌, ℕ, List, map, Option}
 use Rattle.std.specs.Global.{Vec}
 use Rattle.std.specs.Map.{lookup}

@@ -1,4 +1,4 @@
--- Statements of a worksheet, by the names of symbols.
+-- Statements of a worksheet, by the names of symbols. This is part of the proof, and not of the claim.
 use Rattle.std.specs.Prelude.{List, [], ◌∷◌, slice_index_or}
 use Rattle.mm_base.specs.declared.symbols.Sym.{Sym}
 use Rattle.mm_base.specs.declared.symbols.Pair.{Pair}

@@ -1,4 +1,4 @@
--- Reading from line to line, with the first fault that is met.
+-- Reading from line to line, with the first fault that is met. This is part of the proof, and not of the claim.
 use Rattle.std.specs.Prelude.{◌≡◌, ℕ, Bool, true, false, not, ◌&&◌, ◌||◌, List, [], ◌∷◌, ◌++◌, length, nat_lt, map, filter_map, take_while, Option}
 use Rattle.std.specs.Prelude.{Some, None, Result, Ok, Err, if◌then◌else◌, slice_get, option_map, codes}
 use Rattle.std.specs.List.{list_any}

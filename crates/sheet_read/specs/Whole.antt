@@ -1,4 +1,4 @@
--- Reading all the lines of a sheet, with the first fault that is met.
+-- Reading all the lines of a sheet, with the first fault that is met. This is part of the proof, and not of the claim.
 use Rattle.std.specs.Prelude.{◌≡◌, ℕ, Bool, ◌&&◌, List, [], ◌∷◌, Option, Some, None, Result, Ok, Err, if◌then◌else◌, slice_get, codes}
 use Rattle.mm_model.specs.Faults.{Fault, fault}
 use Rattle.sheet_text.specs.declared.sheet.Sheet.{Sheet}
