@@ -5,7 +5,7 @@ pub mod Fronts
 pub mod Labelling
 pub mod LetterFaults
 pub mod Listing
+pub mod NumberLaw
 pub mod Reverses
 pub mod StepsLaw
-pub mod ToldLaw
 pub mod Written

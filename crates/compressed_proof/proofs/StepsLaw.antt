@@ -84,6 +84,41 @@ SpellsWhat-what_of m n k number front same positive s =
 no_fault : {X : Type 0} (f : CodeFault) (x : X) → (Err f ≡ Ok x) → ⊥
 no_fault {X} f x e = absurd cc
 
+-- a letter that is read without a fault: a leading one or a last one of a number, `?`, or a mark
+letter_read : {A : Type 0} (m n marks i : ℕ) (p : Prior) (b : ℕ) (bs : List ℕ) (steps : List Step) → read_letters m n marks p i (b ∷ bs) ≡ Ok steps
+    → (is_leading b ≡ true → with_front (pending p) (read_letters m n marks (prior.Digits (with_digit p b)) (suc i) bs) ≡ Ok steps → A)
+    → (is_last b ≡ true → with_last p b ≤ m + n + marks → with_front (pending p) (read_letters m n marks (prior.Step (what_of m n (with_last p b))) (suc i) bs) ≡ Ok steps → A)
+    → (eqb b 63 ≡ true → is_digits p ≡ false → with_front (pending p) (read_letters m n marks (prior.Step Unknown) (suc i) bs) ≡ Ok steps → A)
+    → (eqb b 90 ≡ true → A) → A
+letter_read {A} m n marks i p b bs steps e leading last unknown mark =
+    elim (cases_Bool (is_leading b)) [
+      | inl e1 ↦ leading e1 (rw e1 at e)
+      | inr e1 ↦
+          elim (cases_Bool (is_last b)) [
+            | inl e2 ↦
+                let next = with_front (pending p) (read_letters m n marks (prior.Step (what_of m n (with_last p b))) (suc i) bs) in
+                let large = Err (faults.NumberTooLarge i (with_last p b)) in
+                elim (cases_Bool (ltb (m + n + marks) (with_last p b))) [
+                  | inl t ↦ absurd (no_fault (faults.NumberTooLarge i (with_last p b)) steps (sym (cond_then (ltb (m + n + marks) (with_last p b)) large next t) ∙ rw (e1, e2) at e))
+                  | inr t ↦ last e2 (ltb-false (m + n + marks) (with_last p b) t) (sym (cond_else (ltb (m + n + marks) (with_last p b)) large next t) ∙ rw (e1, e2) at e)
+                ]
+            | inr e2 ↦
+                elim (cases_Bool (eqb b 63)) [
+                  | inl e3 ↦
+                      let next = with_front (pending p) (read_letters m n marks (prior.Step Unknown) (suc i) bs) in
+                      elim (cases_Bool (is_digits p)) [
+                        | inl t ↦ absurd (no_fault (faults.UnendedNumber i) steps (sym (cond_then (is_digits p) (Err (faults.UnendedNumber i)) next t) ∙ rw (e1, e2, e3) at e))
+                        | inr t ↦ unknown e3 t (sym (cond_else (is_digits p) (Err (faults.UnendedNumber i)) next t) ∙ rw (e1, e2, e3) at e)
+                      ]
+                  | inr e3 ↦
+                      elim (cases_Bool (eqb b 90)) [
+                        | inl e4 ↦ mark e4
+                        | inr e4 ↦ absurd (no_fault (faults.BadLetter i) steps (rw (e1, e2, e3, e4) at e))
+                      ]
+                ]
+          ]
+    ]
+
 regroup : (front rest : List ℕ) (b : ℕ) → (front ++ b ∷ []) ++ rest ≡ front ++ b ∷ rest
 regroup front rest b = append_assoc front (b ∷ []) rest
 
@@ -135,50 +170,23 @@ spelled_law m n marks i p front [] steps h room e = spelled_end m n marks i p fr
 spelled_law m n marks i p front (b ∷ bs) steps h room e =
     let later : Spelled m n marks (suc i) bs = λ q k f ss hq le eq. spelled_law m n k (suc i) q f bs ss hq (omega arith) eq in
     let d = digits_are m n p front h in
-    elim (cases_Bool (is_leading b)) [
-      | inl e1 ↦
-          let digits : with_digit p b ≡ capped (5 * d.0 + (b - 84)) = rw d.2 (digit_is d.0 (b - 84)) in
-          pass m n marks (suc i) p (prior.Digits (with_digit p b)) front b bs steps h (5 * d.0 + (b - 84), Leads-push 0 (digits_in p front) d.0 b d.1 e1, digits) later (rw e1 at e)
-      | inr e1 ↦
-          elim (cases_Bool (is_last b)) [
-            | inl e2 ↦
-                let next = with_front (pending p) (read_letters m n marks (prior.Step (what_of m n (with_last p b))) (suc i) bs) in
-                elim (cases_Bool (ltb (m + n + marks) (with_last p b))) [
-                  | inl t ↦ absurd
-                      (no_fault (faults.NumberTooLarge i (with_last p b)) steps
-                      (sym (cond_then (ltb (m + n + marks) (with_last p b)) (Err (faults.NumberTooLarge i (with_last p b))) next t)
-                      ∙ rw (e1, e2) at e))
-                  | inr t ↦
-                      let small : with_last p b ≤ m + n + marks = ltb-false (m + n + marks) (with_last p b) t in
-                      let value : with_last p b ≡ capped (capped (20 * capped d.0) + (b - 64)) = rw d.2 refl in
-                      let last = bounds 65 84 b e2 in
-                      let exact : 20 * d.0 + (b - 64) ≡ with_last p b = omega arith in
-                      let named : SpellsWhat m n (digits_in p front ++ b ∷ []) (what_of m n (with_last p b)) =
-                      SpellsWhat-what_of m n (20 * d.0 + (b - 64)) (with_last p b) (digits_in p front ++ b ∷ []) exact (omega arith)
-                      (EndsNumber-Leads 0 (digits_in p front) d.0 b d.1 e2) in
-                      pass m n marks (suc i) p (prior.Step (what_of m n (with_last p b))) front b bs steps h named later
-                      (sym (cond_else (ltb (m + n + marks) (with_last p b)) (Err (faults.NumberTooLarge i (with_last p b))) next t)
-                      ∙ rw (e1, e2) at e)
-                ]
-            | inr e2 ↦
-                elim (cases_Bool (eqb b 63)) [
-                  | inl e3 ↦
-                      let next = with_front (pending p) (read_letters m n marks (prior.Step Unknown) (suc i) bs) in
-                      elim (cases_Bool (is_digits p)) [
-                        | inl t ↦ absurd (no_fault (faults.UnendedNumber i) steps (sym (cond_then (is_digits p) (Err (faults.UnendedNumber i)) next t) ∙ rw (e1, e2, e3) at e))
-                        | inr t ↦
-                            let is : b ≡ 63 = eqb-true b 63 e3 in
-                            let alone : digits_in p front ++ b ∷ [] ≡ 63 ∷ [] = ap (λ (f : List ℕ). f ++ b ∷ []) (no_digits m n p front h t) ∙ ap (λ (x : ℕ). x ∷ []) is in
-                            pass m n marks (suc i) p (prior.Step Unknown) front b bs steps h alone later (sym (cond_else (is_digits p) (Err (faults.UnendedNumber i)) next t) ∙ rw (e1, e2, e3) at e)
-                      ]
-                  | inr e3 ↦
-                      elim (cases_Bool (eqb b 90)) [
-                        | inl e4 ↦ spelled_mark m n marks i p front b bs steps h e4 later e
-                        | inr e4 ↦ absurd (no_fault (faults.BadLetter i) steps (rw (e1, e2, e3, e4) at e))
-                      ]
-                ]
-          ]
-    ]
+    letter_read m n marks i p b bs steps e
+    (λ leading read.
+    let digits : with_digit p b ≡ capped (5 * d.0 + (b - 84)) = rw d.2 (digit_is d.0 (b - 84)) in
+    pass m n marks (suc i) p (prior.Digits (with_digit p b)) front b bs steps h (5 * d.0 + (b - 84), Leads-push 0 (digits_in p front) d.0 b d.1 leading, digits) later read)
+    (λ ends small read.
+    let value : with_last p b ≡ capped (capped (20 * capped d.0) + (b - 64)) = rw d.2 refl in
+    let last = bounds 65 84 b ends in
+    let exact : 20 * d.0 + (b - 64) ≡ with_last p b = omega arith in
+    let named : SpellsWhat m n (digits_in p front ++ b ∷ []) (what_of m n (with_last p b)) =
+    SpellsWhat-what_of m n (20 * d.0 + (b - 64)) (with_last p b) (digits_in p front ++ b ∷ []) exact (omega arith)
+    (EndsNumber-Leads 0 (digits_in p front) d.0 b d.1 ends) in
+    pass m n marks (suc i) p (prior.Step (what_of m n (with_last p b))) front b bs steps h named later read)
+    (λ query ended read.
+    let is : b ≡ 63 = eqb-true b 63 query in
+    let alone : digits_in p front ++ b ∷ [] ≡ 63 ∷ [] = ap (λ (f : List ℕ). f ++ b ∷ []) (no_digits m n p front h ended) ∙ ap (λ (x : ℕ). x ∷ []) is in
+    pass m n marks (suc i) p (prior.Step Unknown) front b bs steps h alone later read)
+    (λ mark. spelled_mark m n marks i p front b bs steps h mark later e)
 
 -- ---- each step names what is there
 
@@ -235,41 +243,13 @@ pub there_law : (m n marks i : ℕ) (p : Prior) (letters : List ℕ) (steps : Li
 there_law m n marks i p [] steps h e = there_end m n marks i p steps h e
 there_law m n marks i p (b ∷ bs) steps h e =
     let later : There m n marks (suc i) bs = λ q k ss hq eq. there_law m n k (suc i) q bs ss hq eq in
-    elim (cases_Bool (is_leading b)) [
-      | inl e1 ↦ pass_there m n marks (suc i) p (prior.Digits (with_digit p b)) bs steps h tt later (rw e1 at e)
-      | inr e1 ↦
-          elim (cases_Bool (is_last b)) [
-            | inl e2 ↦
-                let next = with_front (pending p) (read_letters m n marks (prior.Step (what_of m n (with_last p b))) (suc i) bs) in
-                elim (cases_Bool (ltb (m + n + marks) (with_last p b))) [
-                  | inl t ↦ absurd
-                      (no_fault (faults.NumberTooLarge i (with_last p b)) steps
-                      (sym (cond_then (ltb (m + n + marks) (with_last p b)) (Err (faults.NumberTooLarge i (with_last p b))) next t)
-                      ∙ rw (e1, e2) at e))
-                  | inr t ↦
-                      let small : with_last p b ≤ m + n + marks = ltb-false (m + n + marks) (with_last p b) t in
-                      let last = bounds 65 84 b e2 in
-                      pass_there m n marks (suc i) p (prior.Step (what_of m n (with_last p b))) bs steps h
-                      (IsInRange-what_of m n marks (with_last p b) (omega arith) small) later
-                      (sym (cond_else (ltb (m + n + marks) (with_last p b)) (Err (faults.NumberTooLarge i (with_last p b))) next t)
-                      ∙ rw (e1, e2) at e)
-                ]
-            | inr e2 ↦
-                elim (cases_Bool (eqb b 63)) [
-                  | inl e3 ↦
-                      let next = with_front (pending p) (read_letters m n marks (prior.Step Unknown) (suc i) bs) in
-                      elim (cases_Bool (is_digits p)) [
-                        | inl t ↦ absurd (no_fault (faults.UnendedNumber i) steps (sym (cond_then (is_digits p) (Err (faults.UnendedNumber i)) next t) ∙ rw (e1, e2, e3) at e))
-                        | inr t ↦ pass_there m n marks (suc i) p (prior.Step Unknown) bs steps h tt later (sym (cond_else (is_digits p) (Err (faults.UnendedNumber i)) next t) ∙ rw (e1, e2, e3) at e)
-                      ]
-                  | inr e3 ↦
-                      elim (cases_Bool (eqb b 90)) [
-                        | inl e4 ↦ there_mark m n marks i p b bs steps h e4 later e
-                        | inr e4 ↦ absurd (no_fault (faults.BadLetter i) steps (rw (e1, e2, e3, e4) at e))
-                      ]
-                ]
-          ]
-    ]
+    letter_read m n marks i p b bs steps e
+    (λ leading read. pass_there m n marks (suc i) p (prior.Digits (with_digit p b)) bs steps h tt later read)
+    (λ ends small read.
+    let last = bounds 65 84 b ends in
+    pass_there m n marks (suc i) p (prior.Step (what_of m n (with_last p b))) bs steps h (IsInRange-what_of m n marks (with_last p b) (omega arith) small) later read)
+    (λ query ended read. pass_there m n marks (suc i) p (prior.Step Unknown) bs steps h tt later read)
+    (λ mark. there_mark m n marks i p b bs steps h mark later e)
 
 -- ---- the whole
 

@@ -1,4 +1,4 @@
--- What the parts of the reader answer. This is part of the proof, and not of the claim.
+-- What the parts of decoding answer. This is part of the proof, and not of the claim.
 use Rattle.std.specs.Prelude.{◌≡◌, ℕ, true, false, List, [], take, drop, reverse, flat_map, map, slice_index_or, Some, codes}
 use Rattle.std.specs.List.{list_any, before_first, after_first}
 use Rattle.mm_model.specs.Faults.{fault}

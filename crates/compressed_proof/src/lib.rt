@@ -3,15 +3,15 @@
 #![tactic(auto)]
 
 mod brackets;
+mod decoding;
 mod fault;
 mod labels;
 mod laws;
-mod reader;
 mod steps;
 mod writer;
 
+pub use decoding::decode;
 pub use fault::CodeFault;
 pub use laws::decode_undoes_encode;
 pub use proof_model::{Code, Step, What};
-pub use reader::decode;
 pub use writer::{encode, letters};

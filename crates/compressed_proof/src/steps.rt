@@ -73,28 +73,38 @@ fn push_pending(steps: &mut Vec<Step>, prior: Prior) -> Result<(), AllocError>
     Ok(())
 }
 
-/// Reads one letter: what stands before the next one, and the marks so far.
+/// What stands before a letter.
+#[derive(Clone, Copy)]
+struct Before {
+    /// What stands just before it.
+    prior: Prior,
+    /// The number of marks.
+    marks: u32,
+}
+
+/// Reads one letter: what stands before the next one.
 #[tactic(auto, using(crate::proofs::Fronts::fronts))]
 fn read_letter(
     steps: &mut Vec<Step>,
     mandatory: u32,
     labels: u32,
-    prior: Prior,
-    marks: u32,
+    before: Before,
     i: u32,
     letter: u8,
-) -> Result<(Prior, u32), CodeFault>
-    requires { marks + 1 < 2 ^ 32 }
-    ensures goes_on { IfOk result (λ p. (rest : List ℕ) →
-        with_front steps.new.items (read_letters mandatory labels p.1 p.0 (suc i) rest)
-        ≡ with_front steps.old.items (read_letters mandatory labels marks prior i (letter ∷ rest))) }
-    ensures marks { IfOk result (λ p. p.1 ≤ marks + 1) }
-    ensures fails { IfErr result (λ e. (rest : List ℕ) → FailsWith e (read_letters mandatory labels marks prior i (letter ∷ rest))) }
+) -> Result<Before, CodeFault>
+    requires { before.marks + 1 < 2 ^ 32 }
+    ensures goes_on { IfOk result (λ next. (rest : List ℕ) →
+        with_front steps.new.items (read_letters mandatory labels next.marks next.prior (suc i) rest)
+        ≡ with_front steps.old.items (read_letters mandatory labels before.marks before.prior i (letter ∷ rest))) }
+    ensures marks { IfOk result (λ next. next.marks ≤ before.marks + 1) }
+    ensures fails { IfErr result (λ e. (rest : List ℕ) → FailsWith e (read_letters mandatory labels before.marks before.prior i (letter ∷ rest))) }
 {
+    let Before { prior, marks } = before;
     match letter {
         b'U'..=b'Y' => {
             push_pending(steps, prior)?;
-            Ok((Prior::Digits(with_digit(prior, letter)), marks))
+            let prior = Prior::Digits(with_digit(prior, letter));
+            Ok(Before { prior, marks })
         }
         b'A'..=b'T' => {
             let number = with_last(prior, letter);
@@ -102,14 +112,16 @@ fn read_letter(
                 return Err(CodeFault::NumberTooLarge(i, number));
             }
             push_pending(steps, prior)?;
-            Ok((Prior::Step(what_of(mandatory, labels, number)), marks))
+            let prior = Prior::Step(what_of(mandatory, labels, number));
+            Ok(Before { prior, marks })
         }
         b'?' => {
             if let Prior::Digits(_) = prior {
                 return Err(CodeFault::UnendedNumber(i));
             }
             push_pending(steps, prior)?;
-            Ok((Prior::Step(What::Unknown), marks))
+            let prior = Prior::Step(What::Unknown);
+            Ok(Before { prior, marks })
         }
         b'Z' => match prior {
             Prior::Start => Err(CodeFault::MarkAtStart(i)),
@@ -117,7 +129,10 @@ fn read_letter(
             Prior::Mark => Err(CodeFault::MarkTwice(i)),
             Prior::Step(what) => {
                 steps.push(Step { what, marked: true })?;
-                Ok((Prior::Mark, marks + 1))
+                Ok(Before {
+                    prior: Prior::Mark,
+                    marks: marks + 1,
+                })
             }
         },
         _ => Err(CodeFault::BadLetter(i)),
@@ -137,19 +152,17 @@ fn read_letters(
         (λ e. FailsWith e (read_letters mandatory labels 0 Prior.Start 0 letters.now)) }
 {
     let mut steps = Vec::new(alloc);
-    let mut prior = Prior::Start;
-    let mut marks: u32 = 0;
+    let mut before = Before {
+        prior: Prior::Start,
+        marks: 0,
+    };
     for (i, letter) in letters.iter().enumerate() {
-        let next = read_letter(
-            &mut steps, mandatory, labels, prior, marks, i as u32, *letter,
-        )?;
-        prior = next.0;
-        marks = next.1;
+        before = read_letter(&mut steps, mandatory, labels, before, i as u32, *letter)?;
     }
-    if let Prior::Digits(_) = prior {
+    if let Prior::Digits(_) = before.prior {
         return Err(CodeFault::UnendedNumber(letters.len() as u32));
     }
-    push_pending(&mut steps, prior)?;
+    push_pending(&mut steps, before.prior)?;
     Ok(steps)
 }
 

@@ -1,4 +1,4 @@
--- The keys by which an index of heads has its labels.
+-- The keys by which an index of heads has its labels. This is part of the proof, and not of the claim.
 use Rattle.std.specs.Prelude.{ℕ, suc, ◌+◌, ◌&&◌, Bool, false, List, [], ◌∷◌, length, nat_eq, if◌then◌else◌, Option, Some, None, option_map}
 use Rattle.mm_base.specs.declared.symbols.Label.{Label}
 use Rattle.mm_base.specs.declared.tree.Tree.{Tree, out-Tree}

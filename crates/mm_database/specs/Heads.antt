@@ -1,4 +1,4 @@
--- What an index of heads has.
+-- What an index of heads has. This is part of the proof, and not of the claim.
 use Rattle.std.specs.Prelude.{ℕ, ◌≡◌, ◌&&◌, List, [], nat_eq, unwrap_or, Option}
 use Rattle.std.specs.HashMap.{get}
 use Rattle.mm_base.specs.declared.symbols.Label.{Label}

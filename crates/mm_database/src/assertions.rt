@@ -6,8 +6,8 @@ ghost use Rattle.mm_model.specs.Productions.{essentials};
 ghost use Rattle.mm_database.specs.Formulas.{IsAnswer, IsReadBy};
 ghost use Rattle.mm_database.specs.Assertions.{IsParsed, IsKept, AreParsed};
 
-use crate::formulas::{KindCodes, read_formula};
-use crate::variables::{FrameVariable, frame_variables, symbols};
+use crate::formulas::{KindCodes, Scope, read_formula};
+use crate::variables::{frame_variables, symbols};
 use mm_base::{List, Memory, Sym, Tree};
 use mm_model::{Frame, Hyp};
 use std::alloc::Global;
@@ -28,27 +28,17 @@ pub struct Parsed {
 fn read_hyps(
     alloc: Global,
     grammar: &Grammar,
-    constants: &[u32],
     kinds: KindCodes,
-    place: u32,
-    vars: &[FrameVariable],
+    scope: &Scope,
     hyps: &[Hyp],
 ) -> Result<Option<List<Tree>>, Memory>
-    ensures { IfOk result (IsAnswer (AllZip (λ (h : Hyp) (t : Tree). IsReadBy kinds grammar.now constants.now place vars.now h.formula t)
+    ensures { IfOk result (IsAnswer (AllZip (λ (h : Hyp) (t : Tree). IsReadBy kinds grammar.now scope.now.constants.now scope.now.place scope.now.vars.now h.formula t)
         (essentials hyps.now))) }
 {
     let mut trees = Vec::new(alloc);
     for hyp in hyps {
         if !hyp.floating {
-            let read = read_formula(
-                alloc,
-                grammar,
-                constants,
-                kinds,
-                place,
-                vars,
-                hyp.formula.as_slice(),
-            )?;
+            let read = read_formula(alloc, grammar, kinds, scope, hyp.formula.as_slice())?;
             match read {
                 None => return Ok(None),
                 Some(tree) => trees.push(tree)?,
@@ -69,27 +59,16 @@ fn read_assertion(
     ensures { IfOk result (IsAnswer (IsParsed kinds grammar.now constants.now frame.now)) }
 {
     let vars = frame_variables(alloc, frame.hyps.as_slice())?;
-    let read = read_formula(
-        alloc,
-        grammar,
+    let scope = Scope {
         constants,
-        kinds,
-        frame.at,
-        &vars,
-        frame.formula.as_slice(),
-    )?;
+        place: frame.at,
+        vars: &vars,
+    };
+    let read = read_formula(alloc, grammar, kinds, &scope, frame.formula.as_slice())?;
     let Some(tree) = read else {
         return Ok(None);
     };
-    let read = read_hyps(
-        alloc,
-        grammar,
-        constants,
-        kinds,
-        frame.at,
-        &vars,
-        frame.hyps.as_slice(),
-    )?;
+    let read = read_hyps(alloc, grammar, kinds, &scope, frame.hyps.as_slice())?;
     let Some(hyps) = read else {
         return Ok(None);
     };

@@ -28,7 +28,7 @@ fn named(code: u8, name: &'static str, place: u32) -> NamedFault
     NamedFault { code, name, place }
 }
 
-fn told_token(fault: TokenFault) -> Option<NamedFault>
+fn named_token(fault: TokenFault) -> Option<NamedFault>
     ensures fault { option_map told result ≡ token_fault fault }
     ensures named { IfSome result (IsNamed database_faults) }
 {
@@ -41,7 +41,7 @@ fn told_token(fault: TokenFault) -> Option<NamedFault>
     }
 }
 
-fn told_read(fault: ReadFault) -> Option<NamedFault>
+fn named_read(fault: ReadFault) -> Option<NamedFault>
     ensures fault { option_map told result ≡ read_fault fault }
     ensures named { IfSome result (IsNamed database_faults) }
 {
@@ -70,13 +70,13 @@ fn told_read(fault: ReadFault) -> Option<NamedFault>
     }
 }
 
-fn told_fault(fault: DbFault) -> Option<NamedFault>
+fn named_fault(fault: DbFault) -> Option<NamedFault>
     ensures fault { option_map told result ≡ fault_of fault }
     ensures named { IfSome result (IsNamed database_faults) }
 {
     match fault {
-        DbFault::Token(fault) => told_token(fault),
-        DbFault::Read(fault) => told_read(fault),
+        DbFault::Token(fault) => named_token(fault),
+        DbFault::Read(fault) => named_read(fault),
         DbFault::Memory => None,
     }
 }
@@ -88,10 +88,10 @@ pub fn db_fault_line(alloc: Global, fault: &DbFault) -> Result<Bytes, Memory>
     requires { IsSome (fault_of fault.now) }
     ensures { IfOk result (λ line. option_map database_line (fault_of fault.now) ≡ Some line) }
 {
-    match told_fault(*fault) {
+    match named_fault(*fault) {
         None => Err(Memory),
-        Some(told) => {
-            let line = database_line(alloc, told)?;
+        Some(named) => {
+            let line = database_line(alloc, named)?;
             Ok(List::from_vec(line.into_bytes()))
         }
     }

@@ -20,6 +20,17 @@ pub struct KindCodes {
     pub logic: Typecode,
 }
 
+/// What the symbols of a formula are, at a place of the database and by a frame.
+#[derive(Clone, Copy)]
+pub struct Scope<'c, 'v> {
+    /// The numbers of the `$c` by symbol.
+    pub constants: &'c [u32],
+    /// The number of the statement whose formula it is.
+    pub place: u32,
+    /// The frame's variables.
+    pub vars: &'v [FrameVariable],
+}
+
 /// Whether a constant is declared below a place, where these are the numbers of the `$c` by symbol.
 fn is_constant(constants: &[u32], place: u32, sym: Sym) -> bool
     ensures { result ≡ spec.is_constant constants.now place sym }
@@ -31,31 +42,25 @@ fn is_constant(constants: &[u32], place: u32, sym: Sym) -> bool
 }
 
 /// What a symbol of an assertion's formula is: a constant, or one of the frame's variables.
-fn leaf_of(constants: &[u32], place: u32, vars: &[FrameVariable], sym: Sym) -> Option<Leaf>
-    ensures { result ≡ spec.leaf_of constants.now place vars.now sym }
+fn leaf_of(scope: &Scope, sym: Sym) -> Option<Leaf>
+    ensures { result ≡ spec.leaf_of scope.now.constants.now scope.now.place scope.now.vars.now sym }
 {
-    if is_constant(constants, place, sym) {
+    if is_constant(scope.constants, scope.place, sym) {
         return Some(Leaf::Const(sym));
     }
-    match code_of(vars, sym) {
+    match code_of(scope.vars, sym) {
         None => None,
         Some(code) => Some(Leaf::Var(sym, code)),
     }
 }
 
 /// The expression of these symbols.
-fn expression(
-    alloc: Global,
-    constants: &[u32],
-    place: u32,
-    vars: &[FrameVariable],
-    symbols: &[Sym],
-) -> Result<List<Leaf>, Memory>
-    ensures { IfOk result (λ leaves. leaves ≡ filter_map (spec.leaf_of constants.now place vars.now) symbols.now) }
+fn expression(alloc: Global, scope: &Scope, symbols: &[Sym]) -> Result<List<Leaf>, Memory>
+    ensures { IfOk result (λ leaves. leaves ≡ filter_map (spec.leaf_of scope.now.constants.now scope.now.place scope.now.vars.now) symbols.now) }
 {
     let mut leaves = Vec::new(alloc);
     for sym in symbols {
-        if let Some(leaf) = leaf_of(constants, place, vars, *sym) {
+        if let Some(leaf) = leaf_of(scope, *sym) {
             leaves.push(leaf)?;
         }
     }
@@ -95,13 +100,11 @@ fn is_assertion(provable: Option<Sym>, formula: &[Sym]) -> bool
 pub fn read_formula(
     alloc: Global,
     grammar: &Grammar,
-    constants: &[u32],
     kinds: KindCodes,
-    place: u32,
-    vars: &[FrameVariable],
+    scope: &Scope,
     formula: &[Sym],
 ) -> Result<Option<Tree>, Memory>
-    ensures { IfOk result (IsAnswer (IsReadBy kinds grammar.now constants.now place vars.now formula.now)) }
+    ensures { IfOk result (IsAnswer (IsReadBy kinds grammar.now scope.now.constants.now scope.now.place scope.now.vars.now formula.now)) }
 {
     if !is_assertion(kinds.provable, formula) {
         return Ok(None);
@@ -109,8 +112,8 @@ pub fn read_formula(
     match formula {
         [] => Ok(None),
         [_, symbols @ ..] => {
-            let leaves = expression(alloc, constants, place, vars, symbols)?;
-            tree_of(alloc, grammar, place, &leaves, kinds.logic)
+            let leaves = expression(alloc, scope, symbols)?;
+            tree_of(alloc, grammar, scope.place, &leaves, kinds.logic)
         }
     }
 }

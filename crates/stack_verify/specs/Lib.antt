@@ -8,4 +8,5 @@ pub mod Proofs
 pub mod Stacked
 pub mod Stacks
 pub mod Steps
+pub mod Taken
 pub mod Theorems

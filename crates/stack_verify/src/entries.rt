@@ -3,6 +3,7 @@
 ghost use Rattle.std.specs.Prelude.{◌≡◌, length, OnOk, IfOk, IfErr, All, None, false, find, is_some};
 ghost use Rattle.proof_model.specs.Machine.{differs_in_type, differs_in_formula, hyp_fault, entries_fault};
 ghost use Rattle.stack_verify.specs.Stacks.{IsWithin, entries_of};
+ghost use Rattle.stack_verify.specs.Taken.{taken};
 ghost use Rattle.stack_verify.specs.Steps.{FailsAs, IsHypFault};
 ghost use Rattle.stack_verify.specs.Contexts.{IsKnown};
 
@@ -10,6 +11,7 @@ use crate::fault::StepFault;
 use crate::formula::{Span, formula_in, push_substituted, same_formula, typecode};
 use crate::known::Known;
 use crate::pairs::{Buffers, check_distinct, check_shared};
+use crate::taken::Entries;
 use mm_base::{List, Sym};
 use mm_model::{Frame, Hyp};
 use proof_model::Theorem;
@@ -22,13 +24,11 @@ fn differs_in_type(hyp: &Hyp, formula: &[Sym]) -> bool
 }
 
 /// Whether the entry for some `$f` has another typecode.
-fn has_other_type(hyps: &[Hyp], symbols: &[Sym], spans: &[Span]) -> bool
-    requires each { length spans.now ≡ length hyps.now }
-    requires within { All (IsWithin (length symbols.now)) spans.now }
-    ensures { result ≡ is_some (find differs_in_type (entries_of hyps.now symbols.now spans.now)) }
+fn has_other_type(entries: &Entries) -> bool
+    ensures { result ≡ is_some (find differs_in_type (taken entries.now)) }
 {
-    for (place, hyp) in hyps.iter().enumerate() {
-        if differs_in_type(hyp, formula_in(symbols, spans[place])) {
+    for (place, hyp) in entries.hyps.iter().enumerate() {
+        if differs_in_type(hyp, formula_in(entries.symbols, entries.spans[place])) {
             return true;
         }
     }
@@ -38,22 +38,18 @@ fn has_other_type(hyps: &[Hyp], symbols: &[Sym], spans: &[Span]) -> bool
 /// Looks at the entry for one hypothesis.
 fn check_hyp(
     scratch: &mut Vec<Sym>,
-    hyps: &[Hyp],
-    symbols: &[Sym],
-    spans: &[Span],
+    entries: &Entries,
     hyp: &Hyp,
     found: &[Sym],
 ) -> Result<(), StepFault>
-    requires each { length spans.now ≡ length hyps.now }
-    requires within { All (IsWithin (length symbols.now)) spans.now }
-    ensures fine { OnOk result (differs_in_formula (entries_of hyps.now symbols.now spans.now) (hyp.now, found.now) ≡ false) }
-    ensures fault { IfErr result (λ e. IsHypFault (entries_of hyps.now symbols.now spans.now) (hyp.now, found.now) e) }
+    ensures fine { OnOk result (differs_in_formula (taken entries.now) (hyp.now, found.now) ≡ false) }
+    ensures fault { IfErr result (λ e. IsHypFault (taken entries.now) (hyp.now, found.now) e) }
 {
     if hyp.floating {
         return Ok(());
     }
     scratch.clear();
-    push_substituted(scratch, hyps, symbols, spans, hyp.formula.as_slice())?;
+    push_substituted(scratch, entries, hyp.formula.as_slice())?;
     if same_formula(found, scratch.as_slice()) {
         return Ok(());
     }
@@ -63,20 +59,13 @@ fn check_hyp(
 }
 
 /// Looks at the entries for the `$e`, in order.
-fn check_hyps(
-    scratch: &mut Vec<Sym>,
-    hyps: &[Hyp],
-    symbols: &[Sym],
-    spans: &[Span],
-) -> Result<(), StepFault>
-    requires each { length spans.now ≡ length hyps.now }
-    requires within { All (IsWithin (length symbols.now)) spans.now }
-    ensures fine { OnOk result (hyp_fault (entries_of hyps.now symbols.now spans.now) ≡ None) }
-    ensures fault { IfErr result (λ e. FailsAs e (hyp_fault (entries_of hyps.now symbols.now spans.now))) }
+fn check_hyps(scratch: &mut Vec<Sym>, entries: &Entries) -> Result<(), StepFault>
+    ensures fine { OnOk result (hyp_fault (taken entries.now) ≡ None) }
+    ensures fault { IfErr result (λ e. FailsAs e (hyp_fault (taken entries.now))) }
 {
-    for (place, hyp) in hyps.iter().enumerate() {
-        let found = formula_in(symbols, spans[place]);
-        check_hyp(scratch, hyps, symbols, spans, hyp, found)?;
+    for (place, hyp) in entries.hyps.iter().enumerate() {
+        let found = formula_in(entries.symbols, entries.spans[place]);
+        check_hyp(scratch, entries, hyp, found)?;
     }
     Ok(())
 }
@@ -97,11 +86,16 @@ pub(crate) fn check_entries(
     ensures fault { IfErr result (λ e. FailsAs e (entries_fault theorem.now frame.now (entries_of frame.now.hyps symbols.now spans.now))) }
 {
     let hyps = frame.hyps.as_slice();
-    if has_other_type(hyps, symbols, spans) {
+    let entries = Entries {
+        hyps,
+        symbols,
+        spans,
+    };
+    if has_other_type(&entries) {
         return Err(StepFault::TypeDiffers);
     }
-    check_hyps(&mut buffers.formula, hyps, symbols, spans)?;
+    check_hyps(&mut buffers.formula, &entries)?;
     let pairs = frame.pairs.as_slice();
-    check_shared(theorem, known, hyps, symbols, spans, pairs, buffers)?;
-    check_distinct(theorem, known, hyps, symbols, spans, pairs, buffers)
+    check_shared(theorem, known, &entries, pairs, buffers)?;
+    check_distinct(theorem, known, &entries, pairs, buffers)
 }

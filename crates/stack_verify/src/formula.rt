@@ -1,11 +1,13 @@
 //! Formulas as parts of one list of symbols, and substitution.
 
-ghost use Rattle.std.specs.Prelude.{◌≡◌, ◌==◌, ◌++◌, length, drop, take, position, OnOk, All};
+ghost use Rattle.std.specs.Prelude.{◌≡◌, ◌==◌, ◌++◌, length, drop, take, position, OnOk};
 ghost use Rattle.std.specs.List.{list_any};
 ghost use Rattle.mm_base.specs.declared.symbols.Sym.{Sym};
 ghost use Rattle.proof_model.specs.Machine.{is_float_of, same_formula, substitute, substituted};
-ghost use Rattle.stack_verify.specs.Stacks.{IsWithin, formula_in, entries_of};
+ghost use Rattle.stack_verify.specs.Stacks.{IsWithin, formula_in};
+ghost use Rattle.stack_verify.specs.Taken.{taken};
 
+use crate::taken::Entries;
 use mm_base::{Memory, Sym};
 use mm_model::Hyp;
 
@@ -64,21 +66,16 @@ pub(crate) fn find_float(hyps: &[Hyp], symbol: Sym) -> Option<usize>
 }
 
 /// Puts what a symbol stands for behind the list.
-fn push_substitute(
-    out: &mut Vec<Sym>,
-    hyps: &[Hyp],
-    symbols: &[Sym],
-    spans: &[Span],
-    symbol: Sym,
-) -> Result<(), Memory>
-    requires each { length spans.now ≡ length hyps.now }
-    requires within { All (IsWithin (length symbols.now)) spans.now }
-    ensures { OnOk result (out.new.items ≡ out.old.items ++ substitute (entries_of hyps.now symbols.now spans.now) symbol) }
+fn push_substitute(out: &mut Vec<Sym>, entries: &Entries, symbol: Sym) -> Result<(), Memory>
+    ensures { OnOk result (out.new.items ≡ out.old.items ++ substitute (taken entries.now) symbol) }
 {
-    match find_float(hyps, symbol) {
+    match find_float(entries.hyps, symbol) {
         None => out.push(symbol)?,
         Some(place) => {
-            out.extend_from_slice(behind_typecode(formula_in(symbols, spans[place])))?;
+            out.extend_from_slice(behind_typecode(formula_in(
+                entries.symbols,
+                entries.spans[place],
+            )))?;
         }
     }
     Ok(())
@@ -87,17 +84,13 @@ fn push_substitute(
 /// Puts the substituted formula behind the list.
 pub(crate) fn push_substituted(
     out: &mut Vec<Sym>,
-    hyps: &[Hyp],
-    symbols: &[Sym],
-    spans: &[Span],
+    entries: &Entries,
     formula: &[Sym],
 ) -> Result<(), Memory>
-    requires each { length spans.now ≡ length hyps.now }
-    requires within { All (IsWithin (length symbols.now)) spans.now }
-    ensures { OnOk result (out.new.items ≡ out.old.items ++ substituted (entries_of hyps.now symbols.now spans.now) formula.now) }
+    ensures { OnOk result (out.new.items ≡ out.old.items ++ substituted (taken entries.now) formula.now) }
 {
     for symbol in formula {
-        push_substitute(out, hyps, symbols, spans, *symbol)?;
+        push_substitute(out, entries, *symbol)?;
     }
     Ok(())
 }

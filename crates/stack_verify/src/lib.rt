@@ -13,6 +13,7 @@ mod normal;
 mod pairs;
 mod run;
 mod stack;
+mod taken;
 mod theorems;
 mod words;
 

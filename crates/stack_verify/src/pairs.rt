@@ -1,17 +1,17 @@
 //! The pairs of distinct variables of an assertion, looked at in the substitutes of their variables.
 
-ghost use Rattle.std.specs.Prelude.{◌≡◌, ◌++◌, length, filter, map, IfOk, IfErr, OnOk, All, None};
+ghost use Rattle.std.specs.Prelude.{◌≡◌, ◌++◌, filter, map, IfOk, IfErr, OnOk, None};
 ghost use Rattle.proof_model.specs.Machine.{is_less, lesser, least, substitute, shared_fault, distinct_fault};
-ghost use Rattle.stack_verify.specs.Stacks.{IsWithin, entries_of};
+ghost use Rattle.stack_verify.specs.Taken.{taken};
 ghost use Rattle.stack_verify.specs.Contexts.{IsKnown};
 ghost use Rattle.stack_verify.specs.Steps.{FailsAs};
 ghost use Rattle.stack_verify.specs.Pairs.{fails, products, variables_in, least_onto, first_failing};
 
 use crate::fault::StepFault;
-use crate::formula::{Span, behind_typecode, find_float, formula_in};
+use crate::formula::{behind_typecode, find_float, formula_in};
 use crate::known::Known;
+use crate::taken::Entries;
 use mm_base::{Memory, Pair, Sym};
-use mm_model::Hyp;
 use proof_model::Theorem;
 use std::alloc::Global;
 
@@ -84,23 +84,19 @@ fn push_variables(out: &mut Vec<Sym>, known: &Known, formula: &[Sym]) -> Result<
 fn put_variables(
     out: &mut Vec<Sym>,
     known: &Known,
-    hyps: &[Hyp],
-    symbols: &[Sym],
-    spans: &[Span],
+    entries: &Entries,
     symbol: Sym,
 ) -> Result<(), Memory>
-    requires each { length spans.now ≡ length hyps.now }
-    requires within { All (IsWithin (length symbols.now)) spans.now }
-    ensures { OnOk result (out.new.items ≡ variables_in known.now (substitute (entries_of hyps.now symbols.now spans.now) symbol)) }
+    ensures { OnOk result (out.new.items ≡ variables_in known.now (substitute (taken entries.now) symbol)) }
 {
     out.clear();
-    match find_float(hyps, symbol) {
+    match find_float(entries.hyps, symbol) {
         None => push_variables(out, known, &[symbol])?,
         Some(place) => {
             push_variables(
                 out,
                 known,
-                behind_typecode(formula_in(symbols, spans[place])),
+                behind_typecode(formula_in(entries.symbols, entries.spans[place])),
             )?;
         }
     }
@@ -146,19 +142,15 @@ fn least_failing(known: &Known, rule: Rule, firsts: &[Sym], seconds: &[Sym]) -> 
 fn first_failing(
     known: &Known,
     rule: Rule,
-    hyps: &[Hyp],
-    symbols: &[Sym],
-    spans: &[Span],
+    entries: &Entries,
     pairs: &[Pair],
     buffers: &mut Buffers,
 ) -> Result<Option<(Pair, (Sym, Sym))>, Memory>
-    requires each { length spans.now ≡ length hyps.now }
-    requires within { All (IsWithin (length symbols.now)) spans.now }
-    ensures { IfOk result (λ first. first ≡ first_failing known.now rule (entries_of hyps.now symbols.now spans.now) pairs.now) }
+    ensures { IfOk result (λ first. first ≡ first_failing known.now rule (taken entries.now) pairs.now) }
 {
     for pair in pairs {
-        put_variables(&mut buffers.firsts, known, hyps, symbols, spans, pair.a)?;
-        put_variables(&mut buffers.seconds, known, hyps, symbols, spans, pair.b)?;
+        put_variables(&mut buffers.firsts, known, entries, pair.a)?;
+        put_variables(&mut buffers.seconds, known, entries, pair.b)?;
         let least = least_failing(
             known,
             rule,
@@ -176,19 +168,15 @@ fn first_failing(
 pub(crate) fn check_shared(
     theorem: &Theorem,
     known: &Known,
-    hyps: &[Hyp],
-    symbols: &[Sym],
-    spans: &[Span],
+    entries: &Entries,
     pairs: &[Pair],
     buffers: &mut Buffers,
 ) -> Result<(), StepFault>
     requires known { IsKnown theorem.now known.now }
-    requires each { length spans.now ≡ length hyps.now }
-    requires within { All (IsWithin (length symbols.now)) spans.now }
-    ensures fine { OnOk result (shared_fault theorem.now (entries_of hyps.now symbols.now spans.now) pairs.now ≡ None) }
-    ensures fault { IfErr result (λ e. FailsAs e (shared_fault theorem.now (entries_of hyps.now symbols.now spans.now) pairs.now)) }
+    ensures fine { OnOk result (shared_fault theorem.now (taken entries.now) pairs.now ≡ None) }
+    ensures fault { IfErr result (λ e. FailsAs e (shared_fault theorem.now (taken entries.now) pairs.now)) }
 {
-    match first_failing(known, Rule::Shared, hyps, symbols, spans, pairs, buffers)? {
+    match first_failing(known, Rule::Shared, entries, pairs, buffers)? {
         None => Ok(()),
         Some((pair, (v, _))) => Err(StepFault::Shared(pair.a, pair.b, v)),
     }
@@ -198,19 +186,15 @@ pub(crate) fn check_shared(
 pub(crate) fn check_distinct(
     theorem: &Theorem,
     known: &Known,
-    hyps: &[Hyp],
-    symbols: &[Sym],
-    spans: &[Span],
+    entries: &Entries,
     pairs: &[Pair],
     buffers: &mut Buffers,
 ) -> Result<(), StepFault>
     requires known { IsKnown theorem.now known.now }
-    requires each { length spans.now ≡ length hyps.now }
-    requires within { All (IsWithin (length symbols.now)) spans.now }
-    ensures fine { OnOk result (distinct_fault theorem.now (entries_of hyps.now symbols.now spans.now) pairs.now ≡ None) }
-    ensures fault { IfErr result (λ e. FailsAs e (distinct_fault theorem.now (entries_of hyps.now symbols.now spans.now) pairs.now)) }
+    ensures fine { OnOk result (distinct_fault theorem.now (taken entries.now) pairs.now ≡ None) }
+    ensures fault { IfErr result (λ e. FailsAs e (distinct_fault theorem.now (taken entries.now) pairs.now)) }
 {
-    match first_failing(known, Rule::Distinct, hyps, symbols, spans, pairs, buffers)? {
+    match first_failing(known, Rule::Distinct, entries, pairs, buffers)? {
         None => Ok(()),
         Some((_, (v, w))) => Err(StepFault::NotDistinct(v, w)),
     }

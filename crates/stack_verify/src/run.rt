@@ -66,23 +66,32 @@ fn found_at<'f>(table: &[Found<'f>], number: u32, absent: Found<'f>) -> Found<'f
     }
 }
 
+/// What the labels of a proof name.
+#[derive(Clone, Copy)]
+struct Named<'f, 'm, 'l> {
+    /// What a number names that no label has.
+    absent: Found<'f>,
+    /// What the labels of the mandatory hypotheses name.
+    mandatory: &'m [Found<'f>],
+    /// What the labels of the code name.
+    labels: &'l [Found<'f>],
+}
+
 /// Takes one step.
 fn use_step<'f>(
     stack: &mut Stack,
     buffers: &mut Buffers,
     theorem: &Theorem,
     known: &Known,
-    absent: Found<'f>,
-    mandatory: &[Found<'f>],
-    labels: &[Found<'f>],
+    named: &Named<'f, '_, '_>,
     step: Step,
 ) -> Result<(), StepFault>
     requires known { IsKnown theorem.now known.now }
     requires sound { IsSound stack.old }
     ensures sound { OnOk result (IsSound stack.new) }
-    ensures used { OnOk result (use_found_step theorem.now absent.entry mandatory.now labels.now step (state stack.old) ≡ Ok (state stack.new)) }
+    ensures used { OnOk result (use_found_step theorem.now named.now.absent named.now.mandatory.now named.now.labels.now step (state stack.old) ≡ Ok (state stack.new)) }
     ensures grown { OnOk result (vec_len stack.new.entries ≤ vec_len stack.old.entries + 1) }
-    ensures fault { IfErr result (λ e. FailsWith e (use_found_step theorem.now absent.entry mandatory.now labels.now step (state stack.old))) }
+    ensures fault { IfErr result (λ e. FailsWith e (use_found_step theorem.now named.now.absent named.now.mandatory.now named.now.labels.now step (state stack.old))) }
 {
     match step.what {
         What::Hyp(k) => use_found(
@@ -90,9 +99,15 @@ fn use_step<'f>(
             buffers,
             theorem,
             known,
-            found_at(mandatory, k, absent),
+            found_at(named.mandatory, k, named.absent),
         )?,
-        What::Listed(k) => use_found(stack, buffers, theorem, known, found_at(labels, k, absent))?,
+        What::Listed(k) => use_found(
+            stack,
+            buffers,
+            theorem,
+            known,
+            found_at(named.labels, k, named.absent),
+        )?,
         What::Again(k) => stack.push_kept(k)?,
         What::Unknown => return Err(StepFault::Unknown),
     }
@@ -106,9 +121,7 @@ fn run_steps<'f>(
     buffers: &mut Buffers,
     theorem: &Theorem,
     known: &Known,
-    absent: Found<'f>,
-    mandatory: &[Found<'f>],
-    labels: &[Found<'f>],
+    named: &Named<'f, '_, '_>,
     steps: &[Step],
 ) -> Result<(), ProofFault>
     requires known { IsKnown theorem.now known.now }
@@ -116,13 +129,11 @@ fn run_steps<'f>(
     requires few { length steps.now < 2 ^ 32 }
     ensures sound { OnOk result (IsSound stack.new) }
     ensures grown { OnOk result (vec_len stack.new.entries ≤ vec_len stack.old.entries + length steps.now) }
-    ensures run { OnOk result (run_found theorem.now absent.entry mandatory.now labels.now 0 steps.now (state stack.old) ≡ Ok (state stack.new)) }
-    ensures fault { IfErr result (λ e. RunFails e (run_found theorem.now absent.entry mandatory.now labels.now 0 steps.now (state stack.old))) }
+    ensures run { OnOk result (run_found theorem.now named.now.absent named.now.mandatory.now named.now.labels.now 0 steps.now (state stack.old) ≡ Ok (state stack.new)) }
+    ensures fault { IfErr result (λ e. RunFails e (run_found theorem.now named.now.absent named.now.mandatory.now named.now.labels.now 0 steps.now (state stack.old))) }
 {
     for (number, step) in steps.iter().enumerate() {
-        let used = use_step(
-            stack, buffers, theorem, known, absent, mandatory, labels, *step,
-        );
+        let used = use_step(stack, buffers, theorem, known, named, *step);
         if let Err(fault) = used {
             return Err(at_step(number as u32, fault));
         }
@@ -165,15 +176,11 @@ pub(crate) fn run<'f>(
     let known = Known::new(alloc, theorem)?;
     let mut stack = Stack::new(alloc);
     let mut buffers = Buffers::new(alloc);
-    run_steps(
-        &mut stack,
-        &mut buffers,
-        theorem,
-        &known,
+    let named = Named {
         absent,
         mandatory,
         labels,
-        steps,
-    )?;
+    };
+    run_steps(&mut stack, &mut buffers, theorem, &known, &named, steps)?;
     check_end(&stack, theorem, steps.len() as u32)
 }

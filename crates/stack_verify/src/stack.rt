@@ -12,6 +12,7 @@ use crate::fault::StepFault;
 use crate::formula::{Span, formula_in, push_substituted};
 use crate::known::Known;
 use crate::pairs::Buffers;
+use crate::taken::Entries;
 use mm_base::{Memory, Sym};
 use mm_model::Frame;
 use proof_model::Theorem;
@@ -140,13 +141,12 @@ impl Stack {
         let spans = behind(self.entries.as_slice(), below);
         check_entries(buffers, theorem, known, frame, symbols, spans)?;
         buffers.formula.clear();
-        push_substituted(
-            &mut buffers.formula,
+        let entries = Entries {
             hyps,
             symbols,
             spans,
-            frame.formula.as_slice(),
-        )?;
+        };
+        push_substituted(&mut buffers.formula, &entries, frame.formula.as_slice())?;
         self.entries.truncate(below);
         self.push(buffers.formula.as_slice())?;
         Ok(())

@@ -21,11 +21,11 @@ read_on m n marks more p q old new letters i whole h goes_on read = rw add-one (
 
 pub loop-i-preserved : goal.loop-i-preserved
 loop-i-preserved c = record {
-  marks = omega (arith, c.in_ok-next.ensures.marks);
+  marks = omega (arith, c.in_ok-before.ensures.marks);
   reads =
-      read_on c.args.mandatory c.args.labels c.loop-i.marks c.in_ok-next.next.1 c.loop-i.prior c.in_ok-next.next.0 c.loop-i.steps.items
+      read_on c.args.mandatory c.args.labels c.loop-i.before.marks c.in_ok-before.before.marks c.loop-i.before.prior c.in_ok-before.before.prior c.loop-i.steps.items
       c.read_letter.new.steps.items c.args.letters.now c.loop-i.i _
-      c.loop-i-test.true (c.in_ok-next.ensures.goes_on (drop (suc c.loop-i.i) c.args.letters.now)) c.loop-i.invariant.reads;
+      c.loop-i-test.true (c.in_ok-before.ensures.goes_on (drop (suc c.loop-i.i) c.args.letters.now)) c.loop-i.invariant.reads;
 }
 
 -- a fault of what is still read is the fault of the whole
@@ -40,18 +40,18 @@ failed (faults.NoBracket i) front rest whole read f = absurd f
 failed (faults.MandatoryListed i l) front rest whole read f = absurd f
 failed (faults.LabelTwice i l) front rest whole read f = absurd f
 
-pub returns-in_err-next : goal.returns-in_err-next
-returns-in_err-next c =
+pub returns-in_err-before : goal.returns-in_err-before
+returns-in_err-before c =
     let m = c.args.mandatory in
     let n = c.args.labels in
     let letters = c.args.letters.now in
     let i = c.loop-i.i in
     let front = c.loop-i.steps.items in
     let whole = read_letters m n 0 prior.Start 0 letters in
-    let read : with_front front (read_letters m n c.loop-i.marks c.loop-i.prior i (get_or letters i 0 ∷ drop (suc i) letters)) ≡ whole =
-    ap (λ (s : List ℕ). with_front front (read_letters m n c.loop-i.marks c.loop-i.prior i s)) (sym (drop-cons letters i 0 c.loop-i-test.true)) ∙ c.loop-i.invariant.reads in
+    let read : with_front front (read_letters m n c.loop-i.before.marks c.loop-i.before.prior i (get_or letters i 0 ∷ drop (suc i) letters)) ≡ whole =
+    ap (λ (s : List ℕ). with_front front (read_letters m n c.loop-i.before.marks c.loop-i.before.prior i s)) (sym (drop-cons letters i 0 c.loop-i-test.true)) ∙ c.loop-i.invariant.reads in
     let p = err_from_is_err_and c.from_residual.result c.from_residual.ensures.1 in
-    rw (p.1, p.2) (failed c.in_err-next.field-0.0 front _ whole read (c.in_err-next.ensures.fails (drop (suc i) letters)))
+    rw (p.1, p.2) (failed c.in_err-before.field-0.0 front _ whole read (c.in_err-before.ensures.fails (drop (suc i) letters)))
 
 -- what is read at the end
 ended : (m n marks i : ℕ) (p : Prior) (front new : List Step) (whole : Result (List Step) CodeFault) → ((x : ℕ) → p ≡ prior.Digits x → ⊥)
@@ -69,9 +69,9 @@ returns c =
     let i = c.loop-i.i in
     let front = c.loop-i.steps.items in
     let whole = read_letters m n 0 prior.Start 0 letters in
-    let read : with_front front (read_letters m n c.loop-i.marks c.loop-i.prior i []) ≡ whole =
-    ap (λ (s : List ℕ). with_front front (read_letters m n c.loop-i.marks c.loop-i.prior i s)) (sym (drop_all i letters c.loop-i-test.false)) ∙ c.loop-i.invariant.reads in
-    ended m n c.loop-i.marks i c.loop-i.prior front c.push_pending.new.steps.items whole c.in_default.not-Digits c.in_ok-push_pending.ensures read
+    let read : with_front front (read_letters m n c.loop-i.before.marks c.loop-i.before.prior i []) ≡ whole =
+    ap (λ (s : List ℕ). with_front front (read_letters m n c.loop-i.before.marks c.loop-i.before.prior i s)) (sym (drop_all i letters c.loop-i-test.false)) ∙ c.loop-i.invariant.reads in
+    ended m n c.loop-i.before.marks i c.loop-i.before.prior front c.push_pending.new.steps.items whole c.in_default.not-Digits c.in_ok-push_pending.ensures read
 
 unended : (m n marks i end_ v : ℕ) (p : Prior) (front : List Step) (whole : Result (List Step) CodeFault) → p ≡ prior.Digits v → i ≡ end_
     → with_front front (read_letters m n marks p i []) ≡ whole → whole ≡ Err (faults.UnendedNumber end_)
@@ -86,7 +86,7 @@ returns-in-Digits c =
     let i = c.loop-i.i in
     let front = c.loop-i.steps.items in
     let whole = read_letters m n 0 prior.Start 0 letters in
-    let read : with_front front (read_letters m n c.loop-i.marks c.loop-i.prior i []) ≡ whole =
-    ap (λ (s : List ℕ). with_front front (read_letters m n c.loop-i.marks c.loop-i.prior i s)) (sym (drop_all i letters c.loop-i-test.false)) ∙ c.loop-i.invariant.reads in
+    let read : with_front front (read_letters m n c.loop-i.before.marks c.loop-i.before.prior i []) ≡ whole =
+    ap (λ (s : List ℕ). with_front front (read_letters m n c.loop-i.before.marks c.loop-i.before.prior i s)) (sym (drop_all i letters c.loop-i-test.false)) ∙ c.loop-i.invariant.reads in
     let stop : i ≡ length letters = omega (arith, c.loop-i-test.false, c.loop-i.auto.i-end) in
-    unended m n c.loop-i.marks i (length letters) c.in-Digits.field-0 c.loop-i.prior front whole c.in-Digits.is stop read
+    unended m n c.loop-i.before.marks i (length letters) c.in-Digits.field-0 c.loop-i.before.prior front whole c.in-Digits.is stop read

@@ -18,7 +18,7 @@ returns-in_default-read c =
     λ (vs : List FrameVariable) (o : Option (List Tree)). IsAnswer
     (AllZip (λ (h : Hyp) (t : Tree). IsReadBy c.args.kinds c.args.grammar.now c.args.constants.now f.at vs h.formula t)
     (essentials c.as_slice-3.result.now)) o in
-    let none = subst (Q vars) c.in_default-read.is (subst (λ vs. Q vs c.in_ok-read-2.read) c.deref-2.ensures.value c.in_ok-read-2.ensures) in
+    let none = subst (Q vars) c.in_default-read.is (subst (λ vs. Q vs c.in_ok-read-2.read) c.deref.ensures.value c.in_ok-read-2.ensures) in
     no_hyps c.args.kinds c.args.grammar.now c.args.constants.now f vars own f.formula refl c.as_slice-3.result.now c.as_slice-3.ensures none
 
 pub returns : goal.returns
@@ -32,7 +32,7 @@ returns c =
     (AllZip (λ (h : Hyp) (t : Tree). IsReadBy c.args.kinds c.args.grammar.now c.args.constants.now f.at vs h.formula t)
     (essentials c.as_slice-3.result.now)) o in
     let tree = subst (P vars) c.in-Some.is (subst (λ vs. P vs c.in_ok-read.read) c.deref.ensures.value c.in_ok-read.ensures) in
-    let hyps = subst (Q vars) c.in-Some-read.is (subst (λ vs. Q vs c.in_ok-read-2.read) c.deref-2.ensures.value c.in_ok-read-2.ensures) in
-    let syms = c.from_vec.ensures ∙ c.in_ok-symbols.ensures ∙ ap (map (λ (v : FrameVariable). v.sym)) c.deref-3.ensures.value in
+    let hyps = subst (Q vars) c.in-Some-read.is (subst (λ vs. Q vs c.in_ok-read-2.read) c.deref.ensures.value c.in_ok-read-2.ensures) in
+    let syms = c.from_vec.ensures ∙ c.in_ok-symbols.ensures ∙ ap (map (λ (v : FrameVariable). v.sym)) c.deref-2.ensures.value in
     read_whole c.args.kinds c.args.grammar.now c.args.constants.now f vars own c.as_slice-2.result.now c.as_slice-2.ensures c.as_slice-3.result.now c.as_slice-3.ensures
     c.in-Some.tree c.in-Some-read.hyps c.from_vec.result tree hyps syms

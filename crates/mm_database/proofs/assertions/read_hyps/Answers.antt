@@ -12,7 +12,7 @@ use Rattle.mm_database.proofs.assertions.read_hyps.Goals.{then-not-hyp+in_ok-rea
 
 pub returns-in-None : goal.returns-in-None
 returns-in-None c =
-    let F = λ (formula : List Sym) (t : Tree). IsReadBy c.args.kinds c.args.grammar.now c.args.constants.now c.args.place c.args.vars.now formula t in
+    let F = λ (formula : List Sym) (t : Tree). IsReadBy c.args.kinds c.args.grammar.now c.args.scope.now.constants.now c.args.scope.now.place c.args.scope.now.vars.now formula t in
     let R = λ (h : Hyp) (t : Tree). F h.formula t in
     let hs = c.args.hyps.now in
     let k = c.loop-hyp.hyp-index in
@@ -24,7 +24,7 @@ returns-in-None c =
 
 pub loop-hyp-preserved : goal.loop-hyp-preserved
 loop-hyp-preserved c =
-    let F = λ (formula : List Sym) (t : Tree). IsReadBy c.args.kinds c.args.grammar.now c.args.constants.now c.args.place c.args.vars.now formula t in
+    let F = λ (formula : List Sym) (t : Tree). IsReadBy c.args.kinds c.args.grammar.now c.args.scope.now.constants.now c.args.scope.now.place c.args.scope.now.vars.now formula t in
     let R = λ (h : Hyp) (t : Tree). F h.formula t in
     let hs = c.args.hyps.now in
     let k = c.loop-hyp.hyp-index in
@@ -46,7 +46,7 @@ loop-hyp-preserved c =
 
 pub returns : goal.returns
 returns c =
-    let R = λ (h : Hyp) (t : Tree). IsReadBy c.args.kinds c.args.grammar.now c.args.constants.now c.args.place c.args.vars.now h.formula t in
+    let R = λ (h : Hyp) (t : Tree). IsReadBy c.args.kinds c.args.grammar.now c.args.scope.now.constants.now c.args.scope.now.place c.args.scope.now.vars.now h.formula t in
     let hs = c.args.hyps.now in
     subst (λ ts. IsAnswer (AllZip R (essentials hs)) (Some ts)) (sym c.from_vec.ensures)
     (subst (λ xs. IsAnswer (AllZip R (essentials xs)) (Some c.loop-hyp.trees.items)) (take_all c.loop-hyp.hyp-index hs c.loop-hyp-test.false) c.loop-hyp.invariant)

@@ -7,4 +7,4 @@ use Rattle.mm_database.specs.Formulas.{IsAnswer, IsReadBy}
 use Rattle.mm_database.proofs.assertions.read_hyps.Given as goal
 
 abbrev pub invariant-loop-hyp : goal.invariant-loop-hyp
-invariant-loop-hyp l = IsAnswer (AllZip (λ (h : Hyp) (t : Tree). IsReadBy l.kinds l.grammar l.constants l.place l.vars h.formula t) (essentials (take l.hyp-index l.hyps))) (Some l.trees.items)
+invariant-loop-hyp l = IsAnswer (AllZip (λ (h : Hyp) (t : Tree). IsReadBy l.kinds l.grammar l.scope.constants.now l.scope.place l.scope.vars.now h.formula t) (essentials (take l.hyp-index l.hyps))) (Some l.trees.items)

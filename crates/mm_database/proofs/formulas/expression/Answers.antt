@@ -8,7 +8,7 @@ use Rattle.mm_database.proofs.formulas.expression.Goals.{in-Some+in_ok-push, in_
 
 pub loop-sym-preserved : goal.loop-sym-preserved
 loop-sym-preserved c =
-    let h = leaf_of c.args.constants.now c.args.place c.args.vars.now in
+    let h = leaf_of c.args.scope.now.constants.now c.args.scope.now.place c.args.scope.now.vars.now in
     let k = c.loop-sym.sym-index in
     elim c.match-leaf_of.branch [
       | in-Some+in_ok-push w ↦ ap (λ (v : Vec Leaf Global). v.items) w.leaves-is ∙ w.in_ok-push.ensures.items ∙ ap (λ xs. xs ++ w.in-Some.leaf ∷ []) c.loop-sym.invariant

@@ -15,7 +15,7 @@ pub tree_of-requires : goal.tree_of-requires
 tree_of-requires c =
     let formula = c.args.formula.now in
     let symbols = take (length formula - 1) (drop 1 formula) in
-    let fewer = length-filter_map (leaf_of c.args.constants.now c.args.place c.args.vars.now) symbols in
+    let fewer = length-filter_map (leaf_of c.args.scope.now.constants.now c.args.scope.now.place c.args.scope.now.vars.now) symbols in
     let own = ap length c.in_ok-leaves-in-len1-up.ensures in
     let rest = length-take (length formula - 1) (drop 1 formula) in
     let most = short c.args.kinds.provable formula (sym c.is_assertion.ensures ∙ c.if-not-is_assertion.false) in

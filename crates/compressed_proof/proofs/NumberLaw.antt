@@ -1,4 +1,4 @@
--- The number that is told of a number that is too large.
+-- The number of the fault that a number is too large.
 use Rattle.std.proofs.Common.{◌≡◌, ℕ, suc, ◌+◌, ◌-◌, ◌*◌, true, false, cond, eqb, ltb, List, [], ◌∷◌, length, take, Result, Ok, Err, refl, sym, ap, ◌∙◌, arith, subst, inl, inr}
 use mathlib.Core.List.{reverse_aux}
 use Rattle.std.specs.Prelude.{reverse, slice_index_or}
@@ -17,20 +17,20 @@ use Rattle.compressed_proof.proofs.FaultLaw.{IsPrior, is_step, cond_else, value_
 use Rattle.compressed_proof.proofs.Reverses.{item_there, items_before}
 
 -- the number at this place of the letters
-abbrev pub told_in : List ℕ → ℕ → ℕ
-told_in whole i = capped (number_at (reverse (take i whole)) (slice_index_or whole i 0))
+abbrev pub number_there : List ℕ → ℕ → ℕ
+number_there whole i = capped (number_at (reverse (take i whole)) (slice_index_or whole i 0))
 
 -- where reading fails with a number that is too large, it is the one at its place
-abbrev pub IsTold : List ℕ → Result (List Step) CodeFault → Type 0
-IsTold whole (Ok ss) = Unit {0}
-IsTold whole (Err (faults.NumberTooLarge i n)) = n ≡ told_in whole i
-IsTold whole (Err _) = Unit {0}
+abbrev pub HasNumber : List ℕ → Result (List Step) CodeFault → Type 0
+HasNumber whole (Ok ss) = Unit {0}
+HasNumber whole (Err (faults.NumberTooLarge i n)) = n ≡ number_there whole i
+HasNumber whole (Err _) = Unit {0}
 
-told_front : (whole : List ℕ) (front : List Step) (r : Result (List Step) CodeFault) → IsTold whole r → IsTold whole (with_front front r)
-told_front whole front (Ok ss) h = tt
-told_front whole front (Err e) h = h
+number_front : (whole : List ℕ) (front : List Step) (r : Result (List Step) CodeFault) → HasNumber whole r → HasNumber whole (with_front front r)
+number_front whole front (Ok ss) h = tt
+number_front whole front (Err e) h = h
 
-number_is : (p : Prior) (before : List ℕ) (b : ℕ) (bs : List ℕ) → IsPrior before p → with_last p b ≡ told_in (reverse_aux before (b ∷ bs)) (length before)
+number_is : (p : Prior) (before : List ℕ) (b : ℕ) (bs : List ℕ) → IsPrior before p → with_last p b ≡ number_there (reverse_aux before (b ∷ bs)) (length before)
 number_is p before b bs h =
     let whole : List ℕ = reverse_aux before (b ∷ bs) in
     let exact : capped (capped (20 * capped (digits_before before)) + (b - 64)) ≡ capped (20 * digits_before before + (b - 64)) = omega arith in
@@ -39,31 +39,31 @@ number_is p before b bs h =
 
 -- reading on behind this letter
 abbrev Later : ℕ → ℕ → List ℕ → ℕ → List ℕ → Type 0
-Later m n before b bs = (q : Prior) (k : ℕ) → IsPrior (b ∷ before) q → IsTold (reverse_aux before (b ∷ bs)) (read_letters m n k q (suc (length before)) bs)
+Later m n before b bs = (q : Prior) (k : ℕ) → IsPrior (b ∷ before) q → HasNumber (reverse_aux before (b ∷ bs)) (read_letters m n k q (suc (length before)) bs)
 
-told_mark : (m n marks : ℕ) (p : Prior) (before : List ℕ) (b : ℕ) (bs : List ℕ) → IsPrior before p → eqb b 90 ≡ true → Later m n before b bs
-    → IsTold (reverse_aux before (b ∷ bs)) (read_letters m n marks p (length before) (b ∷ bs))
-told_mark m n marks prior.Start before b bs h e later = let f = mark_is b e in rw (f.0, f.1, f.2, e) tt
-told_mark m n marks (prior.Digits v) before b bs h e later = let f = mark_is b e in rw (f.0, f.1, f.2, e) tt
-told_mark m n marks prior.Mark before b bs h e later = let f = mark_is b e in rw (f.0, f.1, f.2, e) tt
-told_mark m n marks (prior.Step w) before b bs h e later =
+number_mark : (m n marks : ℕ) (p : Prior) (before : List ℕ) (b : ℕ) (bs : List ℕ) → IsPrior before p → eqb b 90 ≡ true → Later m n before b bs
+    → HasNumber (reverse_aux before (b ∷ bs)) (read_letters m n marks p (length before) (b ∷ bs))
+number_mark m n marks prior.Start before b bs h e later = let f = mark_is b e in rw (f.0, f.1, f.2, e) tt
+number_mark m n marks (prior.Digits v) before b bs h e later = let f = mark_is b e in rw (f.0, f.1, f.2, e) tt
+number_mark m n marks prior.Mark before b bs h e later = let f = mark_is b e in rw (f.0, f.1, f.2, e) tt
+number_mark m n marks (prior.Step w) before b bs h e later =
     let f = mark_is b e in
     let next = read_letters m n (suc marks) prior.Mark (suc (length before)) bs in
     let read : read_letters m n marks (prior.Step w) (length before) (b ∷ bs) ≡ with_front (marked w ∷ []) next = rw (f.0, f.1, f.2, e) refl in
     let there : IsPrior (b ∷ before) prior.Mark = (f.0, e, or_right (is_step b) (list_any is_step before) h.2, cond_else (is_leading b) (5 * digits_before before + (b - 84)) 0 f.0) in
-    subst (IsTold (reverse_aux before (b ∷ bs))) (sym read) (told_front (reverse_aux before (b ∷ bs)) (marked w ∷ []) next (later prior.Mark (suc marks) there))
+    subst (HasNumber (reverse_aux before (b ∷ bs))) (sym read) (number_front (reverse_aux before (b ∷ bs)) (marked w ∷ []) next (later prior.Mark (suc marks) there))
 
-pub told_law : (m n marks : ℕ) (p : Prior) (before letters : List ℕ) → IsPrior before p → IsTold (reverse_aux before letters) (read_letters m n marks p (length before) letters)
-told_law m n marks p before [] h = elim (is_digits p) as (λ t. IsTold (reverse_aux before []) (cond t (Err (faults.UnendedNumber (length before))) (Ok (pending p)))) [ true ↦ tt | false ↦ tt ]
-told_law m n marks p before (b ∷ bs) h =
-    let later : Later m n before b bs = λ q k hq. told_law m n k q (b ∷ before) bs hq in
+pub number_law : (m n marks : ℕ) (p : Prior) (before letters : List ℕ) → IsPrior before p → HasNumber (reverse_aux before letters) (read_letters m n marks p (length before) letters)
+number_law m n marks p before [] h = elim (is_digits p) as (λ t. HasNumber (reverse_aux before []) (cond t (Err (faults.UnendedNumber (length before))) (Ok (pending p)))) [ true ↦ tt | false ↦ tt ]
+number_law m n marks p before (b ∷ bs) h =
+    let later : Later m n before b bs = λ q k hq. number_law m n k q (b ∷ before) bs hq in
     let whole : List ℕ = reverse_aux before (b ∷ bs) in
     elim (cases_Bool (is_leading b)) [
       | inl e ↦
           let next = read_letters m n marks (prior.Digits (with_digit p b)) (suc (length before)) bs in
           let digits : with_digit p b ≡ capped (digits_before (b ∷ before)) = rw (e, value_is before p h) (digit_is (digits_before before) (b - 84)) in
           let read : read_letters m n marks p (length before) (b ∷ bs) ≡ with_front (pending p) next = rw e refl in
-          subst (IsTold whole) (sym read) (told_front whole (pending p) next (later (prior.Digits (with_digit p b)) marks (e, digits)))
+          subst (HasNumber whole) (sym read) (number_front whole (pending p) next (later (prior.Digits (with_digit p b)) marks (e, digits)))
       | inr e1 ↦
           elim (cases_Bool (is_last b)) [
             | inl e ↦
@@ -79,11 +79,11 @@ told_law m n marks p before (b ∷ bs) h =
                 ≡ cond (ltb (m + n + marks) (with_last p b)) (Err (faults.NumberTooLarge (length before) (with_last p b)))
                 (with_front (pending p) next) =
                 rw (e1, e) refl in
-                subst (IsTold whole) (sym read)
+                subst (HasNumber whole) (sym read)
                 (elim (ltb (m + n + marks) (with_last p b)) as
-                (λ t. IsTold whole (cond t (Err (faults.NumberTooLarge (length before) (with_last p b))) (with_front (pending p) next))) [
+                (λ t. HasNumber whole (cond t (Err (faults.NumberTooLarge (length before) (with_last p b))) (with_front (pending p) next))) [
                   | true ↦ number_is p before b bs h
-                  | false ↦ told_front whole (pending p) next (later (prior.Step (what_of m n (with_last p b))) marks there)
+                  | false ↦ number_front whole (pending p) next (later (prior.Step (what_of m n (with_last p b))) marks there)
                 ])
             | inr e2 ↦
                 elim (cases_Bool (eqb b 63)) [
@@ -99,13 +99,13 @@ told_law m n marks p before (b ∷ bs) h =
                       let read : read_letters m n marks p (length before) (b ∷ bs)
                       ≡ cond (is_digits p) (Err (faults.UnendedNumber (length before))) (with_front (pending p) next) =
                       rw (e1, e2, e) refl in
-                      subst (IsTold whole) (sym read) (elim (is_digits p) as (λ t. IsTold whole (cond t (Err (faults.UnendedNumber (length before))) (with_front (pending p) next))) [
+                      subst (HasNumber whole) (sym read) (elim (is_digits p) as (λ t. HasNumber whole (cond t (Err (faults.UnendedNumber (length before))) (with_front (pending p) next))) [
                         | true ↦ tt
-                        | false ↦ told_front whole (pending p) next (later (prior.Step Unknown) marks there)
+                        | false ↦ number_front whole (pending p) next (later (prior.Step Unknown) marks there)
                       ])
                   | inr e3 ↦
                       elim (cases_Bool (eqb b 90)) [
-                        | inl e ↦ told_mark m n marks p before b bs h e later
+                        | inl e ↦ number_mark m n marks p before b bs h e later
                         | inr e4 ↦ rw (e1, e2, e3, e4) tt
                       ]
                 ]
