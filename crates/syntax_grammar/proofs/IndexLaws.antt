@@ -6,11 +6,9 @@ use Rattle.std.proofs.lemmas.List.Elements.{filter_map-append}
 use Rattle.std.specs.List.{filter_map, cons_option}
 use Rattle.mm_base.specs.declared.symbols.Sym.{Sym}
 use Rattle.mm_base.specs.declared.symbols.Label.{Label}
-use Rattle.mm_base.specs.declared.rows.Rows.{Rows}
-use Rattle.mm_base.specs.Rows.{row_at}
 use Rattle.mm_model.specs.declared.rows.Production.{Production}
 use Rattle.mm_model.specs.Texts.{row_of}
-use Rattle.syntax_grammar.specs.Index.{IsIndex}
+use Rattle.syntax_grammar.specs.Index.{IsAtKeys}
 use Rattle.syntax_grammar.specs.Selections.{numbers, begins_const, has_label, by_first}
 
 -- one more number, where the test passes
@@ -46,13 +44,13 @@ module _ (test : ℕ → Production → Bool) (rows : List Production) (n : ℕ)
       ap (λ k. numbers (test q) 0 (take k rows)) next ∙ numbers_more (test q) 0 rows n r at ∙ ap (λ k. one_more (test q r) (numbers (test q) 0 (take n rows)) k) same
 
   -- the row's number is put in at its key
-  pub index_turn : (old new : Rows ℕ) (key : ℕ) → ((q : ℕ) → test q r ≡ (key == q))
-      → ((q : ℕ) → row_at new q ≡ (if key == q then row_at old q ++ n ∷ [] else row_at old q)) → IsIndex test (take n rows) old → IsIndex test (take (n + 1) rows) new
+  pub index_turn : (old new : ℕ → List ℕ) (key : ℕ) → ((q : ℕ) → test q r ≡ (key == q))
+      → ((q : ℕ) → new q ≡ (if key == q then old q ++ n ∷ [] else old q)) → IsAtKeys test (take n rows) old → IsAtKeys test (take (n + 1) rows) new
   index_turn old new key passes added h q =
       added q ∙ ap (λ ns. one_more (key == q) ns n) (h q) ∙ ap (λ b. one_more b (numbers (test q) 0 (take n rows)) n) (sym (passes q)) ∙ sym (next_numbers q)
 
   -- a row that has no key
-  pub index_skip : (x : Rows ℕ) → ((q : ℕ) → test q r ≡ false) → IsIndex test (take n rows) x → IsIndex test (take (n + 1) rows) x
+  pub index_skip : (x : ℕ → List ℕ) → ((q : ℕ) → test q r ≡ false) → IsAtKeys test (take n rows) x → IsAtKeys test (take (n + 1) rows) x
   index_skip x fails h q = h q ∙ ap (λ b. one_more b (numbers (test q) 0 (take n rows)) n) (sym (fails q)) ∙ sym (next_numbers q)
 
 -- ---- what is looked up

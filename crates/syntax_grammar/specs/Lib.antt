@@ -3,3 +3,4 @@ pub mod Index
 pub mod Joins
 pub mod Selections
 pub mod SelectionsExamples
+pub mod Tables

@@ -7,6 +7,7 @@ ghost use Rattle.syntax_grammar.specs.Selections as spec;
 
 use crate::index::{const_index, label_index, lone_index, next_index, slot_index};
 use crate::joins::Joins;
+use crate::table::Table;
 use mm_base::{Label, List, Memory, Rows, Sym, Typecode};
 use mm_model::{Item, Production};
 use std::alloc::Global;
@@ -17,10 +18,10 @@ use std::marker::Model;
 pub struct Grammar {
     rows: List<Production>,
     by_label: Rows<usize>,
-    by_const: Rows<usize>,
-    by_slot: Rows<usize>,
-    by_next: Rows<usize>,
-    lone: Rows<usize>,
+    by_const: Table,
+    by_slot: Table,
+    by_next: Table,
+    lone: Table,
 }
 
 impl Model for Grammar {
@@ -28,15 +29,15 @@ impl Model for Grammar {
     ghost use Rattle.mm_model.specs.declared.rows.Production.{Production};
     ghost use Rattle.mm_model.specs.Rows.{IsGrammar};
     ghost use Rattle.syntax_grammar.specs.Selections.{has_label, begins_const, begins_slot, has_next, is_lone};
-    ghost use Rattle.syntax_grammar.specs.Index.{IsIndex};
+    ghost use Rattle.syntax_grammar.specs.Index.{IsIndex, IsTable};
 
     ghost Value = { List Production };
 
     ghost view = { λ g. g.rows };
 
     ghost invariant = { λ g. IsGrammar g.rows × IsIndex has_label g.rows g.by_label
-        × IsIndex begins_const g.rows g.by_const × IsIndex begins_slot g.rows g.by_slot
-        × IsIndex has_next g.rows g.by_next × IsIndex is_lone g.rows g.lone };
+        × IsTable begins_const g.rows g.by_const × IsTable begins_slot g.rows g.by_slot
+        × IsTable has_next g.rows g.by_next × IsTable is_lone g.rows g.lone };
 }
 
 /// The typecode of a chain's variable.
@@ -125,7 +126,7 @@ impl Grammar {
     pub fn rows_by_const(&self, first: Sym) -> &[usize]
         ensures { result.now ≡ spec.numbers (spec.begins_const first.0) 0 self.now }
     {
-        self.by_const.at(first.0 as u64)
+        self.by_const.at(first)
     }
 
     /// The numbers, from 0, of the kept productions whose text begins with a slot of that typecode, in their order. It
@@ -133,7 +134,7 @@ impl Grammar {
     pub fn rows_by_slot(&self, first: Typecode) -> &[usize]
         ensures { result.now ≡ spec.numbers (spec.begins_slot first.0.0) 0 self.now }
     {
-        self.by_slot.at(first.0.0 as u64)
+        self.by_slot.at(first.0)
     }
 
     /// The numbers, from 0, of the kept productions that have that constant behind their first item, or behind the slot
@@ -141,7 +142,7 @@ impl Grammar {
     pub fn rows_by_next(&self, next: Sym) -> &[usize]
         ensures { result.now ≡ spec.numbers (spec.has_next next.0) 0 self.now }
     {
-        self.by_next.at(next.0 as u64)
+        self.by_next.at(next)
     }
 
     /// The numbers, from 0, of the kept productions that have no such constant and begin with that symbol, as a constant
@@ -149,7 +150,7 @@ impl Grammar {
     pub fn lone_rows(&self, first: Sym) -> &[usize]
         ensures { result.now ≡ spec.numbers (spec.is_lone first.0) 0 self.now }
     {
-        self.lone.at(first.0 as u64)
+        self.lone.at(first)
     }
 
     /// The labels of the kept productions whose text begins with that constant, in their order. It takes time in
@@ -160,7 +161,7 @@ impl Grammar {
         ensures { IfOk result (λ labels. labels ≡ spec.by_first self.now first) }
     {
         let mut labels = Vec::new(self.rows.allocator());
-        for number in self.by_const.at(first.0 as u64) {
+        for number in self.by_const.at(first) {
             if let Some(row) = self.row(*number) {
                 labels.push(row.label)?;
             }

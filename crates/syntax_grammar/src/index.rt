@@ -1,7 +1,8 @@
 ghost use Rattle.std.specs.Prelude.{◌≡◌, IfOk};
-ghost use Rattle.syntax_grammar.specs.Index.{IsIndex};
+ghost use Rattle.syntax_grammar.specs.Index.{IsIndex, IsTable};
 ghost use Rattle.syntax_grammar.specs.Selections as spec;
 
+use crate::table::Table;
 use mm_base::{Memory, Rows, Sym, Typecode};
 use mm_model::{Item, Production};
 use std::alloc::Global;
@@ -89,52 +90,52 @@ pub fn label_index(alloc: Global, rows: &[Production]) -> Result<Rows<usize>, Me
 }
 
 /// The productions by the constant that they begin with.
-pub fn const_index(alloc: Global, rows: &[Production]) -> Result<Rows<usize>, Memory>
-    ensures { IfOk result (IsIndex spec.begins_const rows.now) }
+pub fn const_index(alloc: Global, rows: &[Production]) -> Result<Table, Memory>
+    ensures { IfOk result (IsTable spec.begins_const rows.now) }
 {
-    let mut index = Rows::new(alloc);
+    let mut index = Table::new(alloc);
     for number in 0..rows.len() {
         if let Some(sym) = first_const(&rows[number]) {
-            index.add(alloc, sym.0 as u64, number)?;
+            index.add(alloc, sym, number)?;
         }
     }
     Ok(index)
 }
 
 /// The productions by the typecode of the slot that they begin with.
-pub fn slot_index(alloc: Global, rows: &[Production]) -> Result<Rows<usize>, Memory>
-    ensures { IfOk result (IsIndex spec.begins_slot rows.now) }
+pub fn slot_index(alloc: Global, rows: &[Production]) -> Result<Table, Memory>
+    ensures { IfOk result (IsTable spec.begins_slot rows.now) }
 {
-    let mut index = Rows::new(alloc);
+    let mut index = Table::new(alloc);
     for number in 0..rows.len() {
         if let Some(code) = first_code(&rows[number]) {
-            index.add(alloc, code.0.0 as u64, number)?;
+            index.add(alloc, code.0, number)?;
         }
     }
     Ok(index)
 }
 
 /// The productions by their next constant.
-pub fn next_index(alloc: Global, rows: &[Production]) -> Result<Rows<usize>, Memory>
-    ensures { IfOk result (IsIndex spec.has_next rows.now) }
+pub fn next_index(alloc: Global, rows: &[Production]) -> Result<Table, Memory>
+    ensures { IfOk result (IsTable spec.has_next rows.now) }
 {
-    let mut index = Rows::new(alloc);
+    let mut index = Table::new(alloc);
     for number in 0..rows.len() {
         if let Some(sym) = next_const(&rows[number]) {
-            index.add(alloc, sym.0 as u64, number)?;
+            index.add(alloc, sym, number)?;
         }
     }
     Ok(index)
 }
 
 /// The productions that have no next constant, by the symbol that they begin with.
-pub fn lone_index(alloc: Global, rows: &[Production]) -> Result<Rows<usize>, Memory>
-    ensures { IfOk result (IsIndex spec.is_lone rows.now) }
+pub fn lone_index(alloc: Global, rows: &[Production]) -> Result<Table, Memory>
+    ensures { IfOk result (IsTable spec.is_lone rows.now) }
 {
-    let mut index = Rows::new(alloc);
+    let mut index = Table::new(alloc);
     for number in 0..rows.len() {
         if let Some(sym) = lone_sym(&rows[number]) {
-            index.add(alloc, sym.0 as u64, number)?;
+            index.add(alloc, sym, number)?;
         }
     }
     Ok(index)

@@ -5,6 +5,7 @@ mod checks;
 mod grammar;
 mod index;
 mod joins;
+mod table;
 
 pub use checks::{are_rows, slot_place};
 pub use grammar::{Grammar, keep_rows};

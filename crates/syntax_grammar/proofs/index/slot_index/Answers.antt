@@ -1,7 +1,8 @@
 use Rattle.std.proofs.Common.{◌+◌, Some, sym, ap, ◌∙◌, subst, take}
 use Rattle.std.proofs.lemmas.Option.{slice_get-get_or}
-use Rattle.syntax_grammar.specs.Index.{IsIndex}
+use Rattle.syntax_grammar.specs.Index.{IsTable}
 use Rattle.syntax_grammar.specs.Selections.{begins_slot, is_code}
+use Rattle.syntax_grammar.specs.Tables.{listed}
 use Rattle.syntax_grammar.proofs.IndexLaws.{index_turn, index_skip}
 use Rattle.syntax_grammar.proofs.index.slot_index.Goals as goal
 use Rattle.syntax_grammar.proofs.index.slot_index.Goals.{in-Some+in_ok-add, in_default}
@@ -13,8 +14,8 @@ loop-number-preserved c =
     let r = c.index-rows-number.result in
     let at = slice_get-get_or rows n r c.loop-number-test.true ∙ ap (λ x. Some x) (sym c.index-rows-number.is) in
     elim c.match-first_code.branch [
-      | in-Some+in_ok-add w ↦ subst (IsIndex begins_slot (take (n + 1) rows)) (sym w.index-is)
-          (index_turn begins_slot rows n r at c.loop-number.index w.add.new.self w.in-Some.code.0.0 (λ q. ap (is_code q) (sym w.in-Some.ensures)) w.in_ok-add.ensures.added c.loop-number.invariant)
-      | in_default w ↦ subst (IsIndex begins_slot (take (n + 1) rows)) (sym w.index-is)
-          (index_skip begins_slot rows n r at c.loop-number.index (λ q. ap (is_code q) (sym w.in_default.ensures)) c.loop-number.invariant)
+      | in-Some+in_ok-add w ↦ subst (IsTable begins_slot (take (n + 1) rows)) (sym w.index-is)
+          (index_turn begins_slot rows n r at (listed c.loop-number.index) (listed w.add.new.self) w.in-Some.code.0.0 (λ q. ap (is_code q) (sym w.in-Some.ensures)) w.in_ok-add.ensures c.loop-number.invariant)
+      | in_default w ↦ subst (IsTable begins_slot (take (n + 1) rows)) (sym w.index-is)
+          (index_skip begins_slot rows n r at (listed c.loop-number.index) (λ q. ap (is_code q) (sym w.in_default.ensures)) c.loop-number.invariant)
     ]
