@@ -135,7 +135,7 @@ module _ (given : Option (List Pair)) (frame : Frame) (vars others : List Sym) (
       (λ bound. subst (λ x. IsFirstFit a given new a.hyps w.hyps x o) k
       (subst (λ x. IsFirstFit a given new a.hyps x all o) g (subst (λ x. IsFirstFit a given new x ts all o) (e ∙ sym s) (h a rule bound))))
 
--- what is told of other bindings and another answer that are the same
+-- what holds of other bindings and another answer that are the same
 pub end_of : (a : Assertion) (given : Option (List Pair)) (vars : List Sym) (other bs : List Binding) (o p : Option (List Tree)) → other ≡ bs → o ≡ p → AreBound vars bs
     → (AreBound vars other → IsEnd a given other o) → IsEnd a given bs p
 end_of a given vars other bs o p e f bound h = subst (λ q. IsEnd a given bs q) f (subst (λ b. AreBound vars b → IsEnd a given b o) e h bound)

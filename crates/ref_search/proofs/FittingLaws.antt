@@ -70,9 +70,9 @@ mapped_to : {X Y : Type 0} (f : X → Y) (xs : List X) (x : X) → Contains xs x
 mapped_to f [] x c = absurd (nothing x c)
 mapped_to f (z ∷ xs) x c = elim (parted x z xs c) [ inl e ↦ first (f x) (f z) (map f xs) (ap f e) | inr d ↦ later (f x) (f z) (map f xs) (mapped_to f xs x d) ]
 
-pub fitting_told : (db : Database) (given : Option (List Pair)) (w : Wanted) (l : Label) (o : Option Fit) → IsLabelFit db given w l o → IsFitting db given w l (is_some o)
-fitting_told db given w l None h = h.first
-fitting_told db given w l (Some f) h = record {
+pub fitting_of_fit : (db : Database) (given : Option (List Pair)) (w : Wanted) (l : Label) (o : Option Fit) → IsLabelFit db given w l o → IsFitting db given w l (is_some o)
+fitting_of_fit db given w l None h = h.first
+fitting_of_fit db given w l (Some f) h = record {
   order = f.order;
   among = found_among (FitsLabel db given w l) (orders_of (length w.hyps)) f.order h.first;
   fits = found_has (FitsLabel db given w l) (orders_of (length w.hyps)) f.order h.first;

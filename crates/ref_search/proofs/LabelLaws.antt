@@ -211,7 +211,7 @@ module _ (kinds : Kinds) (text : List ℕ) (d : Opened) (given : Option (List Pa
 
 pub frame_none : (kinds : Kinds) (text : List ℕ) (d : Opened) → IsOpened kinds text d → (given : Option (List Pair)) (w : Wanted) (l : Label) (f : Option (Bor Frame)) → f ≡ None
     → ((text : List ℕ) → d.contents ≡ contents_of text → option_copied f ≡ frame_of (statements text) l) → IsLabelFit (book kinds text d) given w l None
-frame_none kinds text d opened given w l f none told = no_frame kinds text d opened given w l (sym (told text opened.contents) ∙ ap option_copied none)
+frame_none kinds text d opened given w l f none in_text = no_frame kinds text d opened given w l (sym (in_text text opened.contents) ∙ ap option_copied none)
 
 pub frame_some : FramesAreWhole → (d : Opened) (given : Option (List Pair)) (w : Wanted) (l : Label) (p : Parsed) → parsed_at d.parsed l ≡ Some p
     → (f : Option (Bor Frame)) (g : Bor Frame) → f ≡ Some g
@@ -219,15 +219,15 @@ pub frame_some : FramesAreWhole → (d : Opened) (given : Option (List Pair)) (w
     → (vars : List Sym) (tree : Tree) (hyps : List Tree) → vars ≡ p.vars → tree ≡ p.tree → hyps ≡ p.hyps
     → (r : Result (Option Fit) Memory) → IfOk r (λ o. (a : Assertion) → IsRule a g.now vars → a.tree ≡ tree → a.hyps ≡ hyps → IsFitOf a given w o)
     → IfOk r (λ o. ForEachText d (λ b. IsLabelFit b given w l o))
-frame_some whole d given w l p kept f g some told vars tree hyps v t h (Err m) k = k
-frame_some whole d given w l p kept f g some told vars tree hyps v t h (Ok o) k = λ kinds text opened.
-    let frame : frame_of (statements text) l ≡ Some g.now = sym (told text opened.contents) ∙ ap option_copied some in
+frame_some whole d given w l p kept f g some in_text vars tree hyps v t h (Err m) k = k
+frame_some whole d given w l p kept f g some in_text vars tree hyps v t h (Ok o) k = λ kinds text opened.
+    let frame : frame_of (statements text) l ≡ Some g.now = sym (in_text text opened.contents) ∙ ap option_copied some in
     label_fit kinds text d opened given w l g.now p frame kept o (k (assertion_of l g.now p) (rule_of kinds text d opened given w l g.now p frame kept whole vars v) (sym t) (sym h))
 
 -- ---- the frame of a label, and the use that fits
 
-pub told : (d : Opened) (l : Label) (c : Contents) (f : Option Frame) → c ≡ d.contents → f ≡ frame_at c l → (text : List ℕ) → d.contents ≡ contents_of text → f ≡ frame_of (statements text) l
-told d l c f same is text e = is ∙ frame-is c l text (same ∙ e)
+pub frame_of_text : (d : Opened) (l : Label) (c : Contents) (f : Option Frame) → c ≡ d.contents → f ≡ frame_at c l → (text : List ℕ) → d.contents ≡ contents_of text → f ≡ frame_of (statements text) l
+frame_of_text d l c f same is text e = is ∙ frame-is c l text (same ∙ e)
 
 pub label_sound : (d : Opened) (l : Label) (f : Frame) (p : Parsed) (o : Option Fit) → frame_at d.contents l ≡ Some f → parsed_at d.parsed l ≡ Some p → HasAll f o
     → HasValues (λ (fit : Fit). IsSoundUse d l fit.trees) o

@@ -1,4 +1,4 @@
--- The values of a frame's variables, where all of its trees became given ones.
+-- The values of a frame's variables, where all of its trees became given ones. But for `use_of` this is part of the proof, and not of the claim.
 use Rattle.std.specs.Prelude.{◌≡◌, ℕ, length, List, [], ◌∷◌, map, slice_get, if◌then◌else◌, Option, Some, None, option_map}
 use Rattle.mm_base.specs.declared.symbols.Sym.{Sym}
 use Rattle.mm_base.specs.declared.symbols.Pair.{Pair}

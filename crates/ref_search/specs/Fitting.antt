@@ -1,4 +1,4 @@
--- The labels that fit in some order.
+-- The labels that fit in some order. But for `AreAnswer` this is part of the proof, and not of the claim.
 use Rattle.std.specs.Prelude.{ℕ, ◌+◌, ◌<◌, ◌≤◌, ◌++◌, [], ◌∷◌, Bool, true, false, List, length, Contains, if◌then◌else◌, Option}
 use Rattle.std.specs.BTreeSet.{insert_key}
 use Rattle.std.specs.List.{AllByRecursion}

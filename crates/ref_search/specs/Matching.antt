@@ -1,4 +1,4 @@
--- Variables bound to trees, one after the other, so that trees of a frame become given trees.
+-- Variables bound to trees, one after the other, so that trees of a frame become given trees. But for `AreGround` this is part of the proof, and not of the claim.
 use Rattle.std.specs.Prelude.{◌≡◌, ℕ, zero, suc, ◌==◌, Bool, true, false, List, [], ◌∷◌, ◌++◌, map, if◌then◌else◌, Option, Some, None}
 use Rattle.std.specs.List.{AllByRecursion, list_any}
 use Rattle.std.specs.Borrow.{Bor}

@@ -1,4 +1,4 @@
--- The orders in which given trees fit the `$e` of a frame.
+-- The orders in which given trees fit the `$e` of a frame. But for `IsClosed` this is part of the proof, and not of the claim.
 use Rattle.std.specs.Prelude.{◌≡◌, ℕ, List, [], ◌∷◌, true, length, map, flat_map, drop, slice_index_or, nat_le, if◌then◌else◌, Option, Some, None, option_map}
 use Rattle.std.specs.List.{range_with_len}
 use Rattle.mm_base.specs.declared.symbols.Sym.{Sym}

@@ -1,4 +1,4 @@
--- The first of some labels whose assertion fits.
+-- The first of some labels whose assertion fits. But for `book`, `ForEachText`, `HasFound`, `IsSoundUse` and `IsSoundBelow` this is part of the proof, and not of the claim.
 use Rattle.std.specs.Prelude.{◌≡◌, ℕ, ◌+◌, ◌<◌, ◌≤◌, List, [], ◌∷◌, length, Option, Some, None, option_map}
 use Rattle.std.specs.List.{AllByRecursion}
 use Rattle.mm_base.specs.declared.kinds.Kinds.{Kinds}

@@ -93,27 +93,38 @@ fn lacks(
     }
 }
 
+/// What the values of an assertion's variables have to meet.
+#[derive(Clone, Copy)]
+pub struct Conditions<'f, 'v, 'g> {
+    /// The frame of the assertion: it has the typecodes of its variables, and its distinct pairs.
+    pub frame: &'f Frame,
+    /// The variables, in the order of the frame.
+    pub vars: &'v List<Sym>,
+    /// The pairs that are allowed, where not all are.
+    pub given: Option<&'g List<Pair>>,
+}
+
 /// The values of the variables of a frame, where these are bound; none where no values agree with what is bound, have
 /// the typecodes of their variables, and neither clash nor lack a pair.
 pub fn complete(
     alloc: Global,
-    frame: &Frame,
-    vars: &List<Sym>,
+    conditions: &Conditions,
     bindings: &[(Sym, &Tree)],
-    given: Option<&List<Pair>>,
 ) -> Result<Option<List<Tree>>, Memory>
-    ensures end { IfOk result (λ o. (a : Assertion) → IsRule a frame.now vars.now → AreBound vars.now bindings.now
-        → IsEnd a (option_copied given.entry) bindings.now o) }
-    ensures count { IfOk result (HasCount (length (typed_variables frame.now.hyps))) }
+    ensures end { IfOk result (λ o. (a : Assertion) → IsRule a conditions.now.frame.now conditions.now.vars.now
+        → AreBound conditions.now.vars.now bindings.now → IsEnd a (option_copied conditions.now.given) bindings.now o) }
+    ensures count { IfOk result (HasCount (length (typed_variables conditions.now.frame.now.hyps))) }
 {
     pair_sets_are_sorted();
+    let frame = conditions.frame;
+    let vars = conditions.vars;
     let Some(trees) = values(alloc, frame.hyps.as_slice(), bindings)? else {
         return Ok(None);
     };
     if clash(&frame.pairs, vars, &trees).is_some() {
         return Ok(None);
     }
-    if lacks(alloc, &frame.pairs, vars, &trees, given)? {
+    if lacks(alloc, &frame.pairs, vars, &trees, conditions.given)? {
         return Ok(None);
     }
     Ok(Some(trees))

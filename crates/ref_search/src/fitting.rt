@@ -1,5 +1,5 @@
 ghost use Rattle.std.specs.Prelude.{◌≡◌, [], length, fold, map, IfOk, OnOk};
-ghost use Rattle.std.specs.List.{AllByRecursion, range_with_len};
+ghost use Rattle.std.specs.List.{AllByRecursion};
 ghost use Rattle.std.specs.Option.{option_copied};
 ghost use Rattle.mm_database.specs.ByHead.{by_head};
 ghost use Rattle.mm_model.specs.Names.{label};
@@ -8,6 +8,7 @@ ghost use Rattle.ref_search.specs.Placing.{IsClosed};
 ghost use Rattle.ref_search.specs.Searching.{ForEachText, IsCandidate, RiseFrom};
 
 use crate::searching::{fit_label, head};
+use crate::sought::Sought;
 use crate::wanted::Wanted;
 use hyp_order::first_order;
 use mm_base::{Label, List, Memory, Pair};
@@ -16,20 +17,12 @@ use std::alloc::Global;
 use std::collections::BTreeSet;
 
 /// Whether the assertion of a label fits in some order.
-fn does_fit(
-    alloc: Global,
-    db: &Database,
-    label: Label,
-    wanted: &Wanted,
-    places: &[u32],
-    given: Option<&List<Pair>>,
-) -> Result<bool, Memory>
-    requires closed { IsClosed wanted.now }
-    requires candidate { IsCandidate db.now.parsed (length wanted.now.hyps) label }
-    requires places { places.now ≡ range_with_len 0 (length wanted.now.hyps) }
-    ensures { IfOk result (λ fits. ForEachText db.now (λ d. IsFitting d (option_copied given.entry) wanted.now label fits)) }
+fn does_fit(alloc: Global, db: &Database, label: Label, sought: &Sought) -> Result<bool, Memory>
+    requires closed { IsClosed sought.now.wanted.now }
+    requires candidate { IsCandidate db.now.parsed (length sought.now.wanted.now.hyps) label }
+    ensures { IfOk result (λ fits. ForEachText db.now (λ d. IsFitting d (option_copied sought.now.given) sought.now.wanted.now label fits)) }
 {
-    let fit = fit_label(alloc, db, label, wanted, places, given)?;
+    let fit = fit_label(alloc, db, label, sought)?;
     Ok(fit.is_some())
 }
 
@@ -48,22 +41,19 @@ fn fitting_among(
     db: &Database,
     labels: &[Label],
     bound: u32,
-    wanted: &Wanted,
-    places: &[u32],
-    given: Option<&List<Pair>>,
+    sought: &Sought,
 ) -> Result<Vec<Label>, Memory>
-    requires closed { IsClosed wanted.now }
-    requires candidates { AllByRecursion (IsCandidate db.now.parsed (length wanted.now.hyps)) labels.now }
+    requires closed { IsClosed sought.now.wanted.now }
+    requires candidates { AllByRecursion (IsCandidate db.now.parsed (length sought.now.wanted.now.hyps)) labels.now }
     requires rise { RiseFrom 0 labels.now }
-    requires places { places.now ≡ range_with_len 0 (length wanted.now.hyps) }
-    ensures { IfOk result (λ v. ForEachText db.now (λ d. AreFittingAmong d (option_copied given.entry) wanted.now bound labels.now v.items)) }
+    ensures { IfOk result (λ v. ForEachText db.now (λ d. AreFittingAmong d (option_copied sought.now.given) sought.now.wanted.now bound labels.now v.items)) }
 {
     let mut fitting = Vec::new(alloc);
     for label in labels {
         if label.0 >= bound {
             return Ok(fitting);
         }
-        let fits = does_fit(alloc, db, *label, wanted, places, given)?;
+        let fits = does_fit(alloc, db, *label, sought)?;
         push_if(fits, &mut fitting, *label)?;
     }
     Ok(fitting)
@@ -75,21 +65,18 @@ fn fitting_at(
     db: &Database,
     head: Option<Label>,
     bound: u32,
-    wanted: &Wanted,
-    places: &[u32],
-    given: Option<&List<Pair>>,
+    sought: &Sought,
 ) -> Result<Vec<Label>, Memory>
-    requires closed { IsClosed wanted.now }
-    requires places { places.now ≡ range_with_len 0 (length wanted.now.hyps) }
-    ensures { IfOk result (λ v. ForEachText db.now (λ d. AreFittingAmong d (option_copied given.entry) wanted.now bound
-        (by_head db.now.parsed head (length wanted.now.hyps)) v.items)) }
+    requires closed { IsClosed sought.now.wanted.now }
+    ensures { IfOk result (λ v. ForEachText db.now (λ d. AreFittingAmong d (option_copied sought.now.given) sought.now.wanted.now bound
+        (by_head db.now.parsed head (length sought.now.wanted.now.hyps)) v.items)) }
 {
-    let count = wanted.hyps.as_slice().len();
+    let count = sought.wanted.hyps.as_slice().len();
     if count > u32::MAX as usize {
         return Err(Memory);
     }
     let labels = db.by_head(head, count as u32).as_slice();
-    fitting_among(alloc, db, labels, bound, wanted, places, given)
+    fitting_among(alloc, db, labels, bound, sought)
 }
 
 /// Puts in the numbers of labels.
@@ -115,21 +102,18 @@ fn fitting_below(
     alloc: Global,
     db: &Database,
     bound: u32,
-    wanted: &Wanted,
-    places: &[u32],
-    given: Option<&List<Pair>>,
+    sought: &Sought,
 ) -> Result<BTreeSet<u32>, Memory>
-    requires closed { IsClosed wanted.now }
-    requires places { places.now ≡ range_with_len 0 (length wanted.now.hyps) }
-    ensures { IfOk result (λ s. ForEachText db.now (λ d. AreAllBelow d (option_copied given.entry) wanted.now bound s.keys)) }
+    requires closed { IsClosed sought.now.wanted.now }
+    ensures { IfOk result (λ s. ForEachText db.now (λ d. AreAllBelow d (option_copied sought.now.given) sought.now.wanted.now bound s.keys)) }
 {
-    let early = fitting_at(alloc, db, None, bound, wanted, places, given)?;
+    let early = fitting_at(alloc, db, None, bound, sought)?;
     let mut numbers = BTreeSet::new(alloc);
     add_labels(&mut numbers, early.as_slice())?;
-    let Some(label) = head(&wanted.formula) else {
+    let Some(label) = head(&sought.wanted.formula) else {
         return Ok(numbers);
     };
-    let late = fitting_at(alloc, db, Some(label), bound, wanted, places, given)?;
+    let late = fitting_at(alloc, db, Some(label), bound, sought)?;
     add_labels(&mut numbers, late.as_slice())?;
     Ok(numbers)
 }
@@ -163,6 +147,11 @@ pub fn all(
     }
     let places = first_order(alloc, count as u32)?;
     let bound = db.before(place);
-    let numbers = fitting_below(alloc, db, bound, wanted, places.as_slice(), allowed)?;
+    let sought = Sought {
+        wanted,
+        places: places.as_slice(),
+        given: allowed,
+    };
+    let numbers = fitting_below(alloc, db, bound, &sought)?;
     listed(alloc, &numbers)
 }

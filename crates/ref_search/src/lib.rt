@@ -8,6 +8,7 @@ mod matching;
 mod placing;
 mod searching;
 mod shapes;
+mod sought;
 mod wanted;
 
 pub use closed::{is_closed, is_ground};

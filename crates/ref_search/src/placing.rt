@@ -8,11 +8,11 @@ ghost use Rattle.ref_search.specs.Matching.{AreBound, AreGround, AllBecome, IsLo
 ghost use Rattle.ref_search.specs.Completing.{IsRule};
 ghost use Rattle.ref_search.specs.Placing.{IsClosed, IsFirstFit, IsFitOf, HasAll};
 
-use crate::completing::complete;
+use crate::completing::{Conditions, complete};
 use crate::matching::matches;
 use crate::shapes::may_become;
-use crate::wanted::Wanted;
-use mm_base::{List, MOST_ORDERED_PLACES, Memory, Pair, Sym, Tree};
+use crate::sought::Sought;
+use mm_base::{List, MOST_ORDERED_PLACES, Memory, Sym, Tree};
 use mm_model::Frame;
 use std::alloc::Global;
 
@@ -48,16 +48,14 @@ fn preceded(place: u32, fit: Fit) -> Result<Fit, Memory>
 /// The fit where no `$e` is left.
 fn end(
     alloc: Global,
-    frame: &Frame,
-    vars: &List<Sym>,
+    conditions: &Conditions,
     bindings: &[(Sym, &Tree)],
-    given: Option<&List<Pair>>,
 ) -> Result<Option<Fit>, Memory>
-    ensures first { IfOk result (λ o. (a : Assertion) (wanted : ListOf TreeOf) → IsRule a frame.now vars.now → AreBound vars.now bindings.now
-        → IsFirstFit a (option_copied given.entry) bindings.now [] wanted ([] ∷ []) o) }
-    ensures count { IfOk result (HasAll frame.now) }
+    ensures first { IfOk result (λ o. (a : Assertion) (wanted : ListOf TreeOf) → IsRule a conditions.now.frame.now conditions.now.vars.now
+        → AreBound conditions.now.vars.now bindings.now → IsFirstFit a (option_copied conditions.now.given) bindings.now [] wanted ([] ∷ []) o) }
+    ensures count { IfOk result (HasAll conditions.now.frame.now) }
 {
-    match complete(alloc, frame, vars, bindings, given)? {
+    match complete(alloc, conditions, bindings)? {
         None => Ok(None),
         Some(trees) => Ok(Some(Fit {
             order: List::from_vec(Vec::new(alloc)),
@@ -71,42 +69,37 @@ fn end(
 /// fit.
 pub fn place<'w>(
     alloc: Global,
-    frame: &Frame,
-    vars: &List<Sym>,
+    conditions: &Conditions,
     hyps: &[Tree],
     wanted: &'w [Tree],
     places: &[u32],
     bindings: &mut Vec<(Sym, &'w Tree)>,
-    given: Option<&List<Pair>>,
 ) -> Result<Option<Fit>, Memory>
     requires closed { AreGround wanted.now }
     requires inside { AllByRecursion (λ k. k < length wanted.now) places.now }
     ensures longer { OnOk result (IsLonger bindings.old.items bindings.new.items) }
-    ensures first { IfOk result (λ o. (a : Assertion) → IsRule a frame.now vars.now → AreBound vars.now bindings.old.items
-        → IsFirstFit a (option_copied given.entry) bindings.old.items hyps.now wanted.now (orders (length hyps.now) places.now) o) }
-    ensures count { IfOk result (HasAll frame.now) }
+    ensures first { IfOk result (λ o. (a : Assertion) → IsRule a conditions.now.frame.now conditions.now.vars.now
+        → AreBound conditions.now.vars.now bindings.old.items
+        → IsFirstFit a (option_copied conditions.now.given) bindings.old.items hyps.now wanted.now (orders (length hyps.now) places.now) o) }
+    ensures count { IfOk result (HasAll conditions.now.frame.now) }
 {
     let Some((first, others)) = hyps.split_first() else {
-        return end(alloc, frame, vars, bindings.as_slice(), given);
+        return end(alloc, conditions, bindings.as_slice());
     };
     let mark = bindings.len();
     for i in 0..places.len() {
         let at = places[i];
-        if !matches(vars.as_slice(), first, &wanted[at as usize], bindings)? {
+        if !matches(
+            conditions.vars.as_slice(),
+            first,
+            &wanted[at as usize],
+            bindings,
+        )? {
             bindings.truncate(mark);
             continue;
         }
         let left = without(alloc, places, i)?;
-        match place(
-            alloc,
-            frame,
-            vars,
-            others,
-            wanted,
-            left.as_slice(),
-            bindings,
-            given,
-        )? {
+        match place(alloc, conditions, others, wanted, left.as_slice(), bindings)? {
             None => bindings.truncate(mark),
             Some(fit) => return Ok(Some(preceded(at, fit)?)),
         }
@@ -136,26 +129,25 @@ fn match_all<'w>(
 /// The fit where the wanted trees fit the `$e` of a frame as they are listed.
 fn listed<'w>(
     alloc: Global,
-    frame: &Frame,
-    vars: &List<Sym>,
+    conditions: &Conditions,
     hyps: &[Tree],
     wanted: &'w [Tree],
     places: &[u32],
     bindings: &mut Vec<(Sym, &'w Tree)>,
-    given: Option<&List<Pair>>,
 ) -> Result<Option<Fit>, Memory>
     requires closed { AreGround wanted.now }
     requires count { length hyps.now ≡ length wanted.now }
     requires places { places.now ≡ range_with_len 0 (length wanted.now) }
-    ensures first { IfOk result (λ o. (a : Assertion) → IsRule a frame.now vars.now → AreBound vars.now bindings.old.items
-        → IsFirstFit a (option_copied given.entry) bindings.old.items hyps.now wanted.now (places.now ∷ []) o) }
-    ensures count { IfOk result (HasAll frame.now) }
+    ensures first { IfOk result (λ o. (a : Assertion) → IsRule a conditions.now.frame.now conditions.now.vars.now
+        → AreBound conditions.now.vars.now bindings.old.items
+        → IsFirstFit a (option_copied conditions.now.given) bindings.old.items hyps.now wanted.now (places.now ∷ []) o) }
+    ensures count { IfOk result (HasAll conditions.now.frame.now) }
 {
-    if !match_all(vars.as_slice(), hyps, wanted, bindings)? {
+    if !match_all(conditions.vars.as_slice(), hyps, wanted, bindings)? {
         return Ok(None);
     }
     let order = List::copy_of(alloc, places)?;
-    match complete(alloc, frame, vars, bindings.as_slice(), given)? {
+    match complete(alloc, conditions, bindings.as_slice())? {
         None => Ok(None),
         Some(trees) => Ok(Some(Fit { order, trees })),
     }
@@ -169,17 +161,16 @@ pub fn fit_to(
     vars: &List<Sym>,
     tree: &Tree,
     hyps: &List<Tree>,
-    wanted: &Wanted,
-    places: &[u32],
-    given: Option<&List<Pair>>,
+    sought: &Sought,
 ) -> Result<Option<Fit>, Memory>
-    requires closed { IsClosed wanted.now }
-    requires count { length hyps.now ≡ length wanted.now.hyps }
-    requires places { places.now ≡ range_with_len 0 (length wanted.now.hyps) }
+    requires closed { IsClosed sought.now.wanted.now }
+    requires count { length hyps.now ≡ length sought.now.wanted.now.hyps }
     ensures fit { IfOk result (λ o. (a : Assertion) → IsRule a frame.now vars.now → a.tree ≡ tree.now → a.hyps ≡ hyps.now
-        → IsFitOf a (option_copied given.entry) wanted.now o) }
+        → IsFitOf a (option_copied sought.now.given) sought.now.wanted.now o) }
     ensures count { IfOk result (HasAll frame.now) }
 {
+    let wanted = sought.wanted;
+    let places = sought.places;
     if !may_become(tree, &wanted.formula) {
         return Ok(None);
     }
@@ -189,27 +180,14 @@ pub fn fit_to(
     }
     let patterns = hyps.as_slice();
     let trees = wanted.hyps.as_slice();
+    let conditions = Conditions {
+        frame,
+        vars,
+        given: sought.given,
+    };
     if places.len() <= MOST_ORDERED_PLACES {
-        place(
-            alloc,
-            frame,
-            vars,
-            patterns,
-            trees,
-            places,
-            &mut bindings,
-            given,
-        )
+        place(alloc, &conditions, patterns, trees, places, &mut bindings)
     } else {
-        listed(
-            alloc,
-            frame,
-            vars,
-            patterns,
-            trees,
-            places,
-            &mut bindings,
-            given,
-        )
+        listed(alloc, &conditions, patterns, trees, places, &mut bindings)
     }
 }

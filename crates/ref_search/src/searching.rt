@@ -1,5 +1,5 @@
 ghost use Rattle.std.specs.Prelude.{◌≡◌, ◌<◌, length, IfOk};
-ghost use Rattle.std.specs.List.{AllByRecursion, range_with_len};
+ghost use Rattle.std.specs.List.{AllByRecursion};
 ghost use Rattle.std.specs.Option.{option_copied};
 ghost use Rattle.mm_database.specs.ByHead.{by_head};
 ghost use Rattle.mm_frames.specs.Contents.{frame_at};
@@ -9,6 +9,7 @@ ghost use Rattle.ref_search.specs.Searching.{ForEachText, IsCandidate, IsFirstAm
 ghost use Rattle.ref_search.specs.Wholes.{IsAnswer};
 
 use crate::placing::{Fit, fit_to};
+use crate::sought::Sought;
 use crate::wanted::{Found, Wanted};
 use hyp_order::first_order;
 use mm_base::{Label, List, Memory, Pair, Tree};
@@ -33,14 +34,11 @@ pub(crate) fn fit_label(
     alloc: Global,
     db: &Database,
     label: Label,
-    wanted: &Wanted,
-    places: &[u32],
-    given: Option<&List<Pair>>,
+    sought: &Sought,
 ) -> Result<Option<Fit>, Memory>
-    requires closed { IsClosed wanted.now }
-    requires candidate { IsCandidate db.now.parsed (length wanted.now.hyps) label }
-    requires places { places.now ≡ range_with_len 0 (length wanted.now.hyps) }
-    ensures first { IfOk result (λ o. ForEachText db.now (λ d. IsLabelFit d (option_copied given.entry) wanted.now label o)) }
+    requires closed { IsClosed sought.now.wanted.now }
+    requires candidate { IsCandidate db.now.parsed (length sought.now.wanted.now.hyps) label }
+    ensures first { IfOk result (λ o. ForEachText db.now (λ d. IsLabelFit d (option_copied sought.now.given) sought.now.wanted.now label o)) }
     ensures sound { IfOk result (HasValues (λ (fit : FitOf). IsSoundUse db.now label fit.trees)) }
 {
     frames_are_whole();
@@ -52,9 +50,7 @@ pub(crate) fn fit_label(
             db.vars(label),
             db.tree(label),
             db.hyp_trees(label),
-            wanted,
-            places,
-            given,
+            sought,
         ),
     }
 }
@@ -76,22 +72,19 @@ fn first_among(
     db: &Database,
     labels: &[Label],
     bound: u32,
-    wanted: &Wanted,
-    places: &[u32],
-    given: Option<&List<Pair>>,
+    sought: &Sought,
 ) -> Result<Option<Found>, Memory>
-    requires closed { IsClosed wanted.now }
-    requires candidates { AllByRecursion (IsCandidate db.now.parsed (length wanted.now.hyps)) labels.now }
+    requires closed { IsClosed sought.now.wanted.now }
+    requires candidates { AllByRecursion (IsCandidate db.now.parsed (length sought.now.wanted.now.hyps)) labels.now }
     requires rise { RiseFrom 0 labels.now }
-    requires places { places.now ≡ range_with_len 0 (length wanted.now.hyps) }
-    ensures first { IfOk result (λ o. ForEachText db.now (λ d. IsFirstAmong d (option_copied given.entry) wanted.now labels.now bound o)) }
+    ensures first { IfOk result (λ o. ForEachText db.now (λ d. IsFirstAmong d (option_copied sought.now.given) sought.now.wanted.now labels.now bound o)) }
     ensures sound { IfOk result (HasFound (IsSoundBelow db.now bound)) }
 {
     for label in labels {
         if label.0 >= bound {
             return Ok(None);
         }
-        match fit_label(alloc, db, *label, wanted, places, given)? {
+        match fit_label(alloc, db, *label, sought)? {
             None => {}
             Some(fit) => return Ok(Some(found_by(*label, fit))),
         }
@@ -105,22 +98,19 @@ fn first_at(
     db: &Database,
     head: Option<Label>,
     bound: u32,
-    wanted: &Wanted,
-    places: &[u32],
-    given: Option<&List<Pair>>,
+    sought: &Sought,
 ) -> Result<Option<Found>, Memory>
-    requires closed { IsClosed wanted.now }
-    requires places { places.now ≡ range_with_len 0 (length wanted.now.hyps) }
-    ensures first { IfOk result (λ o. ForEachText db.now (λ d. IsFirstAmong d (option_copied given.entry) wanted.now
-        (by_head db.now.parsed head (length wanted.now.hyps)) bound o)) }
+    requires closed { IsClosed sought.now.wanted.now }
+    ensures first { IfOk result (λ o. ForEachText db.now (λ d. IsFirstAmong d (option_copied sought.now.given) sought.now.wanted.now
+        (by_head db.now.parsed head (length sought.now.wanted.now.hyps)) bound o)) }
     ensures sound { IfOk result (HasFound (IsSoundBelow db.now bound)) }
 {
-    let count = wanted.hyps.as_slice().len();
+    let count = sought.wanted.hyps.as_slice().len();
     if count > u32::MAX as usize {
         return Err(Memory);
     }
     let labels = db.by_head(head, count as u32).as_slice();
-    first_among(alloc, db, labels, bound, wanted, places, given)
+    first_among(alloc, db, labels, bound, sought)
 }
 
 pub(crate) fn head(tree: &Tree) -> Option<Label>
@@ -150,21 +140,18 @@ fn first_below(
     alloc: Global,
     db: &Database,
     bound: u32,
-    wanted: &Wanted,
-    places: &[u32],
-    given: Option<&List<Pair>>,
+    sought: &Sought,
 ) -> Result<Option<Found>, Memory>
-    requires closed { IsClosed wanted.now }
-    requires places { places.now ≡ range_with_len 0 (length wanted.now.hyps) }
-    ensures first { IfOk result (λ o. ForEachText db.now (λ d. IsFirstBelow d (option_copied given.entry) wanted.now bound o)) }
+    requires closed { IsClosed sought.now.wanted.now }
+    ensures first { IfOk result (λ o. ForEachText db.now (λ d. IsFirstBelow d (option_copied sought.now.given) sought.now.wanted.now bound o)) }
     ensures sound { IfOk result (HasFound (IsSoundBelow db.now bound)) }
 {
-    let early = first_at(alloc, db, None, bound, wanted, places, given)?;
-    let Some(label) = head(&wanted.formula) else {
+    let early = first_at(alloc, db, None, bound, sought)?;
+    let Some(label) = head(&sought.wanted.formula) else {
         return Ok(early);
     };
     let bound = below(&early, bound);
-    match first_at(alloc, db, Some(label), bound, wanted, places, given)? {
+    match first_at(alloc, db, Some(label), bound, sought)? {
         None => Ok(early),
         Some(late) => Ok(Some(late)),
     }
@@ -196,5 +183,10 @@ pub fn first(
     }
     let places = first_order(alloc, count as u32)?;
     let bound = db.before(place);
-    first_below(alloc, db, bound, wanted, places.as_slice(), allowed)
+    let sought = Sought {
+        wanted,
+        places: places.as_slice(),
+        given: allowed,
+    };
+    first_below(alloc, db, bound, &sought)
 }

@@ -54,8 +54,8 @@ marks_say n vs s l =
 
 -- ---- typecodes
 
-told : Bool → Typecode → Option Typecode
-told b c = cond b (Some c) None
+typed_if : Bool → Typecode → Option Typecode
+typed_if b c = cond b (Some c) None
 
 or_none : {X : Type 0} (o : Option X) → option_or o None ≡ o
 or_none None = refl
@@ -66,8 +66,8 @@ or_assoc None b c = refl
 or_assoc (Some x) b c = refl
 
 -- one variable's typecode, where there is none yet
-typed_one : (codes : List (Option Typecode)) (v : Sym) (c : Typecode) (k : ℕ) → k < length codes → get_or (put_typed codes v c) k None ≡ option_or (get_or codes k None) (told (v.0 == k) c)
-unfolding told
+typed_one : (codes : List (Option Typecode)) (v : Sym) (c : Typecode) (k : ℕ) → k < length codes → get_or (put_typed codes v c) k None ≡ option_or (get_or codes k None) (typed_if (v.0 == k) c)
+unfolding typed_if
 typed_one codes v c k l = elim (cases_Bool (v.0 == k)) [
   | inl e ↦ rw e (subst (λ (i : ℕ). get_or (put_typed codes (symbol i) c) k None ≡ option_or (get_or codes k None) (Some c)) (sym (same_number v.0 k e)) (here (get_or codes k None) refl))
   | inr e ↦ rw e (there (is_none (get_or codes v.0 None)) (other_number v.0 k e) ∙ sym (or_none (get_or codes k None)))
@@ -84,8 +84,8 @@ typed_one codes v c k l = elim (cases_Bool (v.0 == k)) [
 abbrev code_in : List TypedVariable → ℕ → Option Typecode
 code_in vars k = option_map (λ (v : TypedVariable). v.code) (find (λ (v : TypedVariable). v.sym.0 == k) vars)
 
-found_one : (v : Sym) (c : Typecode) (k : ℕ) (rest : List TypedVariable) → option_or (told (v.0 == k) c) (code_in rest k) ≡ code_in (record { sym = v; code = c } ∷ rest) k
-unfolding told
+found_one : (v : Sym) (c : Typecode) (k : ℕ) (rest : List TypedVariable) → option_or (typed_if (v.0 == k) c) (code_in rest k) ≡ code_in (record { sym = v; code = c } ∷ rest) k
+unfolding typed_if
 found_one v c k rest = elim (cases_Bool (v.0 == k)) [ inl e ↦ rw e refl | inr e ↦ rw e refl ]
 
 put_more : (codes : List (Option Typecode)) (f : List Sym) (k : ℕ) (rest : List TypedVariable) → k < length codes
@@ -94,7 +94,7 @@ put_more codes [] k rest l = refl
 put_more codes (c ∷ []) k rest l = refl
 put_more codes (c ∷ v ∷ more) k rest l =
     ap (λ (o : Option Typecode). option_or o (code_in rest k)) (typed_one codes v (typecode c) k l)
-    ∙ or_assoc (get_or codes k None) (told (v.0 == k) (typecode c)) (code_in rest k)
+    ∙ or_assoc (get_or codes k None) (typed_if (v.0 == k) (typecode c)) (code_in rest k)
     ∙ ap (option_or (get_or codes k None)) (found_one v (typecode c) k rest)
 
 put_length : (codes : List (Option Typecode)) (f : List Sym) → length (put_formula codes f) ≡ length codes

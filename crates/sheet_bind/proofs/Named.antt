@@ -1,4 +1,4 @@
--- Work variables by the typecode's name and the number that a token tells.
+-- Work variables by the typecode's name and the number in a token.
 use Rattle.std.specs.Prelude.{◌≡◌, ℕ, Bool, true, false, List, [], ◌∷◌, find, filter_map, slice_get, Option, Some, None, option_map, refl}
 use Rattle.std.specs.Bool.{then_some}
 use Rattle.std.specs.List.{cons_option}
@@ -45,7 +45,7 @@ module _ (symbols : List Name) where
       (filter_map (λ (c : Typecode). option_map (λ n. leaf.Work c n) (work_number (name_in symbols c.0) token)) cs)) (h (name_in symbols c.0))
       ∙ ap (cons_option (option_map (λ n. leaf.Work c n) (number_by (name_in symbols c.0) o))) (same_leaves token o h cs)
 
-  -- the first typecode by which the token is a work variable's name is the first that has the name that it tells
+  -- the first typecode by which the token is a work variable's name is the first that has the name in it
   pub named_is : (token : Name) (o : Option (Name × ℕ)) → ((code : Name) → work_number code token ≡ number_by code o) → (codes : List Typecode)
       → leaf_named symbols codes o ≡ work_leaf symbols codes token
   named_is token o h codes = sym (ap (λ (ls : List Leaf). slice_get ls 0) (same_leaves token o h codes) ∙ named_by o codes)

@@ -1,4 +1,4 @@
--- Given pairs, put in one after the other.
+-- Given pairs, put in one after the other. This is part of the proof, and not of the claim.
 use Rattle.std.specs.Prelude.{List, [], ◌∷◌, fold, filter_map}
 use Rattle.mm_base.specs.declared.symbols.Sym.{Sym}
 use Rattle.mm_base.specs.declared.symbols.Pair.{Pair}

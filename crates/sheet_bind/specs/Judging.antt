@@ -1,4 +1,4 @@
--- Going over the items of a worksheet: the first fault so far, and the steps with their trees.
+-- Going over the items of a worksheet: the first fault so far, and the steps with their trees. This is part of the proof, and not of the claim.
 use Rattle.std.specs.Prelude.{◌≡◌, ℕ, ◌⊎◌, Bool, true, not, List, [], ◌∷◌, ◌++◌, drop, Option, Some, None, option_map, fold, if◌then◌else◌}
 use Rattle.mm_base.specs.declared.tree.Tree.{Tree}
 use Rattle.mm_model.specs.Faults.{Fault, fault, earlier, comes_first}
@@ -14,6 +14,7 @@ use Rattle.sheet_text.specs.declared.sheet.PairLine.{PairLine}
 use Rattle.solve_model.specs.declared.bound.BoundStep.{BoundStep}
 use Rattle.solve_model.specs.Firsts.{IsFirstFault}
 use Rattle.sheet_bind.specs.declared.hyps.HypSteps.{HypSteps}
+use Rattle.sheet_bind.specs.declared.scene.Scene.{Scene as HeldScene}
 use Rattle.sheet_bind.specs.declared.setting.Setting.{Setting}
 use Rattle.formula_parse.specs.Answers.{IsOnly}
 use Rattle.sheet_bind.specs.declared.steps.Judging.{Judging}
@@ -82,6 +83,10 @@ pub record Scene : Type 0 where
 
 abbrev pub scene : Opened → Name → Name → Setting → Scene
 scene opened provable theorem setting = record { opened = opened; provable = provable; theorem = theorem; setting = setting }
+
+-- those that the program holds
+abbrev pub scene_of : HeldScene → Scene
+scene_of h = scene h.db.now h.kinds.now.provable h.theorem.now h.setting.now
 
 module _ (g : Scene) where
   abbrev pub IsTreeIn : SheetStep → Tree → Type 0

@@ -1,4 +1,4 @@
--- Work variables by the typecode's name and the number that a token tells. This is part of the proof, and not of the claim.
+-- Work variables by the typecode's name and the number in a token. This is part of the proof, and not of the claim.
 use Rattle.std.specs.Prelude.{ℕ, List, find, Option, Some, None, option_map}
 use Rattle.std.specs.Str.{bytes_eq}
 use Rattle.mm_base.specs.declared.symbols.Typecode.{Typecode}

@@ -1,4 +1,4 @@
--- The rules of the header, the steps and the `$d` statements, by what is kept of the theorem's place.
+-- The rules of the header, the steps and the `$d` statements, by what is kept of the theorem's place. This is part of the proof, and not of the claim.
 use Rattle.std.specs.Prelude.{ℕ, ◌+◌, Bool, false, not, ◌&&◌, ◌||◌, List, [], ◌∷◌, ◌++◌, length, nat_lt, nat_le, slice_get, if◌then◌else◌, Option, Some, None, is_some, is_none}
 use Rattle.std.specs.List.{list_all}
 use Rattle.std.specs.Option.{option_map_or}

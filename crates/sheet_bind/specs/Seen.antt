@@ -1,4 +1,4 @@
--- What tokens are at the theorem's place, by what is kept of it.
+-- What tokens are at the theorem's place, by what is kept of it. This is part of the proof, and not of the claim.
 use Rattle.std.specs.Prelude.{ℕ, Bool, false, List, [], map, nat_lt, if◌then◌else◌, filter_map, slice_get, slice_index_or, Option, Some, None, option_map, option_and_then, is_some}
 use Rattle.std.specs.List.{list_all}
 use Rattle.std.specs.Option.{option_map_or}

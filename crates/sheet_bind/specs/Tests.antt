@@ -1,4 +1,4 @@
--- Tests with their codes, and the first that holds.
+-- Tests with their codes, and the first that holds. This is part of the proof, and not of the claim.
 use Rattle.std.specs.Prelude.{◌≡◌, ℕ, Bool, true, List, [], ◌∷◌, slice_get, Option, Some, None, if◌then◌else◌}
 
 -- the code of the first test that holds

@@ -1,4 +1,4 @@
--- The theorem of a worksheet, by what is kept of its place.
+-- The theorem of a worksheet, by what is kept of its place. This is part of the proof, and not of the claim.
 use Rattle.std.specs.Prelude.{ℕ, ◌-◌, Bool, not, ◌||◌, false, List, [], ◌∷◌, ◌++◌, drop, fold, find, filter_map, nat_lt, if◌then◌else◌, Option, Some, None, is_some, unwrap_or}
 use Rattle.std.specs.BTreeSet.{insert_key}
 use Rattle.std.specs.BTreeMap.{is_at}

@@ -38,9 +38,8 @@ fn proved_of(alloc: Global, db: &Database, sheet: &Sheet, place: Place) -> Resul
     let theorem = theorem_of(
         alloc,
         frames,
-        setting.place,
+        &setting,
         hyps,
-        setting.given.as_slice().len(),
         sheet.items.as_slice(),
         pairs.as_slice(),
     )?;

@@ -8,6 +8,7 @@ mod hyps;
 mod marks;
 mod pairs;
 mod rules;
+mod scene;
 mod setting;
 mod steps;
 mod symbols;

@@ -13,6 +13,7 @@ ghost use Rattle.sheet_bind.specs.Tests.{first_true};
 
 use crate::faults::BindCode;
 use crate::hyps::HypSteps;
+use crate::scene::Scene;
 use crate::setting::Setting;
 use crate::symbols::same_tokens;
 use crate::tokens::is_variable;
@@ -199,25 +200,23 @@ fn is_among(labels: &Names, reference: &Option<Name>) -> bool
 /// its formula is known.
 pub fn step_code(
     frames: &Frames,
-    kinds: &Kinds,
-    setting: &Setting,
-    theorem: &[u8],
+    here: &Scene,
     hyps: &HypSteps,
     known: bool,
     step: &SheetStep,
 ) -> Option<BindCode>
-    ensures { option_map number_of result ≡ first_true (word_tests frames.now kinds.now.provable theorem.now setting.now hyps.now known step.now) }
+    ensures { option_map number_of result ≡ first_true (word_tests frames.now here.now.kinds.now.provable here.now.theorem.now here.now.setting.now hyps.now known step.now) }
 {
-    if hyps_differ(frames, setting, hyps.count, step) {
+    if hyps_differ(frames, here.setting, hyps.count, step) {
         return Some(BindCode::HypsDiffer);
     }
-    if hyp_label_taken(frames, setting, theorem, hyps.count, step) {
+    if hyp_label_taken(frames, here.setting, here.theorem, hyps.count, step) {
         return Some(BindCode::HypLabelTaken);
     }
     if hyp_with_hyps(step) {
         return Some(BindCode::HypWithHyps);
     }
-    if not_provable(kinds, step) {
+    if not_provable(here.kinds, step) {
         return Some(BindCode::NotProvable);
     }
     if !known {

@@ -184,27 +184,35 @@ fn given_of(alloc: Global, frame: Option<&Frame>, active: &[Hyp]) -> Result<List
     }
 }
 
+/// Where a theorem stands.
+#[derive(Clone, Copy)]
+pub struct Standing<'f> {
+    /// The number of its place.
+    pub place: u32,
+    /// Of a theorem of the database its frame; none of a new one.
+    pub frame: Option<&'f Frame>,
+}
+
 /// What is known at a place where this is active.
 fn setting_of(
     alloc: Global,
     frames: &Frames,
     kinds: &Kinds,
-    place: u32,
-    frame: Option<&Frame>,
+    standing: &Standing,
     active: &Active,
     codes: &[Typecode],
 ) -> Result<Setting, Memory>
-    ensures { IfOk result (λ x. x ≡ setting_in frames.now kinds.now.logic place (option_copied frame.entry) active.now codes.now) }
+    ensures { IfOk result (λ x. x ≡ setting_in frames.now kinds.now.logic standing.now.place (option_copied standing.now.frame) active.now codes.now) }
 {
     let count = frames.symbols() as usize;
     let logic = logic_code(frames, kinds);
-    let conclusion = conclusion_of(alloc, frame)?;
-    let given = given_of(alloc, frame, active.hyps.as_slice())?;
+    let conclusion = conclusion_of(alloc, standing.frame)?;
+    let given = given_of(alloc, standing.frame, active.hyps.as_slice())?;
     let work = work_codes(alloc, frames, logic, codes)?;
     let variables = marks_of(alloc, count, active.variables.as_slice())?;
     let codes = codes_by_symbol(alloc, count, active.hyps.as_slice())?;
     Ok(Setting {
-        place,
+        place: standing.place,
         conclusion,
         given,
         variables: List::from_vec(variables),
@@ -219,25 +227,16 @@ fn place_at(
     alloc: Global,
     frames: &Frames,
     kinds: &Kinds,
-    place: u32,
-    frame: Option<&Frame>,
+    standing: &Standing,
 ) -> Result<Place, Memory>
-    requires { place ≤ length frames.now.entries }
+    requires { standing.now.place ≤ length frames.now.entries }
     ensures within { IfOk result (λ p. p.setting.place ≤ length frames.now.entries) }
-    ensures place { (text : List ℕ) → frames.now ≡ contents_of text → statement_fault text ≡ None → IfOk result (λ p. p ≡ place_in frames.now kinds.now.logic place
-        (option_copied frame.entry) (active_at (statements text) place) (float_codes (statements text) place)) }
+    ensures place { (text : List ℕ) → frames.now ≡ contents_of text → statement_fault text ≡ None → IfOk result (λ p. p ≡ place_in frames.now kinds.now.logic standing.now.place
+        (option_copied standing.now.frame) (active_at (statements text) standing.now.place) (float_codes (statements text) standing.now.place)) }
 {
-    let codes = frames.float_codes(place)?;
-    let active = frames.active_at(place)?;
-    let setting = setting_of(
-        alloc,
-        frames,
-        kinds,
-        place,
-        frame,
-        &active,
-        codes.as_slice(),
-    )?;
+    let codes = frames.float_codes(standing.place)?;
+    let active = frames.active_at(standing.place)?;
+    let setting = setting_of(alloc, frames, kinds, standing, &active, codes.as_slice())?;
     Ok(Place {
         setting,
         hyps: active.hyps,
@@ -267,7 +266,8 @@ pub fn place_of(
     frames_have_own_expressions();
     let frame = existing(frames, sheet.theorem.as_slice());
     let place = at_most(place_number(frames, frame, &sheet.loc), frames.end());
-    place_at(alloc, frames, kinds, place, frame)
+    let standing = Standing { place, frame };
+    place_at(alloc, frames, kinds, &standing)
 }
 
 fn at_most(place: u32, end: u32) -> u32

@@ -3,7 +3,7 @@ ghost use Rattle.mm_base.specs.declared.tree.Tree.{Tree};
 ghost use Rattle.mm_base.specs.Limits.{most_formula_tokens};
 ghost use Rattle.mm_model.specs.Faults as spec;
 ghost use Rattle.sheet_bind.specs.Found.{found};
-ghost use Rattle.sheet_bind.specs.Judging.{scene, state_of, start_of, IsTreeIn, IsTreeJudged, IsStepJudged, IsStepAdded, IsAdded, IsJudged, Runs, is_worth, bound_of, with_pair, put_step, AreTrees, with_trees, tree_in};
+ghost use Rattle.sheet_bind.specs.Judging.{scene, scene_of, state_of, start_of, IsTreeIn, IsTreeJudged, IsStepJudged, IsStepAdded, IsAdded, IsJudged, Runs, is_worth, bound_of, with_pair, put_step, AreTrees, with_trees, tree_in};
 ghost use Rattle.mm_model.specs.Typed.{Parses};
 ghost use Rattle.sheet_bind.specs.Rules.{header_tests, word_tests};
 ghost use Rattle.sheet_bind.specs.Tests.{first_true};
@@ -11,6 +11,7 @@ ghost use Rattle.sheet_bind.specs.Tests.{first_true};
 use crate::faults::{BindCode, FoundFault, at_line, comes_first, earlier};
 use crate::hyps::{HypSteps, no_hyps, note};
 use crate::rules::{asks_for_tree, header_code, not_variable, step_code};
+use crate::scene::Scene;
 use crate::setting::Setting;
 use crate::tokens::{all_known, expression};
 use formula_parse::{ParseFault, parse};
@@ -140,44 +141,39 @@ fn judge_tree(
 /// The first fault, with those that a step's words show among them.
 fn with_words(
     frames: &Frames,
-    kinds: &Kinds,
-    setting: &Setting,
-    theorem: &[u8],
+    here: &Scene,
     hyps: &HypSteps,
     known: bool,
     first: Option<FoundFault>,
     step: &SheetStep,
 ) -> Option<FoundFault>
     ensures { option_map found result ≡ spec.earlier (option_map found first) (option_map (spec.fault step.now.line)
-        (first_true (word_tests frames.now kinds.now.provable theorem.now setting.now hyps.now known step.now))) }
+        (first_true (word_tests frames.now here.now.kinds.now.provable here.now.theorem.now here.now.setting.now hyps.now known step.now))) }
 {
-    let code = step_code(frames, kinds, setting, theorem, hyps, known, step);
+    let code = step_code(frames, here, hyps, known, step);
     earlier(first, at_line(step.line, code))
 }
 
 /// The faults of a step, and its tree.
 fn judge_step(
     alloc: Global,
-    db: &Database,
-    kinds: &Kinds,
-    setting: &Setting,
-    theorem: &[u8],
+    here: &Scene,
     hyps: &HypSteps,
     first: Option<FoundFault>,
     step: &SheetStep,
 ) -> Result<StepJudged, Memory>
-    ensures { IfOk result (λ r. IsStepJudged (scene db.now kinds.now.provable theorem.now setting.now) hyps.now step.now (option_map found first) (option_map found r.first) r.tree) }
+    ensures { IfOk result (λ r. IsStepJudged (scene_of here.now) hyps.now step.now (option_map found first) (option_map found r.first) r.tree) }
 {
-    let frames = db.frames();
-    let known = all_known(alloc, frames, setting, step.formula.as_slice())?;
-    let first = with_words(frames, kinds, setting, theorem, hyps, known, first, step);
-    if !asks_for_tree(kinds, known, step) {
+    let frames = here.db.frames();
+    let known = all_known(alloc, frames, here.setting, step.formula.as_slice())?;
+    let first = with_words(frames, here, hyps, known, first, step);
+    if !asks_for_tree(here.kinds, known, step) {
         return Ok(StepJudged { first, tree: None });
     }
     if !is_worth(first, step.line) {
         return Ok(StepJudged { first, tree: None });
     }
-    judge_tree(alloc, db, setting, first, step)
+    judge_tree(alloc, here.db, here.setting, first, step)
 }
 
 fn copied_reference(alloc: Global, reference: &Option<Name>) -> Result<Option<Name>, Memory>
@@ -253,56 +249,38 @@ fn put_step(
 
 fn add_step(
     alloc: Global,
-    db: &Database,
-    kinds: &Kinds,
-    setting: &Setting,
-    theorem: &[u8],
+    here: &Scene,
     judging: &mut Judging,
     step: &SheetStep,
 ) -> Result<(), Memory>
-    ensures { OnOk result (IsStepAdded (scene db.now kinds.now.provable theorem.now setting.now) step.now (state_of judging.old) (state_of judging.new)) }
+    ensures { OnOk result (IsStepAdded (scene_of here.now) step.now (state_of judging.old) (state_of judging.new)) }
 {
-    let judged = judge_step(
-        alloc,
-        db,
-        kinds,
-        setting,
-        theorem,
-        &judging.hyps,
-        judging.first,
-        step,
-    )?;
+    let judged = judge_step(alloc, here, &judging.hyps, judging.first, step)?;
     put_step(alloc, judging, judged, step)
 }
 
 fn add_item(
     alloc: Global,
-    db: &Database,
-    kinds: &Kinds,
-    setting: &Setting,
-    theorem: &[u8],
+    here: &Scene,
     judging: &mut Judging,
     item: &SheetItem,
 ) -> Result<(), Memory>
-    ensures { OnOk result (IsAdded (scene db.now kinds.now.provable theorem.now setting.now) item.now (state_of judging.old) (state_of judging.new)) }
+    ensures { OnOk result (IsAdded (scene_of here.now) item.now (state_of judging.old) (state_of judging.new)) }
 {
     match item {
         SheetItem::Comment(_) => Ok(()),
-        SheetItem::Step(step) => add_step(alloc, db, kinds, setting, theorem, judging, step),
+        SheetItem::Step(step) => add_step(alloc, here, judging, step),
     }
 }
 
 /// The faults of the steps, with the first of the header, and the steps with their trees.
 fn judge_items(
     alloc: Global,
-    db: &Database,
-    kinds: &Kinds,
-    setting: &Setting,
-    theorem: &[u8],
+    here: &Scene,
     first: Option<FoundFault>,
     items: &[SheetItem],
 ) -> Result<Judging, Memory>
-    ensures { IfOk result (λ j. Runs (scene db.now kinds.now.provable theorem.now setting.now) (start_of (option_map found first)) items.now (state_of j)) }
+    ensures { IfOk result (λ j. Runs (scene_of here.now) (start_of (option_map found first)) items.now (state_of j)) }
 {
     let mut judging = Judging {
         first,
@@ -310,7 +288,7 @@ fn judge_items(
         steps: Vec::new(alloc),
     };
     for item in items {
-        add_item(alloc, db, kinds, setting, theorem, &mut judging, item)?;
+        add_item(alloc, here, &mut judging, item)?;
     }
     Ok(judging)
 }
@@ -365,9 +343,13 @@ pub fn judge(
 {
     let frames = db.frames();
     let first = header_fault(frames, setting, sheet);
-    let theorem = sheet.theorem.as_slice();
-    let items = sheet.items.as_slice();
-    match judge_items(alloc, db, kinds, setting, theorem, first, items) {
+    let here = Scene {
+        db,
+        kinds,
+        setting,
+        theorem: sheet.theorem.as_slice(),
+    };
+    match judge_items(alloc, &here, first, sheet.items.as_slice()) {
         Err(_) => Err(Memory),
         Ok(
             Judging {

@@ -1,4 +1,4 @@
-ghost use Rattle.std.specs.Prelude.{◌≡◌, [], drop, find, fold, filter_map, option_copied, unwrap_or, IfOk, OnOk};
+ghost use Rattle.std.specs.Prelude.{◌≡◌, [], drop, find, fold, filter_map, length, option_copied, unwrap_or, IfOk, OnOk};
 ghost use Rattle.std.specs.List.{list_all, list_any};
 ghost use Rattle.sheet_text.specs.Layout.{step_of_item};
 ghost use Rattle.solve_model.specs.Binding.{is_qed};
@@ -6,6 +6,7 @@ ghost use Rattle.sheet_bind.specs.Theorems.{symbols_in, is_symbol, hyp_of, put_i
 
 use crate::pairs::symbols_of;
 use crate::rules::is_qed;
+use crate::setting::Setting;
 use mm_base::{List, Memory, Name, Pair, Sym};
 use mm_frames::{Frames, Hyp};
 use proof_model::Theorem;
@@ -258,24 +259,24 @@ fn push_mandatory(
     Ok(())
 }
 
-/// The theorem of a worksheet.
+/// The theorem of a worksheet at a place, where these are the hypotheses that are active there.
 pub fn theorem_of(
     alloc: Global,
     frames: &Frames,
-    place: u32,
+    setting: &Setting,
     active: List<Hyp>,
-    given: usize,
     items: &[SheetItem],
     pairs: &[Pair],
 ) -> Result<Theorem, Memory>
-    ensures { IfOk result (λ t. t ≡ theorem_in frames.now.symbols place active given items.now pairs.now) }
+    ensures { IfOk result (λ t. t ≡ theorem_in frames.now.symbols setting.now.place active (length setting.now.given) items.now pairs.now) }
 {
+    let given = setting.given.as_slice().len();
     let formula = qed_formula(alloc, frames, items)?;
     let hyps = theorem_hyps(alloc, frames, active, given, items)?;
     let mandatory = mandatory_of(alloc, formula.as_slice(), hyps.as_slice())?;
     let pairs = List::copy_of(alloc, pairs)?;
     Ok(Theorem {
-        at: place,
+        at: setting.place,
         formula,
         hyps,
         mandatory,

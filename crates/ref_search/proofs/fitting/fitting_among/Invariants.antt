@@ -5,4 +5,4 @@ use Rattle.ref_search.specs.Searching.{ForEachText}
 use Rattle.ref_search.proofs.fitting.fitting_among.Given as goal
 
 abbrev pub invariant-loop-label : goal.invariant-loop-label
-invariant-loop-label l = ForEachText l.db (λ d. AreFittingAmong d (option_copied l.given) l.wanted l.bound (take l.label-index l.labels) l.fitting.items)
+invariant-loop-label l = ForEachText l.db (λ d. AreFittingAmong d (option_copied l.sought.given) l.sought.wanted.now l.bound (take l.label-index l.labels) l.fitting.items)

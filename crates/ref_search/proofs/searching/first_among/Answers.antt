@@ -7,29 +7,29 @@ use Rattle.ref_search.proofs.searching.first_among.Goals as goal
 
 pub returns-then-label-bound-clause-first : goal.returns-then-label-bound-clause-first
 returns-then-label-bound-clause-first c = λ kinds text opened.
-    stopped kinds text c.args.db.now (option_copied c.args.given) c.args.wanted.now c.args.labels.now c.requires.rise c.args.bound c.loop-label.label-index (record { 0 = 0 })
+    stopped kinds text c.args.db.now (option_copied c.args.sought.now.given) c.args.sought.now.wanted.now c.args.labels.now c.requires.rise c.args.bound c.loop-label.label-index (record { 0 = 0 })
     (c.loop-label.invariant kinds text opened) (λ h. c.if-label-bound.true)
 
 pub fit_label-requires-clause-candidate : goal.fit_label-requires-clause-candidate
 fit_label-requires-clause-candidate c =
-    all_at (IsCandidate c.args.db.now.parsed (length c.args.wanted.now.hyps)) c.args.labels.now c.loop-label.label-index (record { 0 = 0 }) c.requires.candidates c.loop-label-test.true
+    all_at (IsCandidate c.args.db.now.parsed (length c.args.sought.now.wanted.now.hyps)) c.args.labels.now c.loop-label.label-index (record { 0 = 0 }) c.requires.candidates c.loop-label-test.true
 
 pub returns-in-Some-clause-first : goal.returns-in-Some-clause-first
 returns-in-Some-clause-first c = λ kinds text opened.
-    subst (λ f. IsFirstAmong (book kinds text c.args.db.now) (option_copied c.args.given) c.args.wanted.now c.args.labels.now c.args.bound (Some f)) (sym c.found_by.ensures)
-    (found_there kinds text c.args.db.now (option_copied c.args.given) c.args.wanted.now c.args.labels.now c.requires.rise c.args.bound c.loop-label.label-index (record { 0 = 0 })
+    subst (λ f. IsFirstAmong (book kinds text c.args.db.now) (option_copied c.args.sought.now.given) c.args.sought.now.wanted.now c.args.labels.now c.args.bound (Some f)) (sym c.found_by.ensures)
+    (found_there kinds text c.args.db.now (option_copied c.args.sought.now.given) c.args.sought.now.wanted.now c.args.labels.now c.requires.rise c.args.bound c.loop-label.label-index (record { 0 = 0 })
     (c.loop-label.invariant kinds text opened) _ refl c.if-label-bound.false
-    (subst (λ o. IsLabelFit (book kinds text c.args.db.now) (option_copied c.args.given) c.args.wanted.now (get_or c.args.labels.now c.loop-label.label-index (record { 0 = 0 })) o) c.in-Some.is
+    (subst (λ o. IsLabelFit (book kinds text c.args.db.now) (option_copied c.args.sought.now.given) c.args.sought.now.wanted.now (get_or c.args.labels.now c.loop-label.label-index (record { 0 = 0 })) o) c.in-Some.is
     (c.in_ok-fit_label.ensures.first kinds text opened)))
 
 pub loop-label-preserved : goal.loop-label-preserved
 loop-label-preserved c = λ kinds text opened.
-    one_more_of (NoFit (book kinds text c.args.db.now) (option_copied c.args.given) c.args.wanted.now) c.args.labels.now c.loop-label.label-index (record { 0 = 0 }) c.loop-label-test.true
+    one_more_of (NoFit (book kinds text c.args.db.now) (option_copied c.args.sought.now.given) c.args.sought.now.wanted.now) c.args.labels.now c.loop-label.label-index (record { 0 = 0 }) c.loop-label-test.true
     (c.loop-label.invariant kinds text opened)
-    (subst (λ o. IsLabelFit (book kinds text c.args.db.now) (option_copied c.args.given) c.args.wanted.now (get_or c.args.labels.now c.loop-label.label-index (record { 0 = 0 })) o) c.in-None.is
+    (subst (λ o. IsLabelFit (book kinds text c.args.db.now) (option_copied c.args.sought.now.given) c.args.sought.now.wanted.now (get_or c.args.labels.now c.loop-label.label-index (record { 0 = 0 })) o) c.in-None.is
     (c.in_ok-fit_label.ensures.first kinds text opened)).first
 
 pub returns-clause-first : goal.returns-clause-first
 returns-clause-first c = λ kinds text opened.
-    stopped kinds text c.args.db.now (option_copied c.args.given) c.args.wanted.now c.args.labels.now c.requires.rise c.args.bound c.loop-label.label-index (record { 0 = 0 })
+    stopped kinds text c.args.db.now (option_copied c.args.sought.now.given) c.args.sought.now.wanted.now c.args.labels.now c.requires.rise c.args.bound c.loop-label.label-index (record { 0 = 0 })
     (c.loop-label.invariant kinds text opened) (λ h. absurd (omega (arith, h, c.loop-label-test.false)))

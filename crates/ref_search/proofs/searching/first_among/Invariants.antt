@@ -5,4 +5,4 @@ use Rattle.ref_search.specs.Searching.{ForEachText, NoFit}
 use Rattle.ref_search.proofs.searching.first_among.Given as goal
 
 abbrev pub invariant-loop-label : goal.invariant-loop-label
-invariant-loop-label l = ForEachText l.db (λ d. AllByRecursion (NoFit d (option_copied l.given) l.wanted) (take l.label-index l.labels))
+invariant-loop-label l = ForEachText l.db (λ d. AllByRecursion (NoFit d (option_copied l.sought.given) l.sought.wanted.now) (take l.label-index l.labels))

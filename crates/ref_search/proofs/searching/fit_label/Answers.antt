@@ -2,20 +2,20 @@ use Rattle.std.specs.Option.{option_copied}
 use Rattle.std.proofs.Common.{◌∙◌, sym, ap}
 use Rattle.std.proofs.lemmas.Result.{IfOk-weaker}
 use Rattle.mm_frames.specs.Contents.{frame_at}
-use Rattle.ref_search.proofs.LabelLaws.{frame_none, frame_some, told, label_sound}
+use Rattle.ref_search.proofs.LabelLaws.{frame_none, frame_some, frame_of_text, label_sound}
 use Rattle.ref_search.proofs.searching.fit_label.Goals as goal
 
 pub returns-in-None-clause-first : goal.returns-in-None-clause-first
 returns-in-None-clause-first c = λ kinds text opened.
-    frame_none kinds text c.args.db.now opened (option_copied c.args.given) c.args.wanted.now c.args.label c.frame_of.result c.in-None.is
-    (told c.args.db.now c.args.label c.frames.result.now (option_copied c.frame_of.result) c.frames.ensures c.frame_of.ensures)
+    frame_none kinds text c.args.db.now opened (option_copied c.args.sought.now.given) c.args.sought.now.wanted.now c.args.label c.frame_of.result c.in-None.is
+    (frame_of_text c.args.db.now c.args.label c.frames.result.now (option_copied c.frame_of.result) c.frames.ensures c.frame_of.ensures)
 
 pub returns-in-Some-clause-first : goal.returns-in-Some-clause-first
 returns-in-Some-clause-first c =
     let p = c.requires.candidate.0 in
     let kept = c.requires.candidate.1 in
-    frame_some c.frames_are_whole.ensures c.args.db.now (option_copied c.args.given) c.args.wanted.now c.args.label p kept c.frame_of.result c.in-Some.frame c.in-Some.is
-    (told c.args.db.now c.args.label c.frames.result.now
+    frame_some c.frames_are_whole.ensures c.args.db.now (option_copied c.args.sought.now.given) c.args.sought.now.wanted.now c.args.label p kept c.frame_of.result c.in-Some.frame c.in-Some.is
+    (frame_of_text c.args.db.now c.args.label c.frames.result.now
     (option_copied c.frame_of.result) c.frames.ensures c.frame_of.ensures) c.vars.result.now c.tree.result.now c.hyp_trees.result.now
     (c.vars.ensures p kept) (c.tree.ensures p kept) (c.hyp_trees.ensures p kept)
     c.fit_to.result c.fit_to.ensures.fit

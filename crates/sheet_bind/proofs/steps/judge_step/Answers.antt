@@ -7,13 +7,13 @@ use Rattle.sheet_bind.specs.Rules.{word_tests, asks}
 use Rattle.sheet_bind.specs.Seen.{are_known}
 use Rattle.sheet_bind.specs.Tests.{first_true}
 use Rattle.sheet_bind.specs.declared.steps.StepJudged.{StepJudged}
-use Rattle.sheet_bind.specs.Judging.{scene, IsTreeIn, IsTreeJudged, IsStepJudged}
+use Rattle.sheet_bind.specs.Judging.{scene_of, IsTreeIn, IsTreeJudged, IsStepJudged}
 use Rattle.sheet_bind.proofs.JudgeLaws.{asks_none, asks_tree, not_worth}
 use Rattle.sheet_bind.proofs.steps.judge_step.Goals as goal
 
 pub returns-then-not-asks_for_tree : goal.returns-then-not-asks_for_tree
 returns-then-not-asks_for_tree c =
-    let g = scene c.args.db.now c.args.kinds.now.provable c.args.theorem.now c.args.setting.now in
+    let g = scene_of c.args.here.now in
     let t = c.args.step.now in
     let a = option_map found c.args.first in
     let b = option_map found c.with_words-first.result in
@@ -25,7 +25,7 @@ returns-then-not-asks_for_tree c =
 
 pub returns-then-not-is_worth : goal.returns-then-not-is_worth
 returns-then-not-is_worth c =
-    let g = scene c.args.db.now c.args.kinds.now.provable c.args.theorem.now c.args.setting.now in
+    let g = scene_of c.args.here.now in
     let t = c.args.step.now in
     let a = option_map found c.args.first in
     let b = option_map found c.with_words-first.result in
@@ -37,7 +37,7 @@ returns-then-not-is_worth c =
 
 pub returns : goal.returns
 returns c =
-    let g = scene c.args.db.now c.args.kinds.now.provable c.args.theorem.now c.args.setting.now in
+    let g = scene_of c.args.here.now in
     let t = c.args.step.now in
     let a = option_map found c.args.first in
     let b = option_map found c.with_words-first.result in
