@@ -1,0 +1,2 @@
+pub mod AutoFilled
+pub mod AutoFilledExamples
