@@ -1,0 +1,4 @@
+mod AllOrders
+mod FirstLabel
+mod NotFoundBefore
+mod FoundFirst
