@@ -1,12 +1,14 @@
 //! Where a theorem goes.
 
-ghost use Rattle.std.specs.Prelude.{◌≡◌, ◌≤◌, false, length, codes};
+ghost use Rattle.std.specs.Prelude.{◌≡◌, ◌≤◌, false, length, drop, codes};
 ghost use Rattle.std.specs.Str.{bytes_eq};
+ghost use Rattle.mm_frames.specs.Contents.{contents_of};
 ghost use Rattle.mm_model.specs.Statements.{statements};
-ghost use Rattle.mm_model.specs.Words.{words};
+ghost use Rattle.mm_model.specs.Words.{words_from};
 ghost use Rattle.install_model.specs.Installed.{place_byte};
 ghost use Rattle.db_install.specs.Ends.{is_end, end_from};
 
+use mm_frames::Frames;
 use mm_tokens::next_word;
 
 fn is_open_comment(word: &[u8]) -> bool
@@ -28,39 +30,39 @@ fn is_end(word: &[u8]) -> bool
     word == b"$.".as_slice() || word == b"${".as_slice() || word == b"$}".as_slice()
 }
 
-/// The byte behind the statement of a number, counted from 0; 0 where the text has fewer. It takes no memory.
-fn statement_end(text: &[u8], number: u32) -> usize
-    ensures byte { result ≡ end_from false number (words text.now) }
+/// The byte behind the statement that begins at a byte; 0 where none ends behind it.
+fn statement_end(text: &[u8], start: usize) -> usize
+    requires { start ≤ length text.now }
+    ensures byte { result ≡ end_from false (words_from start (drop start text.now)) }
     ensures within { result ≤ length text.now }
 {
-    let mut left = number;
     let mut in_comment = false;
-    let mut at = 0;
-    while let Some((start, end)) = next_word(text, at) {
-        let word = &text[start..end];
+    let mut at = start;
+    while let Some((begin, end)) = next_word(text, at) {
+        let word = &text[begin..end];
         if in_comment {
             in_comment = !is_close_comment(word);
         } else if is_open_comment(word) {
             in_comment = true;
         } else if is_end(word) {
-            if left == 0 {
-                return end;
-            }
-            left -= 1;
+            return end;
         }
         at = end;
     }
     0
 }
 
-/// The byte behind the statement before a place; 0 at place 0, and where the text has fewer statements. It takes time in
-/// proportion to the text up to there, and no memory.
-pub fn place_byte(text: &[u8], place: u32) -> usize
+/// The byte behind the statement before a place of a database; 0 at place 0. It takes time in proportion to that statement,
+/// and no memory.
+pub fn place_byte(text: &[u8], frames: &Frames, place: u32) -> usize
+    requires of_text { frames.now ≡ contents_of text.now }
+    requires within { place ≤ length (statements text.now) }
     ensures byte { result ≡ place_byte (statements text.now) place }
     ensures within { result ≤ length text.now }
 {
     if place == 0 {
         return 0;
     }
-    statement_end(text, place - 1)
+    let start = frames.place_byte(place - 1) as usize;
+    statement_end(text, start)
 }

@@ -2,6 +2,8 @@
 
 ghost use Rattle.std.specs.Prelude.{◌≡◌, ◌++◌, ◌≤◌, take, drop, length, IfOk, IfErr};
 ghost use Rattle.mm_base.specs.Limits.{most_database_bytes};
+ghost use Rattle.mm_frames.specs.Contents.{contents_of};
+ghost use Rattle.mm_model.specs.Statements.{statements};
 ghost use Rattle.install_model.specs.Installed.{installed};
 ghost use Rattle.db_install.specs.Faults.{IsLarge};
 
@@ -9,6 +11,7 @@ use crate::block::{block, put};
 use crate::place::place_byte;
 use install_model::NewTheorem;
 use mm_base::{Bytes, List, MOST_DATABASE_BYTES, Memory};
+use mm_frames::Frames;
 use std::alloc::Global;
 
 /// Why a theorem is not put in.
@@ -33,8 +36,8 @@ fn joined(alloc: Global, text: &[u8], at: usize, block: &[u8]) -> Result<Bytes, 
 }
 
 /// The text of a database with a theorem in it, in a block of its own behind the statement before the place: on a new line
-/// `${`, then the pairs, the `$e` and the theorem, each on a line, and `$}`, each line ended by LF. It takes time and memory
-/// in proportion to the text and the block.
+/// `${`, then the pairs, the `$e` and the theorem, each on a line, and `$}`, each line ended by LF. The frames are those of the
+/// text. It takes the time and the memory of one copy of the text, and of the block.
 ///
 /// # Errors
 /// `TooLarge` with the bytes of that text, exactly where they are more than 2^28, unless memory runs out before that is known.
@@ -42,9 +45,12 @@ fn joined(alloc: Global, text: &[u8], at: usize, block: &[u8]) -> Result<Bytes, 
 pub fn install(
     alloc: Global,
     text: &[u8],
+    frames: &Frames,
     place: u32,
     theorem: &NewTheorem,
 ) -> Result<Bytes, InstallFault>
+    requires of_text { frames.now ≡ contents_of text.now }
+    requires within { place ≤ length (statements text.now) }
     ensures text { IfOk result (λ whole. whole ≡ installed text.now place theorem.now) }
     ensures fits { IfOk result (λ whole. length whole ≤ most_database_bytes) }
     ensures fault { IfErr result (IsLarge (length (installed text.now place theorem.now))) }
@@ -56,7 +62,8 @@ pub fn install(
     if count > MOST_DATABASE_BYTES {
         return Err(InstallFault::TooLarge(count));
     }
-    match joined(alloc, text, place_byte(text, place), block.as_slice()) {
+    let at = place_byte(text, frames, place);
+    match joined(alloc, text, at, block.as_slice()) {
         Ok(whole) => Ok(whole),
         Err(_) => Err(InstallFault::Memory),
     }

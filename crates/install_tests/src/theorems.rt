@@ -1,10 +1,19 @@
+ghost use Rattle.std.specs.Prelude.{◌≡◌, IfSome};
+ghost use Rattle.mm_frames.specs.Contents.{contents_of};
+
 use db_install::{install, place_byte};
 use install_model::NewTheorem;
-use mm_base::{List, Memory, Name};
+use mm_base::{List, MOST_DATABASE_BYTES, Memory, Name};
+use mm_frames::{Frames, read};
+use mm_tokens::tokens;
 use std::alloc::Global;
 
+const WITHOUT_HYPOTHESES: &[u8] =
+    b"$c |- wff $. $v ph $. wph $f wff ph $. ax $a |- ph $.
+";
+
 // The lines stand before the LF behind the last statement.
-const WITH_HYPOTHESES: &[u8] = b"ax $a |- ph $.
+const WITH_HYPOTHESES: &[u8] = b"$c |- wff $. $v ph $. wph $f wff ph $. ax $a |- ph $.
 ${
 r.1 $e |- ph $.
 r.2 $e |- ( ph -> ps ) $.
@@ -83,10 +92,40 @@ fn becomes(
     }
 }
 
+fn frames_of(alloc: Global, text: &[u8]) -> Option<Frames>
+    ensures { IfSome result (λ frames. frames ≡ contents_of text.now) }
+{
+    if text.len() as u64 > MOST_DATABASE_BYTES {
+        return None;
+    }
+    let Ok(tokens) = tokens(alloc, text) else {
+        return None;
+    };
+    match read(alloc, text, &tokens) {
+        Err(_) => None,
+        Ok(frames) => Some(frames),
+    }
+}
+
 fn is_whole(alloc: Global, text: &[u8], place: u32, theorem: &NewTheorem, whole: &[u8]) -> bool {
-    match install(alloc, text, place, theorem) {
+    let Some(frames) = frames_of(alloc, text) else {
+        return false;
+    };
+    if place > frames.end() {
+        return false;
+    }
+    match install(alloc, text, &frames, place, theorem) {
         Err(_) => false,
         Ok(installed) => installed.as_slice() == whole,
+    }
+}
+
+/// The byte behind the statement before a place; none where the text has a fault or no such place.
+fn byte_of(alloc: Global, text: &[u8], place: u32) -> Option<usize> {
+    match frames_of(alloc, text) {
+        None => None,
+        Some(frames) if place > frames.end() => None,
+        Some(frames) => Some(place_byte(text, &frames, place)),
     }
 }
 
@@ -98,8 +137,8 @@ fn puts_theorems_in(rt: HostRuntime) {
     assert!(rt;
         becomes(
             alloc,
-            b"ax $a |- ph $.\n",
-            1,
+            WITHOUT_HYPOTHESES,
+            4,
             modus_ponens(alloc),
             WITH_HYPOTHESES
         )
@@ -108,9 +147,10 @@ fn puts_theorems_in(rt: HostRuntime) {
 
 #[test]
 fn finds_places(rt: HostRuntime) {
-    assert!(rt; place_byte(SHORT, 0) == 0);
-    assert!(rt; place_byte(SHORT, 1) == 19);
-    assert!(rt; place_byte(SHORT, 5) == 68);
-    assert!(rt; place_byte(SHORT, 6) == SHORT.len());
-    assert!(rt; place_byte(SHORT, 7) == 0);
+    let alloc = rt.alloc();
+    assert!(rt; byte_of(alloc, SHORT, 0) == Some(0));
+    assert!(rt; byte_of(alloc, SHORT, 1) == Some(19));
+    assert!(rt; byte_of(alloc, SHORT, 5) == Some(68));
+    assert!(rt; byte_of(alloc, SHORT, 6) == Some(SHORT.len()));
+    assert!(rt; byte_of(alloc, SHORT, 7) == None);
 }
