@@ -1,5 +1,5 @@
 -- The rules of statements as a table of tests, by the bytes of tokens.
-use Rattle.std.proofs.Common.{◌≡◌, ℕ, Bool, true, false, not, cond, ◌&&◌, ◌||◌, ◌==◌, nat_lt, nat_le, List, [], ◌∷◌, length, take, map, flat_map}
+use Rattle.std.proofs.Common.{◌≡◌, ℕ, Bool, true, false, not, cond, ◌&&◌, ◌||◌, ◌==◌, nat_lt, nat_le, List, [], ◌∷◌, ◌++◌, length, take, map, flat_map}
 use Rattle.std.proofs.Common.{Some, None, option_map, refl, sym, ap, ◌∙◌, subst, codes}
 use Rattle.std.specs.Prelude.{find, filter}
 use Rattle.std.specs.List.{AllByRecursion, list_any, list_all, take-map}
@@ -8,9 +8,10 @@ use mathlib.Core.Path.{fun_ext}
 use Rattle.mm_model.specs.Labels.{is_label_byte}
 use Rattle.mm_model.specs.Names.{Name}
 use Rattle.mm_model.specs.Words.{Word}
-use Rattle.mm_model.specs.Statements.{Statement, Rule, token_rules, is_empty, is_label_alone, in_proof, is, has_one_of, has_keyword, symbols_in, contains}
-use Rattle.mm_model.specs.Statements.{constants, variables_ever, variables, typed, labels, path, second, with_keyword, ended, unended, labelled, asserting}
+use Rattle.mm_model.specs.Statements.{Statement, Rule, token_rules, is_empty, is_label_alone, in_proof, is, is_one_of, has_one_of, has_keyword, symbols_in, contains}
+use Rattle.mm_model.specs.Statements.{constants, variables_ever, variables, typed, labels, path, second, with_keyword, ended, unended, active, labelled, asserting}
 use Rattle.model_laws.proofs.Checked.{rules_fail, NoRule, AllFail}
+use Rattle.model_laws.proofs.Passing.{any-map}
 use Rattle.install_laws.specs.InstalledStatements.{names, tokens_of, HasNoDollar}
 use Rattle.install_laws.proofs.NamesLaw.{is_plain, keyword_is, keyword_by, symbol_names, symbols_by, label_names, labels_by}
 use Rattle.install_laws.proofs.ActiveNames.{has_kw, has_kw_by, path_of, path_by, active_of, active_by, variables_of, variables_by, filter_by, kept_by, all_symbols}
@@ -200,3 +201,46 @@ front_is u w =
     ∙ ap (λ g. front_from (is_empty (names u)) (alone (names u)) (has_proof (names u)) (symbol_names (names u)) (λ ks. keyword_is ks (names u)) g w) (fun_ext (λ k. has_kw_by k u))
 
 -- ---- from a text's words and back
+
+abbrev word_table : List Statement → Statement → Word → List Word → List Bool
+word_table e u w after =
+    table (known_from (constants e) (variables_ever e) (variables e) (typed e) (path e) w.bytes)
+    (front_from (is_empty u) (is_label_alone u) (in_proof u) (symbols_in u) (λ ks. has_one_of ks u) (λ k. has_keyword k u) w.bytes)
+    (token w.bytes)
+    ((is_plain w.bytes && is_empty u) && contains (labels e) w.bytes)
+    ((is_plain w.bytes && is_empty u) && list_any (λ v. not (is_one_of labelled v)) (take 1 after))
+    ((is_plain w.bytes && is_empty u) && not (list_all is_label_byte w.bytes))
+
+abbrev name_table : List (List Name) → List Name → Name → List Name → List Bool
+name_table e f w after = table (known e w) (front f w) (token w) (taken e f w) (extra f w after) (bad f w)
+
+table_is : (e : List Statement) (u : Statement) (w : Word) (after : List Word) → word_table e u w after ≡ name_table (tokens_of e) (names u) w.bytes (names (take 1 after))
+table_is e u w after =
+    let n : Name = w.bytes in
+    let behind : Bool = list_any (λ v. not (is_one_of labelled v)) (take 1 after) in
+    ap (λ k. table k (front_from (is_empty u) (is_label_alone u) (in_proof u) (symbols_in u) (λ ks. has_one_of ks u) (λ k. has_keyword k u) n) (token n)
+    ((is_plain n && is_empty u) && contains (labels e) n) ((is_plain n && is_empty u) && behind) ((is_plain n && is_empty u) && not (list_all is_label_byte n))) (known_is e n)
+    ∙ ap (λ f. table (known (tokens_of e) n) f (token n)
+    ((is_plain n && is_empty u) && contains (labels e) n) ((is_plain n && is_empty u) && behind) ((is_plain n && is_empty u) && not (list_all is_label_byte n))) (front_is u n)
+    ∙ ap (λ b. table (known (tokens_of e) n) (front (names u) n) (token n)
+    ((is_plain n && b) && contains (labels e) n) ((is_plain n && b) && behind) ((is_plain n && b) && not (list_all is_label_byte n))) (empty_by u)
+    ∙ ap (λ ls. table (known (tokens_of e) n) (front (names u) n) (token n)
+    ((is_plain n && is_empty (names u)) && contains ls n) ((is_plain n && is_empty (names u)) && behind) (bad (names u) n)) (labels_by e)
+    ∙ ap (λ b. table (known (tokens_of e) n) (front (names u) n) (token n) (taken (tokens_of e) (names u) n) ((is_plain n && is_empty (names u)) && b) (bad (names u) n))
+    (sym (any-map (λ m. not (list_any (bytes_eq m) labelled)) (λ (v : Word). v.bytes) (take 1 after)))
+
+fails_are : (before : List Word) (w : Word) (after : List Word) → AllFail token_rules before w after ≡ AllFalse (word_table (ended before) (unended before) w after)
+fails_are before w after = refl
+
+pub passes : (before : List Word) (w : Word) (after : List Word) → NoRule before w after
+    → Passes (tokens_of (ended before)) (names (unended before)) w.bytes (names (take 1 after))
+passes before w after h = subst AllFalse (table_is (ended before) (unended before) w after) (rules_fail before w after h)
+
+none_found : (rules : List (ℕ × Rule)) (before : List Word) (w : Word) (after : List Word) → AllFail rules before w after → find (λ (r : ℕ × Rule). r.1 before w after) rules ≡ None
+none_found [] before w after h = refl
+none_found (r ∷ rules) before w after h = rw h.0 (none_found rules before w after h.1)
+
+pub no_rule : (before : List Word) (w : Word) (after : List Word) → Passes (tokens_of (ended before)) (names (unended before)) w.bytes (names (take 1 after)) → NoRule before w after
+no_rule before w after h =
+    let fail : AllFail token_rules before w after = subst AllFalse (sym (table_is (ended before) (unended before) w after)) h in
+    ap (option_map (λ (r : ℕ × Rule). r.0)) (none_found token_rules before w after fail)
