@@ -1,2 +1,3 @@
 mod RuleTable
 mod Walks
+mod WordFaults

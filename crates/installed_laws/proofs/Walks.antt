@@ -1,5 +1,5 @@
 -- Each statement of a text passes the rules, by the bytes of tokens; and a text of such statements has no fault.
-use Rattle.std.proofs.Common.{◌≡◌, ℕ, Bool, true, false, not, ◌&&◌, List, [], ◌∷◌, ◌++◌, take, reverse, None, Option, option_map}
+use Rattle.std.proofs.Common.{◌≡◌, ℕ, Bool, true, false, not, ◌&&◌, ◌||◌, List, [], ◌∷◌, ◌++◌, take, reverse, None, Option, option_map}
 use Rattle.std.proofs.Common.{refl, sym, ap, ◌∙◌, subst, inl, inr, codes, append_assoc, cond}
 use mathlib.Core.List.{reverse_aux}
 use Rattle.std.specs.List.{AllByRecursion, list_any, take-map}
@@ -53,7 +53,7 @@ any_behind e f w after h p = other_extra e f w [] after (no_label (is_plain w) r
     no_plain : is_plain w ≡ false
     no_plain = by (bytes_eq w (codes "$.")) (bytes_eq w (codes "${")) (bytes_eq w (codes "$}")) refl refl refl h
       where
-        by : (a b c : Bool) → bytes_eq w (codes "$.") ≡ a → bytes_eq w (codes "${") ≡ b → bytes_eq w (codes "$}") ≡ c → (cond a true (cond b true (cond c true false))) ≡ true → is_plain w ≡ false
+        by : (a b c : Bool) → bytes_eq w (codes "$.") ≡ a → bytes_eq w (codes "${") ≡ b → bytes_eq w (codes "$}") ≡ c → (a || (b || (c || false))) ≡ true → is_plain w ≡ false
         by true b c x y z k = keyword (codes "$.") refl x
         by false true c x y z k = keyword (codes "${") refl y
         by false false true x y z k = keyword (codes "$}") refl z
