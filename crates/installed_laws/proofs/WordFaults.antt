@@ -116,7 +116,7 @@ calm_fine [] h = tt
 calm_fine (n ∷ ns) h = ((refl, bad h.0.1 h.0.2), subst (λ c. Fine c ns) (sym (step_same h.0.0 h.0.1)) (calm_fine ns h.1))
   where
     bad : closes n ≡ false → is_bad_name n ≡ false → (closes n || is_bad_name n) ≡ false
-    bad a b = rw (a, b) refl
+    bad a b = ap (λ c. c || is_bad_name n) a ∙ b
 
     step_same : opens n ≡ false → closes n ≡ false → step false n ≡ false
     step_same a b = rw (a, b) refl
