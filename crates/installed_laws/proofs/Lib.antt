@@ -1,3 +1,4 @@
 mod RuleTable
+mod ByteFaults
 mod Walks
 mod WordFaults

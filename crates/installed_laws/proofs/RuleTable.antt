@@ -156,7 +156,7 @@ Passes e f w after = AllFalse (table (known e w) (front f w) (token w) (taken e 
 
 -- ---- what the definitions see is what the bytes tell
 
-constants_by : (e : List Statement) → constants e ≡ constants_of (tokens_of e)
+pub constants_by : (e : List Statement) → constants e ≡ constants_of (tokens_of e)
 constants_by e = all_symbols (with_keyword (codes "$c") e) ∙ ap (flat_map symbol_names) (filter_by (has_keyword (codes "$c")) (has_kw (codes "$c")) (has_kw_by (codes "$c")) e)
 
 ever_by : (e : List Statement) → variables_ever e ≡ ever_of (tokens_of e)
