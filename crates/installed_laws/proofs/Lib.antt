@@ -1,4 +1,5 @@
 mod RuleTable
+mod BlockWords
 mod ByteFaults
 mod Walks
 mod WordFaults
