@@ -23,7 +23,7 @@ use Rattle.installed_laws.proofs.Walks.{Walk}
 abbrev pub plain_word : Token
 plain_word = record { plain = true; include = false; declares = false; closes = false; dot = false; equals = false; ends_formula = false; labelled = false; starts = false }
 
-token_with : Bool → Bool → Bool → Bool → Bool → Bool → Bool → Bool → Bool → Bool → Bool → Bool → Bool → Token
+abbrev token_with : Bool → Bool → Bool → Bool → Bool → Bool → Bool → Bool → Bool → Bool → Bool → Bool → Bool → Token
 token_with p i c v d o x dot eq f e a pp = record {
   plain = p;
   include = i;
@@ -71,14 +71,14 @@ body_at (n ∷ f) k us h e =
     one_plus : (m : ℕ) → 1 + m ≡ suc m
     one_plus m = omega arith
 
-or_false : (b : Bool) → (b || false) ≡ b
+pub or_false : (b : Bool) → (b || false) ≡ b
 or_false true = refl
 or_false false = refl
 
 one_of_at : (f : List Name) (k : Name) (us : List Name) → ArePlain f → is_plain k ≡ false → (ks : List Name) → keyword_is ks (f ++ k ∷ us) ≡ list_any (bytes_eq k) ks
 one_of_at f k us h e ks = ap (λ ns. list_any (λ n. list_any (bytes_eq n) ks) (take 1 ns)) (body_at f k us h e) ∙ or_false (list_any (bytes_eq k) ks)
 
-has_at : (f : List Name) (k : Name) (us : List Name) → ArePlain f → is_plain k ≡ false → (j : Name) → has_kw j (f ++ k ∷ us) ≡ bytes_eq k j
+pub has_at : (f : List Name) (k : Name) (us : List Name) → ArePlain f → is_plain k ≡ false → (j : Name) → has_kw j (f ++ k ∷ us) ≡ bytes_eq k j
 has_at f k us h e j = ap (λ ns. list_any (λ n. bytes_eq n j) (take 1 ns)) (body_at f k us h e) ∙ or_false (bytes_eq k j)
 
 empty_at : (f : List Name) (k : Name) (us : List Name) → is_empty (f ++ k ∷ us) ≡ false
@@ -112,7 +112,7 @@ proof_at f k us h e p =
 abbrev pub front_with : Name → Bool → List Name → Name → Front
 front_with k proof us w = front_from false false proof us (λ ks. list_any (bytes_eq k) ks) (λ j. bytes_eq k j) w
 
-front_at : (f : List Name) (k : Name) (us : List Name) (w : Name) → ArePlain f → is_plain k ≡ false
+pub front_at : (f : List Name) (k : Name) (us : List Name) (w : Name) → ArePlain f → is_plain k ≡ false
     → front (f ++ k ∷ us) w ≡ front_with k (has_proof (f ++ k ∷ us)) (symbol_names (f ++ k ∷ us)) w
 front_at f k us w h e =
     let whole = f ++ k ∷ us in
@@ -128,7 +128,7 @@ front_is_at f k us w h e d p =
 
 -- ---- a word at a place, by its tests
 
-and_false : (b : Bool) → (b && false) ≡ false
+pub and_false : (b : Bool) → (b && false) ≡ false
 and_false true = refl
 and_false false = refl
 
@@ -150,12 +150,12 @@ passes_by e f w after k g is_k is_g plain some h =
     subst AllFalse (sym tests) h
 
 -- a keyword
-keyword_by : (e : List (List Name)) (f : List Name) (w : Name) (after : List Name) (g : Front) → front f w ≡ g
+pub keyword_by : (e : List (List Name)) (f : List Name) (w : Name) (after : List Name) (g : Front) → front f w ≡ g
     → AllFalse (table (known e w) g (token w) (taken e f w) (extra f w after) (bad f w)) → Passes e f w after
 keyword_by e f w after g is h = subst (λ x. AllFalse (table (known e w) x (token w) (taken e f w) (extra f w after) (bad f w))) (sym is) h
 
 -- a label
-label_passes : (e : List (List Name)) (n k : Name) → HasNoDollar n → list_any (bytes_eq k) labelled ≡ true → contains (labels_of e) n ≡ false → list_all is_label_byte n ≡ true → Passes e [] n (k ∷ [])
+pub label_passes : (e : List (List Name)) (n k : Name) → HasNoDollar n → list_any (bytes_eq k) labelled ≡ true → contains (labels_of e) n ≡ false → list_all is_label_byte n ≡ true → Passes e [] n (k ∷ [])
 label_passes e n k plain is_k new bytes =
     let no_taken : taken e [] n ≡ false = ap (λ b. is_label_at [] n && b) new ∙ and_false (is_label_at [] n) in
     let no_extra : extra [] n (k ∷ []) ≡ false = ap (λ b. is_label_at [] n && (not b || false)) is_k ∙ and_false (is_label_at [] n) in
@@ -172,10 +172,10 @@ module _ (e : List (List Name)) (n : Name) (plain : HasNoDollar n) where
   keyword_front : (w : Name) → front (n ∷ []) w ≡ front_from false true (has_proof (n ∷ [])) (symbol_names (n ∷ [])) (λ ks. keyword_is ks (n ∷ [])) (λ j. has_kw j (n ∷ [])) w
   keyword_front w = ap (λ b. front_from false b (has_proof (n ∷ [])) (symbol_names (n ∷ [])) (λ ks. keyword_is ks (n ∷ [])) (λ j. has_kw j (n ∷ [])) w) (plain_is n plain)
 
-  hyp_keyword : (after : List Name) → Passes e (n ∷ []) (codes "$e") after
+  pub hyp_keyword : (after : List Name) → Passes e (n ∷ []) (codes "$e") after
   hyp_keyword after = keyword_by e (n ∷ []) (codes "$e") after _ (keyword_front (codes "$e")) (refl, (refl, (refl, (refl, (refl, (refl, (refl, (refl, (refl, (refl, (refl, (refl, (refl, (refl, (refl, (refl, (refl, (refl, tt))))))))))))))))))
 
-  theorem_keyword : (after : List Name) → Passes e (n ∷ []) (codes "$p") after
+  pub theorem_keyword : (after : List Name) → Passes e (n ∷ []) (codes "$p") after
   theorem_keyword after = keyword_by e (n ∷ []) (codes "$p") after _ (keyword_front (codes "$p")) (refl, (refl, (refl, (refl, (refl, (refl, (refl, (refl, (refl, (refl, (refl, (refl, (refl, (refl, (refl, (refl, (refl, (refl, tt))))))))))))))))))
 
 -- ---- the tests at each word of the block
@@ -187,7 +187,7 @@ inside c ev v t = record { constant = c; ever = ev; variable = v; typed = t; out
 abbrev pub IsMeant : Bool → Bool → Bool → Type 0
 IsMeant c v t = ((c ≡ true) × (v ≡ false)) ⊎ ((v ≡ true) × (t ≡ true))
 
-pair_symbol : (c ev v t s : Bool) (us : List Name) (w : Name) → v ≡ true → contains us w ≡ s → s ≡ false → AllFalse (table (inside c ev v t) (front_with (codes "$d") false us w) plain_word false false false)
+pub pair_symbol : (c ev v t s : Bool) (us : List Name) (w : Name) → v ≡ true → contains us w ≡ s → s ≡ false → AllFalse (table (inside c ev v t) (front_with (codes "$d") false us w) plain_word false false false)
 pair_symbol c ev false t s us w h is e = absurd cc
 pair_symbol c ev true t s us w h is e = let none : contains us w ≡ false = is ∙ e in (refl, (refl, (refl, (refl, (refl, (refl, (refl, (refl, (refl, (refl, (refl, (refl, (refl, (none, (refl, (refl, (refl, (refl, tt))))))))))))))))))
 
@@ -196,13 +196,13 @@ abbrev pub keyword_of : Bool → Name
 keyword_of true = codes "$e"
 keyword_of false = codes "$p"
 
-first_symbol : (b c ev v t : Bool) (w : Name) → c ≡ true → v ≡ false → AllFalse (table (inside c ev v t) (front_with (keyword_of b) false [] w) plain_word false false false)
+pub first_symbol : (b c ev v t : Bool) (w : Name) → c ≡ true → v ≡ false → AllFalse (table (inside c ev v t) (front_with (keyword_of b) false [] w) plain_word false false false)
 first_symbol true true ev false t w h k = (refl, (refl, (refl, (refl, (refl, (refl, (refl, (refl, (refl, (refl, (refl, (refl, (refl, (refl, (refl, (refl, (refl, (refl, tt))))))))))))))))))
 first_symbol false true ev false t w h k = (refl, (refl, (refl, (refl, (refl, (refl, (refl, (refl, (refl, (refl, (refl, (refl, (refl, (refl, (refl, (refl, (refl, (refl, tt))))))))))))))))))
 first_symbol b false ev v t w h k = absurd cc
 first_symbol b true ev true t w h k = absurd cc
 
-later_symbol : (b c ev v t : Bool) (u : Name) (us : List Name) (w : Name) → IsMeant c v t → AllFalse (table (inside c ev v t) (front_with (keyword_of b) false (u ∷ us) w) plain_word false false false)
+pub later_symbol : (b c ev v t : Bool) (u : Name) (us : List Name) (w : Name) → IsMeant c v t → AllFalse (table (inside c ev v t) (front_with (keyword_of b) false (u ∷ us) w) plain_word false false false)
 later_symbol b false ev false t u us w (inl h) = let x = h.0 in absurd cc
 later_symbol b false ev false t u us w (inr h) = let x = h.0 in absurd cc
 later_symbol b c ev true false u us w (inl h) = let x = h.1 in absurd cc
@@ -214,5 +214,5 @@ later_symbol false false ev true true u us w h = (refl, (refl, (refl, (refl, (re
 later_symbol true true ev true true u us w h = (refl, (refl, (refl, (refl, (refl, (refl, (refl, (refl, (refl, (refl, (refl, (refl, (refl, (refl, (refl, (refl, (refl, (refl, tt))))))))))))))))))
 later_symbol false true ev true true u us w h = (refl, (refl, (refl, (refl, (refl, (refl, (refl, (refl, (refl, (refl, (refl, (refl, (refl, (refl, (refl, (refl, (refl, (refl, tt))))))))))))))))))
 
-proof_word : (c ev v t : Bool) (us : List Name) (w : Name) → AllFalse (table (inside c ev v t) (front_with (codes "$p") true us w) plain_word false false false)
+pub proof_word : (c ev v t : Bool) (us : List Name) (w : Name) → AllFalse (table (inside c ev v t) (front_with (codes "$p") true us w) plain_word false false false)
 proof_word c ev v t us w = (refl, (refl, (refl, (refl, (refl, (refl, (refl, (refl, (refl, (refl, (refl, (refl, (refl, (refl, (refl, (refl, (refl, (refl, tt))))))))))))))))))

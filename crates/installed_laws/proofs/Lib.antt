@@ -1,4 +1,5 @@
 mod RuleTable
+mod BlockWalk
 mod BlockWords
 mod ByteFaults
 mod Walks
