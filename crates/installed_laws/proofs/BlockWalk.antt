@@ -142,13 +142,13 @@ close_walk e is = ((refl, (refl, (refl, (refl, (refl, (refl, (refl, (refl, (refl
 -- ---- what is known in the block
 
 -- it opens and closes nothing, and declares nothing
-abbrev Quiet : List Name → Type 0
+abbrev pub Quiet : List Name → Type 0
 Quiet s = IsNoBrace s × ((has_kw (codes "$c") s ≡ false) × ((has_kw (codes "$v") s ≡ false) × (has_kw (codes "$f") s ≡ false)))
 
-pair_quiet : (p : Name × Name) → Quiet (pair_statement p)
+pub pair_quiet : (p : Name × Name) → Quiet (pair_statement p)
 pair_quiet p = ((refl, refl), (refl, (refl, refl)))
 
-labelled_quiet : (b : Bool) (n : Name) (ns : List Name) → HasNoDollar n → Quiet (n ∷ keyword_of b ∷ ns)
+pub labelled_quiet : (b : Bool) (n : Name) (ns : List Name) → HasNoDollar n → Quiet (n ∷ keyword_of b ∷ ns)
 labelled_quiet true n ns h = let is = has_at (n ∷ []) (codes "$e") ns (h, tt) refl in ((is (codes "${"), is (codes "$}")), (is (codes "$c"), (is (codes "$v"), is (codes "$f"))))
 labelled_quiet false n ns h = let is = has_at (n ∷ []) (codes "$p") ns (h, tt) refl in ((is (codes "${"), is (codes "$}")), (is (codes "$c"), (is (codes "$v"), is (codes "$f"))))
 
@@ -158,7 +158,7 @@ module _ (base : List (List Name)) (outside : path_of base ≡ []) where
   in_block i = (i ++ opened ∷ []) ++ base
 
   module _ (kind : List Name → Bool) (no_open : kind opened ≡ false) where
-    all_kept : (i : List (List Name)) → AllByRecursion (λ s. kind s ≡ false) i → filter kind (in_block i) ≡ filter kind base
+    pub all_kept : (i : List (List Name)) → AllByRecursion (λ s. kind s ≡ false) i → filter kind (in_block i) ≡ filter kind base
     all_kept [] h = cond_else (kind opened) (opened ∷ filter kind base) (filter kind base) no_open
     all_kept (s ∷ i) h = cond_else (kind s) (s ∷ filter kind (in_block i)) (filter kind (in_block i)) h.0 ∙ all_kept i h.1
 
@@ -176,7 +176,7 @@ module _ (base : List (List Name)) (outside : path_of base ≡ []) where
         ap (λ p. filter kind (on_path p (in_block i))) (within i base q outside i q) ∙ on_kept (length base ∷ []) i h
         ∙ ap (filter kind) (only_outside (length base) (length base ∷ []) base (own, tt) own) ∙ ap (λ p. filter kind (on_path p base)) (sym outside)
 
-  quiet_part : (P : List Name → Type 0) → ((s : List Name) → Quiet s → P s) → (i : List (List Name)) → AllByRecursion Quiet i → AllByRecursion P i
+  pub quiet_part : (P : List Name → Type 0) → ((s : List Name) → Quiet s → P s) → (i : List (List Name)) → AllByRecursion Quiet i → AllByRecursion P i
   quiet_part P f [] h = tt
   quiet_part P f (s ∷ i) h = (f s h.0, quiet_part P f i h.1)
 
@@ -291,7 +291,7 @@ module _ (base : List (List Name)) (outside : path_of base ≡ []) where
     pub fresh : AllByRecursion (λ n. contains (labels_of base) n ≡ false) (new_labels t)
     pub differ : has_twice (new_labels t) ≡ false
 
-  pub block_passes : (t : NewTheorem) → Fits t → Each base → Each (closed ∷ in_block (reverse (inner t)))
+  pub block_passes : (t : NewTheorem) → Fits t → Each base → AllByRecursion Quiet (reverse (inner t)) × Each (closed ∷ in_block (reverse (inner t)))
   block_passes t f each =
       let start : State [] (new_labels t) = record { quiet = tt; each = (open_walk base, each); fresh = f.fresh; differ = f.differ } in
       let one = pairs_state t.pairs [] (new_labels t) f.pairs start in
@@ -301,4 +301,4 @@ module _ (base : List (List Name)) (outside : path_of base ≡ []) where
       reverse_more (map pair_statement t.pairs ++ map hyp_statement t.hyps) (theorem_statement t ∷ []) []
       ∙ ap (λ ss. theorem_statement t ∷ ss) (reverse_more (map pair_statement t.pairs) (map hyp_statement t.hyps) []) in
       let s = subst (λ i. State i []) (sym same) three in
-      (close_walk (in_block (reverse (inner t))) (ap is_empty (path_in (reverse (inner t)) s.quiet)), s.each)
+      (s.quiet, (close_walk (in_block (reverse (inner t))) (ap is_empty (path_in (reverse (inner t)) s.quiet)), s.each))

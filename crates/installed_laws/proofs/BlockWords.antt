@@ -81,7 +81,7 @@ one_of_at f k us h e ks = ap (λ ns. list_any (λ n. list_any (bytes_eq n) ks) (
 pub has_at : (f : List Name) (k : Name) (us : List Name) → ArePlain f → is_plain k ≡ false → (j : Name) → has_kw j (f ++ k ∷ us) ≡ bytes_eq k j
 has_at f k us h e j = ap (λ ns. list_any (λ n. bytes_eq n j) (take 1 ns)) (body_at f k us h e) ∙ or_false (bytes_eq k j)
 
-empty_at : (f : List Name) (k : Name) (us : List Name) → is_empty (f ++ k ∷ us) ≡ false
+pub empty_at : (f : List Name) (k : Name) (us : List Name) → is_empty (f ++ k ∷ us) ≡ false
 empty_at [] k us = refl
 empty_at (n ∷ f) k us = refl
 

@@ -93,12 +93,12 @@ good_ended (x ∷ xs) h = good_join (ended x) (flat_map ended xs) (good_join x (
 
 -- ---- the symbols that are declared in a text
 
-all_taken : {X : Type 0} (P : X → Type 0) (n : ℕ) (xs : List X) → AllByRecursion P xs → AllByRecursion P (take n xs)
+pub all_taken : {X : Type 0} (P : X → Type 0) (n : ℕ) (xs : List X) → AllByRecursion P xs → AllByRecursion P (take n xs)
 all_taken P zero xs h = tt
 all_taken P (suc n) [] h = tt
 all_taken P (suc n) (x ∷ xs) h = (h.0, all_taken P n xs h.1)
 
-all_dropped : {X : Type 0} (P : X → Type 0) (n : ℕ) (xs : List X) → AllByRecursion P xs → AllByRecursion P (drop n xs)
+pub all_dropped : {X : Type 0} (P : X → Type 0) (n : ℕ) (xs : List X) → AllByRecursion P xs → AllByRecursion P (drop n xs)
 all_dropped P zero xs h = h
 all_dropped P (suc n) [] h = tt
 all_dropped P (suc n) (x ∷ xs) h = all_dropped P n xs h.1
@@ -147,7 +147,7 @@ module _ (P : Name → Type 0) where
       by false k = k
 
   -- so also of a symbol among them
-  named : (ns : List Name) (n : Name) → AllByRecursion P ns → contains ns n ≡ true → P n
+  pub named : (ns : List Name) (n : Name) → AllByRecursion P ns → contains ns n ≡ true → P n
   named [] n h c = absurd cc
   named (m ∷ ns) n h c = elim (or_cases (bytes_eq n m) (contains ns n) c) [
     | inl e ↦ subst P (sym (same_names n m e)) h.0
