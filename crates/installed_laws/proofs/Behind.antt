@@ -15,6 +15,7 @@ use Rattle.install_laws.proofs.ActiveBlock.{IsNoBrace, opened, closed, kept_behi
 use Rattle.installed_laws.proofs.RuleTable.{Known, AllFalse, table, known, front, token, taken, extra, bad, is_label_at, constants_of, ever_of, typed_of, labels_of, Passes}
 use Rattle.installed_laws.proofs.Walks.{Walk, Each}
 use Rattle.installed_laws.proofs.BlockWords.{and_false, empty_at}
+use Rattle.installed_laws.proofs.ConstantsApart.{while_plain}
 use Rattle.installed_laws.proofs.BlockWalk.{Quiet, in_block, all_kept, quiet_part}
 
 empty_map : {X Y : Type 0} (f : X → Y) (xs : List X) → is_empty (map f xs) ≡ is_empty xs
@@ -98,7 +99,7 @@ module _ (base i : List (List Name)) (outside : path_of base ≡ []) (quiet : Al
   walk_behind y (w ∷ s) other h = (passes_behind y [] w (take 1 s) own h.0, walk_on y (w ∷ []) s refl h.1)
     where
       own : IsOther [] w
-      own is = (subst (λ b. AllByRecursion (λ n. contains (labels_of i) n ≡ false) (take (cond b (1 + prefix_len is_plain s) 0) (w ∷ s))) (and_parts (is_plain w) true is).0 other).0
+      own is = (subst (AllByRecursion (λ n. contains (labels_of i) n ≡ false)) (while_plain w s (and_parts (is_plain w) true is).0) other).0
 
   pub each_behind : (y : List (List Name)) → AllByRecursion HasOtherLabels y → Each (y ++ base) → Each closed_block → Each (y ++ closed_block)
   each_behind [] other h block = block

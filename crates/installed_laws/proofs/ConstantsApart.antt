@@ -1,5 +1,5 @@
 -- No constant is a variable, by the bytes of tokens.
-use Rattle.std.proofs.Common.{◌≡◌, ℕ, suc, ◌+◌, Bool, true, false, not, ◌&&◌, ◌||◌, cond, List, [], ◌∷◌, ◌++◌, take, drop, flat_map, refl, sym, ap, ◌∙◌, subst, inl, inr, codes, append_assoc, arith}
+use Rattle.std.proofs.Common.{◌≡◌, ◌⊎◌, ℕ, suc, ◌+◌, Bool, true, false, not, ◌&&◌, ◌||◌, cond, List, [], ◌∷◌, ◌++◌, take, drop, flat_map, refl, sym, ap, ◌∙◌, subst, inl, inr, codes, append_assoc, arith}
 use Rattle.std.specs.Prelude.{filter, take_while}
 use Rattle.std.specs.List.{AllByRecursion, list_any, list_all, prefix_len}
 use Rattle.std.specs.Str.{bytes_eq}
@@ -18,7 +18,7 @@ use Rattle.installed_laws.proofs.BlockWords.{ArePlain, plain_word, plain_token, 
 one_plus : (m : ℕ) → 1 + m ≡ suc m
 one_plus m = omega arith
 
-while_plain : (x : Name) (xs : List Name) → is_plain x ≡ true → take_while is_plain (x ∷ xs) ≡ x ∷ take_while is_plain xs
+pub while_plain : (x : Name) (xs : List Name) → is_plain x ≡ true → take_while is_plain (x ∷ xs) ≡ x ∷ take_while is_plain xs
 while_plain x xs e = ap (λ b. take (cond b (1 + prefix_len is_plain xs) 0) (x ∷ xs)) e ∙ ap (λ m. take m (x ∷ xs)) (one_plus (prefix_len is_plain xs))
 
 while_stops : (x : Name) (xs : List Name) → is_plain x ≡ false → take_while is_plain (x ∷ xs) ≡ []
@@ -95,11 +95,14 @@ variable_new e s n h is c =
 
 -- of `$c` and `$v` a statement has one keyword
 one_keyword : (s : List Name) → has_kw (codes "$c") s ≡ true → has_kw (codes "$v") s ≡ true → ⊥
-one_keyword s h k = by (take 1 (body_names s)) h k
+one_keyword s h k = by (body_names s) h k
   where
-    by : (ns : List Name) → list_any (λ m. bytes_eq m (codes "$c")) ns ≡ true → list_any (λ m. bytes_eq m (codes "$v")) ns ≡ true → ⊥
-    by [] h k = cc
-    by (m ∷ ns) h k = cc
+    first : (m j : Name) → (bytes_eq m j || false) ≡ true → m ≡ j
+    first m j h = elim (or_cases (bytes_eq m j) false h) [ inl d ↦ same_names m j d | inr d ↦ let bad : false ≡ true = d in absurd cc ]
+
+    by : (ns : List Name) → list_any (λ m. bytes_eq m (codes "$c")) (take 1 ns) ≡ true → list_any (λ m. bytes_eq m (codes "$v")) (take 1 ns) ≡ true → ⊥
+    by [] h k = let bad : false ≡ true = h in absurd cc
+    by (m ∷ ns) h k = let bad : false ≡ true = subst (λ x. (bytes_eq x (codes "$v") || false) ≡ true) (first m (codes "$c") h) k in absurd cc
 
 -- what a name among those that statements with a keyword declare stands in
 split_declared : (k : Name) (s : List Name) (e : List (List Name)) (n : Name) → (b : Bool) → has_kw k s ≡ b → contains (flat_map symbol_names (cond b (s ∷ filter (has_kw k) e) (filter (has_kw k) e))) n ≡ true
