@@ -44,7 +44,7 @@ same_active syms a b same =
 abbrev pub inner : NewTheorem → List (List Name)
 inner t = map pair_statement t.pairs ++ map hyp_statement t.hyps ++ theorem_statement t ∷ []
 
-block_is : (t : NewTheorem) → block_statements t ≡ (codes "${" ∷ []) ∷ (inner t ++ (codes "$}" ∷ []) ∷ [])
+pub block_is : (t : NewTheorem) → block_statements t ≡ (codes "${" ∷ []) ∷ (inner t ++ (codes "$}" ∷ []) ∷ [])
 block_is t = by (map pair_statement t.pairs) (map hyp_statement t.hyps) (theorem_statement t)
   where
     by : (a b : List (List Name)) (s : List Name) → (codes "${" ∷ []) ∷ a ++ b ++ s ∷ (codes "$}" ∷ []) ∷ [] ≡ (codes "${" ∷ []) ∷ ((a ++ b ++ s ∷ []) ++ (codes "$}" ∷ []) ∷ [])

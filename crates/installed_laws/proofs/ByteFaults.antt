@@ -213,7 +213,7 @@ label_good (c ∷ n) h =
 
 -- ---- the block
 
-mapped_left : {X Y : Type 0} (P : Y → Type 0) (f : X → Y) (xs : List X) (y : Y) → AllByRecursion P (map f xs ++ y ∷ []) → AllByRecursion (λ x. P (f x)) xs × P y
+pub mapped_left : {X Y : Type 0} (P : Y → Type 0) (f : X → Y) (xs : List X) (y : Y) → AllByRecursion P (map f xs ++ y ∷ []) → AllByRecursion (λ x. P (f x)) xs × P y
 mapped_left P f [] y h = (tt, h.0)
 mapped_left P f (x ∷ xs) y h = let r = mapped_left P f xs y h.1 in ((h.0, r.0), r.1)
 

@@ -1,16 +1,17 @@
 -- No constant is a variable, by the bytes of tokens.
-use Rattle.std.proofs.Common.{◌≡◌, ◌⊎◌, ℕ, suc, ◌+◌, Bool, true, false, not, ◌&&◌, ◌||◌, cond, List, [], ◌∷◌, ◌++◌, take, drop, flat_map, refl, sym, ap, ◌∙◌, subst, inl, inr, codes, append_assoc, arith}
+use Rattle.std.proofs.Common.{◌≡◌, ◌⊎◌, ℕ, suc, ◌+◌, Bool, true, false, not, ◌&&◌, ◌||◌, cond, List, [], ◌∷◌, ◌++◌, take, drop, flat_map, refl, sym, ap, ◌∙◌, subst, inl, inr, codes, append_assoc, arith, nat_eq}
 use Rattle.std.specs.Prelude.{filter, take_while}
-use Rattle.std.specs.List.{AllByRecursion, list_any, list_all, prefix_len}
+use Rattle.std.specs.List.{AllByRecursion, list_any, list_all, prefix_len, ends_with}
 use Rattle.std.specs.Str.{bytes_eq}
-use Rattle.std.proofs.lemmas.Bool.{cases_Bool, or_cases, or_parts, not-true, both_ways}
+use Rattle.std.proofs.lemmas.Bool.{cases_Bool, or_cases, or_left, or_right, or_parts, not-true, both_ways}
 use Rattle.std.proofs.lemmas.List.Folds.{list_any-append}
 use Rattle.mm_model.specs.Names.{Name, contains}
 use Rattle.model_laws.proofs.Listed.{same_names}
 use Rattle.install_laws.specs.InstalledStatements.{HasNoDollar}
 use Rattle.install_laws.proofs.ActiveLaw.{all_append}
 use Rattle.install_laws.proofs.NamesLaw.{is_plain, body_names, symbol_names}
-use Rattle.install_laws.proofs.ActiveNames.{has_kw}
+use Rattle.model_laws.proofs.Passing.{any-filter, any_kept, any-flat}
+use Rattle.install_laws.proofs.ActiveNames.{has_kw, path_of, on_path, active_of, variables_of}
 use Rattle.installed_laws.proofs.RuleTable.{AllFalse, table, token, front, known, taken, extra, bad, constants_of, ever_of, Passes}
 use Rattle.installed_laws.proofs.Walks.{Walk, Each}
 use Rattle.installed_laws.proofs.BlockWords.{ArePlain, plain_word, plain_token, front_with, front_is_at}
@@ -127,3 +128,19 @@ constants_apart (s ∷ e) h n c v =
         | inr b ↦ constants_apart e h.1 n a b
       ]
     ]
+
+-- an active variable was declared
+pub active_ever : (e : List (List Name)) (n : Name) → contains (variables_of e) n ≡ true → contains (ever_of e) n ≡ true
+active_ever e n h =
+    let q : List Name → Bool = λ s. has_kw (codes "$v") s && contains (symbol_names s) n in
+    let some : list_any q (active_of e) ≡ true =
+    any-filter (λ s. contains (symbol_names s) n) (has_kw (codes "$v")) (active_of e) (sym (any-flat (bytes_eq n) symbol_names (filter (has_kw (codes "$v")) (active_of e))) ∙ h) in
+    any-flat (bytes_eq n) symbol_names (filter (has_kw (codes "$v")) e) ∙ any_kept (λ s. contains (symbol_names s) n) (has_kw (codes "$v")) e (any-on q (path_of e) e some)
+  where
+    any-on : (q : List Name → Bool) (p : List ℕ) (e : List (List Name)) → list_any q (on_path p e) ≡ true → list_any q e ≡ true
+    any-on q p [] h = h
+    any-on q p (s ∷ e) h = by (ends_with nat_eq p (path_of e)) h (any-on q p e)
+      where
+        by : (b : Bool) → list_any q (cond b (s ∷ on_path p e) (on_path p e)) ≡ true → (list_any q (on_path p e) ≡ true → list_any q e ≡ true) → (q s || list_any q e) ≡ true
+        by true k more = elim (or_cases (q s) (list_any q (on_path p e)) k) [ inl d ↦ or_left (q s) (list_any q e) d | inr d ↦ or_right (q s) (list_any q e) (more d) ]
+        by false k more = or_right (q s) (list_any q e) (more k)

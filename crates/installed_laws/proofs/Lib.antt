@@ -1,3 +1,4 @@
+mod NoFaultLaw
 mod RuleTable
 mod Behind
 mod BlockWalk

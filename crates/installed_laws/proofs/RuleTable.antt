@@ -167,7 +167,7 @@ second_symbols [] = refl
 second_symbols (s ∷ ss) =
     ap (λ xs. second xs ++ flat_map (λ x. second (symbols_in x)) ss) (symbols_by s) ∙ ap (λ xs. second (symbol_names (names s)) ++ xs) (second_symbols ss)
 
-typed_by : (e : List Statement) → typed e ≡ typed_of (tokens_of e)
+pub typed_by : (e : List Statement) → typed e ≡ typed_of (tokens_of e)
 typed_by e = second_symbols (with_keyword (codes "$f") (active e)) ∙ ap (flat_map (λ s. second (symbol_names s))) (kept_by (codes "$f") e)
 
 pub known_is : (e : List Statement) (w : Name) → known_from (constants e) (variables_ever e) (variables e) (typed e) (path e) w ≡ known (tokens_of e) w
