@@ -35,7 +35,7 @@ use Rattle.installed_laws.proofs.Walks.{Each, each_walked, no_token_fault}
 use Rattle.installed_laws.proofs.WordFaults.{are_fine, no_words_fault, fine_new, left_new}
 use Rattle.installed_laws.proofs.ByteFaults.{good_text, no_bad_byte, earlier_none, new_good, named, all_taken, all_dropped, mapped_left}
 use Rattle.installed_laws.proofs.ConstantsApart.{constants_apart, active_ever}
-use Rattle.installed_laws.proofs.BlockWalk.{Fits, Formula, Meant, in_block, block_passes}
+use Rattle.installed_laws.proofs.BlockWalk.{Quiet, Fits, Formula, Meant, IsHyp, in_block, block_passes}
 use Rattle.installed_laws.proofs.Behind.{closed_block, each_behind, path_behind, HasOtherLabels}
 
 -- ---- the parts of a text's fault
@@ -204,7 +204,11 @@ module _ (text : List ℕ) (place : ℕ) (t : NewTheorem) (can : CanBePutIn text
         let bytes = mapped_left (λ n. list_all is_label_byte n ≡ true) (λ (h : Name × List Name). h.0) t.hyps t.name can.label_bytes in
         record {
           pairs = all_and _ _ _ (λ p plain k. (plain, pair p k)) t.pairs can.plain.pairs can.pairs;
-          hyps = all_and _ _ _ (λ h one k. ((one.0.0, one.1), (one.0.1, formula h.1 k))) t.hyps (all_and _ _ _ (λ h plain l. (plain, l)) t.hyps can.plain.hyps bytes.0) can.hyps;
+          hyps =
+              all_and (λ (h : Name × List Name). (IsPlain h.0 × AllByRecursion IsPlain h.1) × (list_all is_label_byte h.0 ≡ true)) (λ h. is_formula b h.1 ≡ true) (IsHyp base outside)
+              (λ h one k. ((one.0.0, one.1), (one.0.1, formula h.1 k))) t.hyps
+              (all_and (λ (h : Name × List Name). IsPlain h.0 × AllByRecursion IsPlain h.1) (λ h. list_all is_label_byte h.0 ≡ true)
+              (λ h. (IsPlain h.0 × AllByRecursion IsPlain h.1) × (list_all is_label_byte h.0 ≡ true)) (λ h plain l. (plain, l)) t.hyps can.plain.hyps bytes.0) can.hyps;
           label = (can.plain.name, bytes.1);
           formula = (can.plain.formula, formula t.formula can.formula);
           proof = can.plain.proof;
@@ -242,7 +246,7 @@ module _ (text : List ℕ) (place : ℕ) (t : NewTheorem) (ok : database_fault t
   out : path_of (base text place t can) ≡ []
   out = outside text place t can
 
-  block_fits : AllByRecursion _ i × Each (closed ∷ in_block (base text place t can) out i)
+  block_fits : AllByRecursion Quiet i × Each (closed ∷ in_block (base text place t can) out i)
   block_fits = block_passes (base text place t can) out t (fits text place t can each_base) each_base
 
   new_turned : tokens_of (last_first new) ≡ back ++ closed_block (base text place t can) i out block_fits.0
