@@ -243,7 +243,7 @@ module _ (text : List ℕ) (place : ℕ) (t : NewTheorem) (ok : database_fault t
   each_base : Each (base text place t can)
   each_base = each_tail back (base text place t can) each_old
 
-  out : path_of (base text place t can) ≡ []
+  abbrev out : path_of (base text place t can) ≡ []
   out = outside text place t can
 
   block_fits : AllByRecursion Quiet i × Each (closed ∷ in_block (base text place t can) out i)
