@@ -1,7 +1,7 @@
 -- A statement behind a closed block passes the rules, where it passed them without the block and has no label of it.
-use Rattle.std.proofs.Common.{◌≡◌, ℕ, Bool, true, false, ◌&&◌, ◌||◌, ◌+◌, cond, List, [], ◌∷◌, ◌++◌, take, map, flat_map, refl, sym, ap, ◌∙◌, subst, inl, inr, codes}
+use Rattle.std.proofs.Common.{◌≡◌, Bool, true, false, ◌&&◌, ◌||◌, cond, List, [], ◌∷◌, ◌++◌, take, map, flat_map, refl, sym, ap, ◌∙◌, subst, inl, inr, codes}
 use Rattle.std.specs.Prelude.{filter}
-use Rattle.std.specs.List.{AllByRecursion, list_any, prefix_len}
+use Rattle.std.specs.List.{AllByRecursion}
 use Rattle.std.specs.Str.{bytes_eq}
 use Rattle.std.proofs.lemmas.Bool.{cases_Bool, and_parts}
 use Rattle.std.proofs.lemmas.Grind.{flat_map-append}
@@ -10,7 +10,7 @@ use Rattle.std.proofs.lemmas.List.Folds.{list_any-append}
 use Rattle.mm_model.specs.Names.{Name, contains}
 use Rattle.mm_model.specs.Statements.{is_empty, second}
 use Rattle.install_laws.proofs.NamesLaw.{is_plain, symbol_names, label_names}
-use Rattle.install_laws.proofs.ActiveNames.{has_kw, path_of, active_of, variables_of}
+use Rattle.install_laws.proofs.ActiveNames.{has_kw, path_of, variables_of}
 use Rattle.install_laws.proofs.ActiveBlock.{IsNoBrace, opened, closed, kept_behind, path_over}
 use Rattle.installed_laws.proofs.RuleTable.{Known, AllFalse, table, known, front, token, taken, extra, bad, is_label_at, constants_of, ever_of, typed_of, labels_of, Passes}
 use Rattle.installed_laws.proofs.Walks.{Walk, Each}

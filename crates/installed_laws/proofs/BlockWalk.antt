@@ -1,9 +1,9 @@
 -- Each statement of the block of a theorem that can be put in passes the rules.
-use Rattle.std.proofs.Common.{◌≡◌, ℕ, suc, ◌≤◌, Bool, true, false, not, ◌||◌, cond, List, [], ◌∷◌, ◌++◌, take, map, reverse, length, flat_map, refl, sym, ap, ◌∙◌, subst, inl, inr}
+use Rattle.std.proofs.Common.{◌≡◌, ℕ, ◌≤◌, Bool, true, false, ◌||◌, cond, List, [], ◌∷◌, ◌++◌, take, map, reverse, length, flat_map, refl, sym, ap, ◌∙◌, subst, inl, inr}
 use Rattle.std.proofs.Common.{codes, append_assoc, append-nil, arith, nat_eq}
 use Rattle.std.specs.Prelude.{filter}
 use mathlib.Core.List.{reverse_aux}
-use Rattle.std.specs.List.{AllByRecursion, list_any, list_all, ends_with}
+use Rattle.std.specs.List.{AllByRecursion, list_all, ends_with}
 use Rattle.std.specs.Str.{bytes_eq}
 use Rattle.std.proofs.lemmas.Bool.{cases_Bool, or_parts, or_right}
 use Rattle.std.proofs.lemmas.Slice.Eq.{bytes_eq-Decides}
@@ -13,15 +13,15 @@ use Rattle.mm_model.specs.Words.{words}
 use Rattle.mm_model.specs.Statements.{is_empty, second}
 use Rattle.mm_model.proofs.Scopes.{cond_else}
 use Rattle.install_model.specs.declared.install.NewTheorem.{NewTheorem}
-use Rattle.install_laws.specs.InstalledStatements.{names, HasNoDollar, IsPlain, IsPlainTheorem, pair_statement, hyp_statement, theorem_statement}
+use Rattle.install_laws.specs.InstalledStatements.{names, HasNoDollar, IsPlain, pair_statement, hyp_statement, theorem_statement}
 use Rattle.install_laws.specs.InstalledNames.{new_labels}
-use Rattle.install_laws.proofs.WordLaws.{plain_dollar, names_dollar, names_in}
+use Rattle.install_laws.proofs.WordLaws.{plain_dollar, names_dollar}
 use Rattle.install_laws.proofs.StatementsLaw.{dollars}
 use Rattle.install_laws.proofs.ActiveLaw.{all_append, inner}
 use Rattle.install_laws.proofs.NamesLaw.{is_plain, symbol_names, label_names, plain_is}
 use Rattle.install_laws.proofs.ActiveNames.{has_kw, path_of, on_path, active_of, variables_of}
 use Rattle.install_laws.proofs.ActiveBlock.{IsNoBrace, opened, closed, within, only_outside}
-use Rattle.installed_laws.proofs.RuleTable.{front, known, known_from, has_proof, constants_of, ever_of, typed_of, labels_of, Passes}
+use Rattle.installed_laws.proofs.RuleTable.{front, known, known_from, has_proof, constants_of, ever_of, typed_of, labels_of}
 use Rattle.installed_laws.proofs.Walks.{Walk, Each}
 use Rattle.installed_laws.proofs.BlockWords.{ArePlain, IsMeant, inside, front_with, keyword_of, passes_by, keyword_by, label_passes, hyp_keyword, theorem_keyword, pair_symbol}
 use Rattle.installed_laws.proofs.BlockWords.{first_symbol, later_symbol, proof_word, front_is_at, front_at, has_at}
@@ -55,14 +55,14 @@ module _ (e : List (List Name)) (c ev v t : List Name) (is_inside : (w : Name) �
     (refl, (refl, (refl, (refl, (refl, (refl, (refl, (refl, (refl, (refl, (refl, (refl, (refl, (refl, (refl, (refl, (refl, (refl, tt)))))))))))))))))),
     (
       passes_by e (codes "$d" ∷ []) x (y ∷ []) _ (front_with (codes "$d") false [] x) (is_inside x) (front_is_at [] (codes "$d") [] x tt refl refl tt) px refl
-      (pair_symbol (contains c x) (contains ev x) (contains v x) (contains t x) false [] x vx refl refl),
+          (pair_symbol (contains c x) (contains ev x) (contains v x) (contains t x) false [] x vx refl refl),
       (
         passes_by e (codes "$d" ∷ x ∷ []) y (codes "$." ∷ []) _ (front_with (codes "$d") false (x ∷ []) y) (is_inside y) (front_is_at [] (codes "$d") (x ∷ []) y tt refl refl (px, tt)) py refl
-        (pair_symbol (contains c y) (contains ev y) (contains v y) (contains t y) false (x ∷ []) y vy (ap (λ b. b || false) d) refl),
+            (pair_symbol (contains c y) (contains ev y) (contains v y) (contains t y) false (x ∷ []) y vy (ap (λ b. b || false) d) refl),
         (
           keyword_by e (codes "$d" ∷ x ∷ y ∷ []) (codes "$.") [] (front_with (codes "$d") false (x ∷ y ∷ []) (codes "$."))
-          (front_is_at [] (codes "$d") (x ∷ y ∷ []) (codes "$.") tt refl refl (px, (py, tt)))
-          (refl, (refl, (refl, (refl, (refl, (refl, (refl, (refl, (refl, (refl, (refl, (refl, (refl, (refl, (refl, (refl, (refl, (refl, tt)))))))))))))))))),
+              (front_is_at [] (codes "$d") (x ∷ y ∷ []) (codes "$.") tt refl refl (px, (py, tt)))
+              (refl, (refl, (refl, (refl, (refl, (refl, (refl, (refl, (refl, (refl, (refl, (refl, (refl, (refl, (refl, (refl, (refl, (refl, tt)))))))))))))))))),
           tt,
         ),
       ),
@@ -74,18 +74,18 @@ module _ (e : List (List Name)) (c ev v t : List Name) (is_inside : (w : Name) �
   later_walk b n u us [] tail pn pu pr m h = subst (λ xs. Walk e (n ∷ keyword_of b ∷ u ∷ xs) tail) (append-nil us) h
   later_walk b n u us (x ∷ rest) tail pn pu pr m h = (
     passes_by e (n ∷ keyword_of b ∷ u ∷ us) x (take 1 (rest ++ tail)) _ (front_with (keyword_of b) false (u ∷ us) x) (is_inside x)
-    (front_is_at (n ∷ []) (keyword_of b) (u ∷ us) x (pn, tt) (kw_stops b) (kw_differs b) pu) pr.0 refl
-    (later_symbol b (contains c x) (contains ev x) (contains v x) (contains t x) u us x m.0),
+        (front_is_at (n ∷ []) (keyword_of b) (u ∷ us) x (pn, tt) (kw_stops b) (kw_differs b) pu) pr.0 refl
+        (later_symbol b (contains c x) (contains ev x) (contains v x) (contains t x) u us x m.0),
     later_walk b n u (us ++ x ∷ []) rest tail pn (pu.0, all_append HasNoDollar us (x ∷ []) pu.1 (pr.0, tt)) pr.1 m.1
-    (subst (λ xs. Walk e (n ∷ keyword_of b ∷ u ∷ xs) tail) (sym (append_assoc us (x ∷ []) rest)) h),
+        (subst (λ xs. Walk e (n ∷ keyword_of b ∷ u ∷ xs) tail) (sym (append_assoc us (x ∷ []) rest)) h),
   )
 
   formula_walk : (b : Bool) (n : Name) (ns tail : List Name) → HasNoDollar n → ArePlain ns → Formula c v t ns → Walk e (n ∷ keyword_of b ∷ ns) tail → Walk e (n ∷ keyword_of b ∷ []) (ns ++ tail)
   formula_walk b n [] tail pn ps m h = absurd m
   formula_walk b n (x ∷ ns) tail pn ps m h = (
     passes_by e (n ∷ keyword_of b ∷ []) x (take 1 (ns ++ tail)) _ (front_with (keyword_of b) false [] x) (is_inside x)
-    (front_is_at (n ∷ []) (keyword_of b) [] x (pn, tt) (kw_stops b) (kw_differs b) tt) ps.0 refl
-    (first_symbol b (contains c x) (contains ev x) (contains v x) (contains t x) x m.0.0 m.0.1),
+        (front_is_at (n ∷ []) (keyword_of b) [] x (pn, tt) (kw_stops b) (kw_differs b) tt) ps.0 refl
+        (first_symbol b (contains c x) (contains ev x) (contains v x) (contains t x) x m.0.0 m.0.1),
     later_walk b n x [] ns tail pn (ps.0, tt) ps.1 m.1 h,
   )
 
@@ -94,7 +94,7 @@ module _ (e : List (List Name)) (c ev v t : List Name) (is_inside : (w : Name) �
     hyp_end [] ps m = absurd m
     hyp_end (x ∷ ns) ps m = (
       keyword_by e (n ∷ codes "$e" ∷ x ∷ ns) (codes "$.") [] (front_with (codes "$e") false (x ∷ ns) (codes "$.")) (front_is_at (n ∷ []) (codes "$e") (x ∷ ns) (codes "$.") (pn, tt) refl refl ps)
-      (refl, (refl, (refl, (refl, (refl, (refl, (refl, (refl, (refl, (refl, (refl, (refl, (refl, (refl, (refl, (refl, (refl, (refl, tt)))))))))))))))))),
+          (refl, (refl, (refl, (refl, (refl, (refl, (refl, (refl, (refl, (refl, (refl, (refl, (refl, (refl, (refl, (refl, (refl, (refl, tt)))))))))))))))))),
       tt,
     )
 
@@ -114,7 +114,7 @@ module _ (e : List (List Name)) (c ev v t : List Name) (is_inside : (w : Name) �
       proof_walk qs [] h = (keyword_by e ((n ∷ codes "$p" ∷ ns) ++ codes "$=" ∷ qs) (codes "$.") [] _ (proof_front qs (codes "$.")) (refl, (refl, (refl, (refl, (refl, (refl, (refl, (refl, (refl, (refl, (refl, (refl, (refl, (refl, (refl, (refl, (refl, (refl, tt)))))))))))))))))), tt)
       proof_walk qs (x ∷ ps) h = (
         passes_by e ((n ∷ codes "$p" ∷ ns) ++ codes "$=" ∷ qs) x (take 1 (ps ++ codes "$." ∷ [])) _ _ (is_inside x) (proof_front qs x) h.0 refl
-        (proof_word (contains c x) (contains ev x) (contains v x) (contains t x) (symbol_names ((n ∷ codes "$p" ∷ ns) ++ codes "$=" ∷ qs)) x),
+            (proof_word (contains c x) (contains ev x) (contains v x) (contains t x) (symbol_names ((n ∷ codes "$p" ∷ ns) ++ codes "$=" ∷ qs)) x),
         subst (λ f. Walk e f (ps ++ codes "$." ∷ [])) (sym (append_assoc (n ∷ codes "$p" ∷ ns) (codes "$=" ∷ qs) (x ∷ []))) (proof_walk (qs ++ x ∷ []) ps h.1),
       )
 
@@ -122,8 +122,8 @@ module _ (e : List (List Name)) (c ev v t : List Name) (is_inside : (w : Name) �
     theorem_end [] ps k h m = absurd m
     theorem_end (x ∷ ns) ps k h m = (
       keyword_by e (n ∷ codes "$p" ∷ x ∷ ns) (codes "$=") (take 1 (ps ++ codes "$." ∷ [])) (front_with (codes "$p") false (x ∷ ns) (codes "$="))
-      (front_is_at (n ∷ []) (codes "$p") (x ∷ ns) (codes "$=") (pn, tt) refl refl k)
-      (refl, (refl, (refl, (refl, (refl, (refl, (refl, (refl, (refl, (refl, (refl, (refl, (refl, (refl, (refl, (refl, (refl, (refl, tt)))))))))))))))))),
+          (front_is_at (n ∷ []) (codes "$p") (x ∷ ns) (codes "$=") (pn, tt) refl refl k)
+          (refl, (refl, (refl, (refl, (refl, (refl, (refl, (refl, (refl, (refl, (refl, (refl, (refl, (refl, (refl, (refl, (refl, (refl, tt)))))))))))))))))),
       proof_walk (x ∷ ns) [] ps h,
     )
 

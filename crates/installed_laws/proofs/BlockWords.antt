@@ -1,22 +1,19 @@
 -- Each statement of the block of a theorem that can be put in passes the rules.
-use Rattle.std.proofs.Common.{◌≡◌, ◌⊎◌, ℕ, suc, Bool, true, false, not, ◌&&◌, ◌||◌, ◌+◌, List, [], ◌∷◌, ◌++◌, take, drop, refl, sym, ap, ◌∙◌, subst, inl, inr, codes, append_assoc, append-nil, arith, cond}
+use Rattle.std.proofs.Common.{◌≡◌, ◌⊎◌, ℕ, suc, Bool, true, false, not, ◌&&◌, ◌||◌, ◌+◌, List, [], ◌∷◌, ◌++◌, take, drop, refl, sym, ap, ◌∙◌, subst, inl, inr, codes, append-nil, arith, cond}
 use mathlib.Core.Path.{fun_ext}
 use Rattle.std.specs.Prelude.{take_while}
 use Rattle.std.specs.List.{AllByRecursion, list_any, list_all, prefix_len}
 use Rattle.std.specs.Str.{bytes_eq}
-use Rattle.std.proofs.lemmas.Bool.{or_right}
 use Rattle.std.proofs.lemmas.List.Folds.{list_any-append}
 use Rattle.mm_model.specs.Labels.{is_label_byte}
 use Rattle.mm_model.specs.Names.{Name, contains}
 use Rattle.mm_model.specs.Statements.{is_empty, labelled}
 use Rattle.model_laws.proofs.Shapes.{taken-front}
 use Rattle.install_laws.specs.InstalledStatements.{HasNoDollar}
-use Rattle.install_laws.proofs.ActiveLaw.{all_append}
 use Rattle.install_laws.proofs.NamesLaw.{is_plain, body_names, keyword_is, symbol_names, plain_is}
 use Rattle.install_laws.proofs.ActiveNames.{has_kw}
 use Rattle.install_laws.proofs.StatementCuts.{apart}
 use Rattle.installed_laws.proofs.RuleTable.{Known, Front, Token, AllFalse, table, token, front, front_from, known, alone, has_proof, taken, extra, bad, is_label_at, labels_of, Passes}
-use Rattle.installed_laws.proofs.Walks.{Walk}
 
 -- ---- a word that is no keyword
 

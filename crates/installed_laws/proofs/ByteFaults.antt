@@ -1,8 +1,7 @@
 -- The bytes of a text with a theorem in it are those of a database.
-use Rattle.std.proofs.Common.{◌≡◌, ◌<◌, ◌≤◌, ◌+◌, ℕ, zero, suc, Bool, true, false, not, ◌&&◌, ◌||◌, cond, nat_lt, nat_le, List, [], ◌∷◌, ◌++◌, length, take, drop, map, reverse}
+use Rattle.std.proofs.Common.{◌≡◌, ◌<◌, ◌+◌, ℕ, zero, suc, Bool, true, false, not, ◌&&◌, ◌||◌, cond, nat_lt, List, [], ◌∷◌, ◌++◌, length, take, drop, map}
 use Rattle.std.proofs.Common.{Option, None, Some, option_map, refl, sym, ap, ◌∙◌, subst, inl, inr, codes, flat_map, arith, nat_eq}
-use Rattle.std.specs.Prelude.{filter}
-use Rattle.std.specs.List.{AllByRecursion, list_any, list_all, position, position_or_len, prefix_len, ends_with, take-map}
+use Rattle.std.specs.List.{AllByRecursion, list_any, list_all, position_or_len, prefix_len, ends_with}
 use Rattle.std.specs.Str.{bytes_eq}
 use Rattle.std.proofs.lemmas.Bool.{cases_Bool, or_cases, and_parts, or_parts}
 use Rattle.std.proofs.lemmas.Bool.Decides.{nat_tests}
@@ -11,7 +10,7 @@ use Rattle.std.proofs.lemmas.List.Folds.{list_any-append}
 use Rattle.mm_model.specs.Faults.{Fault, fault, earlier, comes_first}
 use Rattle.mm_model.specs.Labels.{is_label_byte}
 use Rattle.mm_model.specs.Names.{Name, contains}
-use Rattle.mm_model.specs.Tokens.{is_bad_byte, bad_byte, words_fault, token_fault}
+use Rattle.mm_model.specs.Tokens.{is_bad_byte, bad_byte}
 use Rattle.mm_model.specs.Statements.{Statement, statements, constants, variables}
 use Rattle.mm_model.specs.Frames.{below}
 use Rattle.model_laws.proofs.Listed.{first_within, same_names, all-filter, all-reverse, all_with, all_and}
@@ -19,14 +18,13 @@ use Rattle.sheet_text.specs.Layout.{ended, spaced}
 use Rattle.install_model.specs.declared.install.NewTheorem.{NewTheorem}
 use Rattle.install_model.specs.Installed.{pair_line, hyp_line, theorem_line, block_lines, block, installed, place_byte}
 use Rattle.install_laws.specs.InstalledStatements.{tokens_of}
-use Rattle.install_laws.specs.InstalledNames.{new_labels}
 use Rattle.install_laws.proofs.ActiveLaw.{all_append}
-use Rattle.install_laws.proofs.ActiveNames.{path_of, on_path, variables_of, variables_by, below_is}
+use Rattle.install_laws.proofs.ActiveNames.{path_of, on_path, variables_by, below_is}
 use Rattle.install_laws.proofs.NamesLaw.{is_plain, body_names, symbol_names}
 use Rattle.install_laws.proofs.StatementCuts.{opens, closes, ends, tokens_among, split_names, statements_are}
 use Rattle.install_laws.proofs.WordLaws.{names_in, names_none}
 use Rattle.installed_laws.specs.CanBePutIn.{is_meant, is_formula, is_pair, CanBePutIn}
-use Rattle.installed_laws.proofs.RuleTable.{constants_of, constants_by}
+use Rattle.installed_laws.proofs.RuleTable.{constants_by}
 
 abbrev pub Good : List ℕ → Type 0
 Good bs = list_any is_bad_byte bs ≡ false

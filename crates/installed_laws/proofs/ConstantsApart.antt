@@ -1,7 +1,7 @@
 -- No constant is a variable, by the bytes of tokens.
-use Rattle.std.proofs.Common.{◌≡◌, ◌⊎◌, ℕ, suc, ◌+◌, Bool, true, false, not, ◌&&◌, ◌||◌, cond, List, [], ◌∷◌, ◌++◌, take, drop, flat_map, refl, sym, ap, ◌∙◌, subst, inl, inr, codes, append_assoc, arith, nat_eq}
+use Rattle.std.proofs.Common.{◌≡◌, ◌⊎◌, ℕ, suc, ◌+◌, Bool, true, false, ◌&&◌, ◌||◌, cond, List, [], ◌∷◌, ◌++◌, take, drop, flat_map, refl, sym, ap, ◌∙◌, subst, inl, inr, codes, append_assoc, arith, nat_eq}
 use Rattle.std.specs.Prelude.{filter, take_while}
-use Rattle.std.specs.List.{AllByRecursion, list_any, list_all, prefix_len, ends_with}
+use Rattle.std.specs.List.{list_any, prefix_len, ends_with}
 use Rattle.std.specs.Str.{bytes_eq}
 use Rattle.std.proofs.lemmas.Bool.{cases_Bool, or_cases, or_left, or_right, or_parts, not-true, both_ways}
 use Rattle.std.proofs.lemmas.List.Folds.{list_any-append}
@@ -12,7 +12,7 @@ use Rattle.install_laws.proofs.ActiveLaw.{all_append}
 use Rattle.install_laws.proofs.NamesLaw.{is_plain, body_names, symbol_names}
 use Rattle.model_laws.proofs.Passing.{any-filter, any_kept, any-flat}
 use Rattle.install_laws.proofs.ActiveNames.{has_kw, path_of, on_path, active_of, variables_of}
-use Rattle.installed_laws.proofs.RuleTable.{AllFalse, table, token, front, known, taken, extra, bad, constants_of, ever_of, Passes}
+use Rattle.installed_laws.proofs.RuleTable.{AllFalse, table, token, known, taken, extra, bad, constants_of, ever_of, Passes}
 use Rattle.installed_laws.proofs.Walks.{Walk, Each}
 use Rattle.installed_laws.proofs.BlockWords.{ArePlain, plain_word, plain_token, front_with, front_is_at}
 
@@ -46,9 +46,11 @@ module _ (e : List (List Name)) (k n : Name) (stops : is_plain k ≡ false) (dif
         us = us;
         after = after;
         tests = (
-          taken e whole n, extra whole n after, bad whole n,
+          taken e whole n,
+          extra whole n after,
+          bad whole n,
           subst (λ x. AllFalse (table (known e n) (front_with k false us n) x (taken e whole n) (extra whole n after) (bad whole n))) (plain_token n pn)
-          (subst (λ x. AllFalse (table (known e n) x (token n) (taken e whole n) (extra whole n after) (bad whole n))) (front_is_at f k us n pf stops differs pu) h),
+              (subst (λ x. AllFalse (table (known e n) x (token n) (taken e whole n) (extra whole n after) (bad whole n))) (front_is_at f k us n pf stops differs pu) h),
         );
       }
 

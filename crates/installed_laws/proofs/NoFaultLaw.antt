@@ -1,7 +1,7 @@
 -- A text without a fault has none with a theorem in it that can be put in.
-use Rattle.std.proofs.Common.{◌≡◌, ◌⊎◌, ◌≤◌, ℕ, Bool, true, false, not, ◌&&◌, ◌||◌, cond, nat_lt, ◌^◌, List, [], ◌∷◌, ◌++◌, length, take, drop, map, reverse, flat_map}
-use Rattle.std.proofs.Common.{Option, None, Some, refl, sym, ap, ◌∙◌, subst, inl, inr, codes, arith}
-use Rattle.std.specs.List.{AllByRecursion, list_any, list_all, take-map}
+use Rattle.std.proofs.Common.{◌≡◌, ◌≤◌, ℕ, Bool, true, false, not, ◌&&◌, cond, nat_lt, List, [], ◌∷◌, ◌++◌, length, take, drop, reverse, flat_map}
+use Rattle.std.proofs.Common.{Option, None, Some, refl, sym, ap, ◌∙◌, subst, inl, inr, arith}
+use Rattle.std.specs.List.{AllByRecursion, list_any, list_all}
 use Rattle.std.specs.Str.{bytes_eq}
 use Rattle.std.proofs.lemmas.Bool.{cases_Bool, and_parts, or_cases, both_ways, not-true}
 use Rattle.std.proofs.lemmas.Bool.Decides.{nat_tests}
@@ -13,27 +13,27 @@ use Rattle.mm_model.specs.Labels.{is_label_byte}
 use Rattle.mm_model.specs.Names.{Name, contains}
 use Rattle.mm_model.specs.Words.{Word}
 use Rattle.mm_model.specs.Tokens.{tokens, token_fault, words_fault, bad_byte}
-use Rattle.mm_model.specs.Statements.{Statement, statements, constants, variables, variables_ever, typed, labels, path, ended, unended, is_empty, end_fault, statement_fault, database_fault}
+use Rattle.mm_model.specs.Statements.{Statement, statements, constants, variables, typed, labels, path, ended, unended, is_empty, end_fault, statement_fault, database_fault}
 use Rattle.mm_model.specs.Frames.{below}
 use Rattle.model_laws.proofs.Checked.{last_first, text_checked, no_statement_fault, or_else_none}
 use Rattle.model_laws.proofs.Listed.{all_with, all_and, all-reverse, name_self, same_names}
 use Rattle.model_laws.proofs.OwnLeaves.{members}
-use Rattle.model_laws.proofs.Passing.{any-reverse, any-take, any-flat, any-filter, any_kept}
+use Rattle.model_laws.proofs.Passing.{any-reverse, any-take, any-flat}
 use Rattle.install_model.specs.declared.install.NewTheorem.{NewTheorem}
 use Rattle.install_model.specs.Installed.{installed}
 use Rattle.install_laws.specs.InstalledStatements.{names, tokens_of, IsPlain, IsPlainTheorem, block_statements}
 use Rattle.install_laws.specs.InstalledNames.{new_labels}
-use Rattle.install_laws.proofs.ActiveBlock.{opened, closed}
+use Rattle.install_laws.proofs.ActiveBlock.{closed}
 use Rattle.install_laws.proofs.ActiveLaw.{inner, backward, block_is}
-use Rattle.install_laws.proofs.ActiveNames.{path_of, path_by, on_path, active_of, variables_of, variables_by, below_is, map-reverse}
+use Rattle.install_laws.proofs.ActiveNames.{path_of, path_by, variables_of, variables_by, below_is, map-reverse}
 use Rattle.install_laws.proofs.NamesLaw.{label_names, labels_by, block_labels}
 use Rattle.install_laws.proofs.StatementsLaw.{statements_are_put_in}
 use Rattle.installed_laws.specs.CanBePutIn.{CanBePutIn, is_meant, is_formula, is_pair}
 use Rattle.installed_laws.specs.InstalledFault.{InstalledTextHasNoFault}
-use Rattle.installed_laws.proofs.RuleTable.{constants_of, ever_of, typed_of, labels_of, constants_by, typed_by}
+use Rattle.installed_laws.proofs.RuleTable.{constants_of, typed_of, labels_of, constants_by, typed_by}
 use Rattle.installed_laws.proofs.Walks.{Each, each_walked, no_token_fault}
 use Rattle.installed_laws.proofs.WordFaults.{are_fine, no_words_fault, fine_new, left_new}
-use Rattle.installed_laws.proofs.ByteFaults.{good_text, no_bad_byte, earlier_none, new_good, named, all_taken, all_dropped, mapped_left}
+use Rattle.installed_laws.proofs.ByteFaults.{good_text, no_bad_byte, earlier_none, new_good, named, all_dropped, mapped_left}
 use Rattle.installed_laws.proofs.ConstantsApart.{constants_apart, active_ever}
 use Rattle.installed_laws.proofs.BlockWalk.{Quiet, Fits, Formula, Meant, IsHyp, in_block, block_passes}
 use Rattle.installed_laws.proofs.Behind.{closed_block, each_behind, path_behind, HasOtherLabels}

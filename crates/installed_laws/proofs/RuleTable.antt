@@ -1,8 +1,8 @@
 -- The rules of statements as a table of tests, by the bytes of tokens.
-use Rattle.std.proofs.Common.{◌≡◌, ℕ, Bool, true, false, not, cond, ◌&&◌, ◌||◌, ◌==◌, nat_lt, nat_le, List, [], ◌∷◌, ◌++◌, length, take, map, flat_map}
-use Rattle.std.proofs.Common.{Some, None, option_map, refl, sym, ap, ◌∙◌, subst, codes}
+use Rattle.std.proofs.Common.{◌≡◌, ℕ, Bool, false, not, cond, ◌&&◌, ◌||◌, ◌==◌, nat_lt, nat_le, List, [], ◌∷◌, ◌++◌, length, take, flat_map}
+use Rattle.std.proofs.Common.{None, option_map, refl, sym, ap, ◌∙◌, subst, codes}
 use Rattle.std.specs.Prelude.{find, filter}
-use Rattle.std.specs.List.{AllByRecursion, list_any, list_all, take-map}
+use Rattle.std.specs.List.{AllByRecursion, list_any, list_all}
 use Rattle.std.specs.Str.{bytes_eq}
 use mathlib.Core.Path.{fun_ext}
 use Rattle.mm_model.specs.Labels.{is_label_byte}
@@ -12,10 +12,9 @@ use Rattle.mm_model.specs.Statements.{Statement, Rule, token_rules, is_empty, is
 use Rattle.mm_model.specs.Statements.{constants, variables_ever, variables, typed, labels, path, second, with_keyword, ended, unended, active, labelled, asserting}
 use Rattle.model_laws.proofs.Checked.{rules_fail, NoRule, AllFail}
 use Rattle.model_laws.proofs.Passing.{any-map}
-use Rattle.install_laws.specs.InstalledStatements.{names, tokens_of, HasNoDollar}
+use Rattle.install_laws.specs.InstalledStatements.{names, tokens_of}
 use Rattle.install_laws.proofs.NamesLaw.{is_plain, keyword_is, keyword_by, symbol_names, symbols_by, label_names, labels_by}
-use Rattle.install_laws.proofs.ActiveNames.{has_kw, has_kw_by, path_of, path_by, active_of, active_by, variables_of, variables_by, filter_by, kept_by, all_symbols}
-use Rattle.install_laws.proofs.StatementCuts.{apart}
+use Rattle.install_laws.proofs.ActiveNames.{has_kw, has_kw_by, path_of, path_by, active_of, variables_of, variables_by, filter_by, kept_by, all_symbols}
 
 -- ---- the tests
 

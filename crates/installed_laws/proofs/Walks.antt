@@ -1,18 +1,17 @@
 -- Each statement of a text passes the rules, by the bytes of tokens; and a text of such statements has no fault.
-use Rattle.std.proofs.Common.{◌≡◌, ℕ, Bool, true, false, not, ◌&&◌, ◌||◌, List, [], ◌∷◌, ◌++◌, take, reverse, None, Option, option_map}
-use Rattle.std.proofs.Common.{refl, sym, ap, ◌∙◌, subst, inl, inr, codes, append_assoc, cond}
+use Rattle.std.proofs.Common.{◌≡◌, ℕ, Bool, true, false, ◌&&◌, ◌||◌, List, [], ◌∷◌, ◌++◌, take, reverse, None, option_map}
+use Rattle.std.proofs.Common.{refl, sym, ap, ◌∙◌, subst, inl, inr, codes, append_assoc}
 use mathlib.Core.List.{reverse_aux}
-use Rattle.std.specs.List.{AllByRecursion, list_any, take-map}
 use Rattle.std.specs.Str.{bytes_eq}
 use Rattle.std.proofs.lemmas.Bool.{cases_Bool}
 use Rattle.std.proofs.lemmas.List.{append-nil, map-append}
 use Rattle.std.proofs.lemmas.Slice.Eq.{bytes_eq-Decides}
-use Rattle.mm_model.specs.Faults.{fault, or_else, first_fault_within, first_code_within}
+use Rattle.mm_model.specs.Faults.{fault, or_else, first_fault_within}
 use Rattle.mm_model.specs.Names.{Name}
 use Rattle.mm_model.specs.Words.{Word}
 use Rattle.mm_model.specs.Tokens.{tokens}
 use Rattle.mm_model.specs.Statements.{Statement, token_rules, ended, unended, ends_statement}
-use Rattle.mm_model.proofs.Lists.{ended-on, ended-end, unended-on, unended-end}
+use Rattle.mm_model.proofs.Lists.{ended-on, ended-end, unended-on}
 use Rattle.model_laws.proofs.Checked.{NoRule, Looked, IsChecked, EachBefore, last_first}
 use Rattle.install_laws.specs.InstalledStatements.{names, tokens_of}
 use Rattle.install_laws.proofs.NamesLaw.{is_plain}
@@ -110,9 +109,10 @@ cleaned (w ∷ before) after rest each walk next = elim (cases_Bool (ends_statem
       let both : Each (tokens_of ((unended before ++ w ∷ []) ∷ ended before)) = subst (λ x. Each (tokens_of x)) (ended-end w before e) each in
       let own : Walk (tokens_of (ended before)) [] (names (unended before) ++ w.bytes ∷ []) =
       subst (λ x. Walk (tokens_of (ended before)) [] x) (map-append (λ (v : Word). v.bytes) (unended before) (w ∷ [])) both.0 in
-      let here = walk_at (tokens_of (ended before)) [] (names (unended before)) w.bytes [] own in
-      (no_rule before w after (any_behind (tokens_of (ended before)) (names (unended before)) w.bytes (names (take 1 after)) e here),
-      cleaned before (w ∷ after) (w.bytes ∷ []) both.1 own refl)
+      let here = walk_at (tokens_of (ended before)) [] (names (unended before)) w.bytes [] own in (
+        no_rule before w after (any_behind (tokens_of (ended before)) (names (unended before)) w.bytes (names (take 1 after)) e here),
+        cleaned before (w ∷ after) (w.bytes ∷ []) both.1 own refl,
+      )
   | inr e ↦
       let same = ended-on w before e in
       let each_before : Each (tokens_of (ended before)) = subst (λ x. Each (tokens_of x)) same each in

@@ -11,7 +11,7 @@ use Rattle.std.proofs.lemmas.Slice.Eq.{bytes_eq-Decides}
 use Rattle.mm_model.specs.Faults.{Fault, fault, or_else, first_fault}
 use Rattle.mm_model.specs.Names.{Name}
 use Rattle.mm_model.specs.Words.{Word, words}
-use Rattle.mm_model.specs.Tokens.{tokens, tokens_where, in_comment, word_rules, words_fault, open_comment, keywords, is_open_comment, comment_in_comment, bad_keyword}
+use Rattle.mm_model.specs.Tokens.{tokens, in_comment, word_rules, words_fault, open_comment, keywords, comment_in_comment, bad_keyword}
 use Rattle.mm_model.specs.Statements.{Statement, unended, ends_statement, statements}
 use Rattle.mm_model.proofs.Lists.{unended-on, unended-end}
 use Rattle.model_laws.proofs.Checked.{or_else_none}
@@ -21,9 +21,9 @@ use Rattle.install_model.specs.Installed.{byte_behind, place_byte, pair_line, hy
 use Rattle.install_laws.specs.InstalledStatements.{names, HasNoDollar, IsPlain, IsPlainTheorem}
 use Rattle.install_laws.proofs.Forward.{split, statements_forward}
 use Rattle.install_laws.proofs.WordLaws.{names_in, names_dollar, plain_dollar}
-use Rattle.install_laws.proofs.WordCuts.{Cut, cut}
-use Rattle.install_laws.proofs.StatementCuts.{opens, closes, ends, tokens_among, split_names, statements_among, IsCut, cut_behind, apart, tokens_are, statements_are}
-use Rattle.install_laws.proofs.StatementsLaw.{pair_words, hyp_words, theorem_words, block_opened, close, close_words, dollars, IsParted, parted, at_byte}
+use Rattle.install_laws.proofs.WordCuts.{cut}
+use Rattle.install_laws.proofs.StatementCuts.{opens, closes, ends, tokens_among, split_names, statements_among, cut_behind, apart, tokens_are}
+use Rattle.install_laws.proofs.StatementsLaw.{pair_words, hyp_words, theorem_words, block_opened, close, close_words, dollars, parted, at_byte}
 
 -- ---- comments
 
@@ -55,9 +55,10 @@ fault_from before ws = first_fault (λ (b : List Word) (w : Word). w.start) word
 fine_words : (before ws : List Word) → fault_from before ws ≡ None → Fine (in_comment before) (names ws)
 fine_words before [] h = tt
 fine_words before (w ∷ ws) h =
-    let both = or_else_none _ (fault_from (w ∷ before) ws) h in
-    (none_of_two (λ (code : ℕ). fault w.start code) (λ (r : ℕ × (List Word → Word → Bool)). r.0) (comment_in_comment before w) (bad_keyword before w) (3, comment_in_comment) (4, bad_keyword) both.0,
-    fine_words (w ∷ before) ws both.1)
+    let both = or_else_none _ (fault_from (w ∷ before) ws) h in (
+      none_of_two (λ (code : ℕ). fault w.start code) (λ (r : ℕ × (List Word → Word → Bool)). r.0) (comment_in_comment before w) (bad_keyword before w) (3, comment_in_comment) (4, bad_keyword) both.0,
+      fine_words (w ∷ before) ws both.1,
+    )
 
 words_fine : (before ws : List Word) → Fine (in_comment before) (names ws) → fault_from before ws ≡ None
 words_fine before [] h = refl
@@ -345,17 +346,20 @@ block_calm : (t : NewTheorem) → IsPlainTheorem t → AllByRecursion Calm (bloc
 block_calm t p = (
   (refl, refl, refl),
   calm_join (flat_map pair_names t.pairs) _
-  (lines_calm (λ (q : Name × Name). IsPlain q.0 × IsPlain q.1) pair_names
-  (λ q h. ((refl, refl, refl), (calm_plain q.0 (plain_dollar q.0 h.0), (calm_plain q.1 (plain_dollar q.1 h.1), ((refl, refl, refl), tt))))) t.pairs p.pairs)
-  (calm_join (flat_map hyp_names t.hyps) _
-  (lines_calm (λ (h : Name × List Name). IsPlain h.0 × AllByRecursion IsPlain h.1) hyp_names
-  (λ h k. (calm_plain h.0 (plain_dollar h.0 k.0), ((refl, refl, refl), calm_join h.1 (codes "$." ∷ []) (all_calm h.1 (dollars h.1 k.1)) ((refl, refl, refl), tt)))) t.hyps p.hyps)
-  (calm_join (theorem_names t) (codes "$}" ∷ [])
-  (calm_plain t.name (plain_dollar t.name p.name),
-  ((refl, refl, refl),
-  calm_join t.formula _ (all_calm t.formula (dollars t.formula p.formula))
-  ((refl, refl, refl), calm_join (names_in t.proof) (codes "$." ∷ []) (all_calm (names_in t.proof) (names_dollar t.proof p.proof)) ((refl, refl, refl), tt))))
-  ((refl, refl, refl), tt))),
+      (lines_calm (λ (q : Name × Name). IsPlain q.0 × IsPlain q.1) pair_names
+      (λ q h. ((refl, refl, refl), (calm_plain q.0 (plain_dollar q.0 h.0), (calm_plain q.1 (plain_dollar q.1 h.1), ((refl, refl, refl), tt))))) t.pairs p.pairs)
+      (calm_join (flat_map hyp_names t.hyps) _
+      (lines_calm (λ (h : Name × List Name). IsPlain h.0 × AllByRecursion IsPlain h.1) hyp_names
+      (λ h k. (calm_plain h.0 (plain_dollar h.0 k.0), ((refl, refl, refl), calm_join h.1 (codes "$." ∷ []) (all_calm h.1 (dollars h.1 k.1)) ((refl, refl, refl), tt)))) t.hyps p.hyps)
+      (calm_join (theorem_names t) (codes "$}" ∷ []) (
+        calm_plain t.name (plain_dollar t.name p.name),
+        (
+          (refl, refl, refl),
+          calm_join t.formula _ (all_calm t.formula (dollars t.formula p.formula))
+              ((refl, refl, refl), calm_join (names_in t.proof) (codes "$." ∷ []) (all_calm (names_in t.proof) (names_dollar t.proof p.proof)) ((refl, refl, refl), tt)),
+        ),
+      )
+      ((refl, refl, refl), tt))),
 )
 
 calm_tokens : (ns : List Name) → AllByRecursion Calm ns → tokens_among false ns ≡ ns
