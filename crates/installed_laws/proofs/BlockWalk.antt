@@ -23,7 +23,7 @@ use Rattle.install_laws.proofs.ActiveNames.{has_kw, path_of, on_path, active_of,
 use Rattle.install_laws.proofs.ActiveBlock.{IsNoBrace, opened, closed, within, only_outside}
 use Rattle.installed_laws.proofs.RuleTable.{front, known, known_from, has_proof, constants_of, ever_of, typed_of, labels_of}
 use Rattle.installed_laws.proofs.Walks.{Walk, Each}
-use Rattle.installed_laws.proofs.BlockWords.{ArePlain, IsMeant, inside, front_with, keyword_of, passes_by, keyword_by, label_passes, hyp_keyword, theorem_keyword, pair_symbol}
+use Rattle.installed_laws.proofs.BlockWords.{all_false, ArePlain, IsMeant, inside, front_with, keyword_of, passes_by, keyword_by, label_passes, hyp_keyword, theorem_keyword, pair_symbol}
 use Rattle.installed_laws.proofs.BlockWords.{first_symbol, later_symbol, proof_word, front_is_at, front_at, has_at}
 
 -- ---- one statement in the block, where the constants and the variables are these
@@ -52,7 +52,7 @@ module _ (c v t : List Name) where
 module _ (e : List (List Name)) (c ev v t : List Name) (is_inside : (w : Name) → known e w ≡ inside (contains c w) (contains ev w) (contains v w) (contains t w)) where
   pair_walk : (x y : Name) → HasNoDollar x → HasNoDollar y → contains v x ≡ true → contains v y ≡ true → bytes_eq y x ≡ false → Walk e [] (codes "$d" ∷ x ∷ y ∷ codes "$." ∷ [])
   pair_walk x y px py vx vy d = (
-    (refl, (refl, (refl, (refl, (refl, (refl, (refl, (refl, (refl, (refl, (refl, (refl, (refl, (refl, (refl, (refl, (refl, (refl, tt)))))))))))))))))),
+    all_false,
     (
       passes_by e (codes "$d" ∷ []) x (y ∷ []) _ (front_with (codes "$d") false [] x) (is_inside x) (front_is_at [] (codes "$d") [] x tt refl refl tt) px refl
           (pair_symbol (contains c x) (contains ev x) (contains v x) (contains t x) false [] x vx refl refl),
@@ -62,7 +62,7 @@ module _ (e : List (List Name)) (c ev v t : List Name) (is_inside : (w : Name) �
         (
           keyword_by e (codes "$d" ∷ x ∷ y ∷ []) (codes "$.") [] (front_with (codes "$d") false (x ∷ y ∷ []) (codes "$."))
               (front_is_at [] (codes "$d") (x ∷ y ∷ []) (codes "$.") tt refl refl (px, (py, tt)))
-              (refl, (refl, (refl, (refl, (refl, (refl, (refl, (refl, (refl, (refl, (refl, (refl, (refl, (refl, (refl, (refl, (refl, (refl, tt)))))))))))))))))),
+              all_false,
           tt,
         ),
       ),
@@ -94,7 +94,7 @@ module _ (e : List (List Name)) (c ev v t : List Name) (is_inside : (w : Name) �
     hyp_end [] ps m = absurd m
     hyp_end (x ∷ ns) ps m = (
       keyword_by e (n ∷ codes "$e" ∷ x ∷ ns) (codes "$.") [] (front_with (codes "$e") false (x ∷ ns) (codes "$.")) (front_is_at (n ∷ []) (codes "$e") (x ∷ ns) (codes "$.") (pn, tt) refl refl ps)
-          (refl, (refl, (refl, (refl, (refl, (refl, (refl, (refl, (refl, (refl, (refl, (refl, (refl, (refl, (refl, (refl, (refl, (refl, tt)))))))))))))))))),
+          all_false,
       tt,
     )
 
@@ -111,7 +111,7 @@ module _ (e : List (List Name)) (c ev v t : List Name) (is_inside : (w : Name) �
           ∙ ap (λ b. front_with (codes "$p") b (symbol_names ((n ∷ codes "$p" ∷ ns) ++ codes "$=" ∷ qs)) w) (proof_there (n ∷ codes "$p" ∷ ns) qs)
 
       proof_walk : (qs ps : List Name) → ArePlain ps → Walk e ((n ∷ codes "$p" ∷ ns) ++ codes "$=" ∷ qs) (ps ++ codes "$." ∷ [])
-      proof_walk qs [] h = (keyword_by e ((n ∷ codes "$p" ∷ ns) ++ codes "$=" ∷ qs) (codes "$.") [] _ (proof_front qs (codes "$.")) (refl, (refl, (refl, (refl, (refl, (refl, (refl, (refl, (refl, (refl, (refl, (refl, (refl, (refl, (refl, (refl, (refl, (refl, tt)))))))))))))))))), tt)
+      proof_walk qs [] h = (keyword_by e ((n ∷ codes "$p" ∷ ns) ++ codes "$=" ∷ qs) (codes "$.") [] _ (proof_front qs (codes "$.")) all_false, tt)
       proof_walk qs (x ∷ ps) h = (
         passes_by e ((n ∷ codes "$p" ∷ ns) ++ codes "$=" ∷ qs) x (take 1 (ps ++ codes "$." ∷ [])) _ _ (is_inside x) (proof_front qs x) h.0 refl
             (proof_word (contains c x) (contains ev x) (contains v x) (contains t x) (symbol_names ((n ∷ codes "$p" ∷ ns) ++ codes "$=" ∷ qs)) x),
@@ -123,7 +123,7 @@ module _ (e : List (List Name)) (c ev v t : List Name) (is_inside : (w : Name) �
     theorem_end (x ∷ ns) ps k h m = (
       keyword_by e (n ∷ codes "$p" ∷ x ∷ ns) (codes "$=") (take 1 (ps ++ codes "$." ∷ [])) (front_with (codes "$p") false (x ∷ ns) (codes "$="))
           (front_is_at (n ∷ []) (codes "$p") (x ∷ ns) (codes "$=") (pn, tt) refl refl k)
-          (refl, (refl, (refl, (refl, (refl, (refl, (refl, (refl, (refl, (refl, (refl, (refl, (refl, (refl, (refl, (refl, (refl, (refl, tt)))))))))))))))))),
+          all_false,
       proof_walk (x ∷ ns) [] ps h,
     )
 
@@ -134,7 +134,7 @@ module _ (e : List (List Name)) (c ev v t : List Name) (is_inside : (w : Name) �
     )
 
 open_walk : (e : List (List Name)) → Walk e [] opened
-open_walk e = ((refl, (refl, (refl, (refl, (refl, (refl, (refl, (refl, (refl, (refl, (refl, (refl, (refl, (refl, (refl, (refl, (refl, (refl, tt)))))))))))))))))), tt)
+open_walk e = (all_false, tt)
 
 close_walk : (e : List (List Name)) → is_empty (path_of e) ≡ false → Walk e [] closed
 close_walk e is = ((refl, (refl, (refl, (refl, (refl, (refl, (refl, (refl, (refl, (refl, (refl, (is, (refl, (refl, (refl, (refl, (refl, (refl, tt)))))))))))))))))), tt)

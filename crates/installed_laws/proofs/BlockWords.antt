@@ -15,6 +15,15 @@ use Rattle.install_laws.proofs.ActiveNames.{has_kw}
 use Rattle.install_laws.proofs.StatementCuts.{apart}
 use Rattle.installed_laws.proofs.RuleTable.{Known, Front, Token, AllFalse, table, token, front, front_from, known, alone, has_proof, taken, extra, bad, is_label_at, labels_of, Passes}
 
+-- no test holds, where each computes
+abbrev no_test_holds : List Bool
+no_test_holds =
+    false ∷ false ∷ false ∷ false ∷ false ∷ false ∷ false ∷ false ∷ false
+    ∷ false ∷ false ∷ false ∷ false ∷ false ∷ false ∷ false ∷ false ∷ false ∷ []
+
+pub all_false : AllFalse no_test_holds
+all_false = (refl, (refl, (refl, (refl, (refl, (refl, (refl, (refl, (refl, (refl, (refl, (refl, (refl, (refl, (refl, (refl, (refl, (refl, tt))))))))))))))))))
+
 -- ---- a word that is no keyword
 
 abbrev pub plain_word : Token
@@ -162,7 +171,7 @@ label_passes e n k plain is_k new bytes =
     ∙ ap (λ x. table (known e n) (front [] n) plain_word x (extra [] n (k ∷ [])) (bad [] n)) no_taken
     ∙ ap (λ x. table (known e n) (front [] n) plain_word false x (bad [] n)) no_extra
     ∙ ap (λ x. table (known e n) (front [] n) plain_word false false x) no_bad in
-    subst AllFalse (sym tests) (refl, (refl, (refl, (refl, (refl, (refl, (refl, (refl, (refl, (refl, (refl, (refl, (refl, (refl, (refl, (refl, (refl, (refl, tt))))))))))))))))))
+    subst AllFalse (sym tests) all_false
 
 -- the keyword behind a label
 module _ (e : List (List Name)) (n : Name) (plain : HasNoDollar n) where
@@ -170,10 +179,10 @@ module _ (e : List (List Name)) (n : Name) (plain : HasNoDollar n) where
   keyword_front w = ap (λ b. front_from false b (has_proof (n ∷ [])) (symbol_names (n ∷ [])) (λ ks. keyword_is ks (n ∷ [])) (λ j. has_kw j (n ∷ [])) w) (plain_is n plain)
 
   pub hyp_keyword : (after : List Name) → Passes e (n ∷ []) (codes "$e") after
-  hyp_keyword after = keyword_by e (n ∷ []) (codes "$e") after _ (keyword_front (codes "$e")) (refl, (refl, (refl, (refl, (refl, (refl, (refl, (refl, (refl, (refl, (refl, (refl, (refl, (refl, (refl, (refl, (refl, (refl, tt))))))))))))))))))
+  hyp_keyword after = keyword_by e (n ∷ []) (codes "$e") after _ (keyword_front (codes "$e")) all_false
 
   pub theorem_keyword : (after : List Name) → Passes e (n ∷ []) (codes "$p") after
-  theorem_keyword after = keyword_by e (n ∷ []) (codes "$p") after _ (keyword_front (codes "$p")) (refl, (refl, (refl, (refl, (refl, (refl, (refl, (refl, (refl, (refl, (refl, (refl, (refl, (refl, (refl, (refl, (refl, (refl, tt))))))))))))))))))
+  theorem_keyword after = keyword_by e (n ∷ []) (codes "$p") after _ (keyword_front (codes "$p")) all_false
 
 -- ---- the tests at each word of the block
 
@@ -194,8 +203,8 @@ keyword_of true = codes "$e"
 keyword_of false = codes "$p"
 
 pub first_symbol : (b c ev v t : Bool) (w : Name) → c ≡ true → v ≡ false → AllFalse (table (inside c ev v t) (front_with (keyword_of b) false [] w) plain_word false false false)
-first_symbol true true ev false t w h k = (refl, (refl, (refl, (refl, (refl, (refl, (refl, (refl, (refl, (refl, (refl, (refl, (refl, (refl, (refl, (refl, (refl, (refl, tt))))))))))))))))))
-first_symbol false true ev false t w h k = (refl, (refl, (refl, (refl, (refl, (refl, (refl, (refl, (refl, (refl, (refl, (refl, (refl, (refl, (refl, (refl, (refl, (refl, tt))))))))))))))))))
+first_symbol true true ev false t w h k = all_false
+first_symbol false true ev false t w h k = all_false
 first_symbol b false ev v t w h k = absurd cc
 first_symbol b true ev true t w h k = absurd cc
 
@@ -204,12 +213,12 @@ later_symbol b false ev false t u us w (inl h) = let x = h.0 in absurd cc
 later_symbol b false ev false t u us w (inr h) = let x = h.0 in absurd cc
 later_symbol b c ev true false u us w (inl h) = let x = h.1 in absurd cc
 later_symbol b c ev true false u us w (inr h) = let x = h.1 in absurd cc
-later_symbol true true ev false t u us w h = (refl, (refl, (refl, (refl, (refl, (refl, (refl, (refl, (refl, (refl, (refl, (refl, (refl, (refl, (refl, (refl, (refl, (refl, tt))))))))))))))))))
-later_symbol false true ev false t u us w h = (refl, (refl, (refl, (refl, (refl, (refl, (refl, (refl, (refl, (refl, (refl, (refl, (refl, (refl, (refl, (refl, (refl, (refl, tt))))))))))))))))))
-later_symbol true false ev true true u us w h = (refl, (refl, (refl, (refl, (refl, (refl, (refl, (refl, (refl, (refl, (refl, (refl, (refl, (refl, (refl, (refl, (refl, (refl, tt))))))))))))))))))
-later_symbol false false ev true true u us w h = (refl, (refl, (refl, (refl, (refl, (refl, (refl, (refl, (refl, (refl, (refl, (refl, (refl, (refl, (refl, (refl, (refl, (refl, tt))))))))))))))))))
-later_symbol true true ev true true u us w h = (refl, (refl, (refl, (refl, (refl, (refl, (refl, (refl, (refl, (refl, (refl, (refl, (refl, (refl, (refl, (refl, (refl, (refl, tt))))))))))))))))))
-later_symbol false true ev true true u us w h = (refl, (refl, (refl, (refl, (refl, (refl, (refl, (refl, (refl, (refl, (refl, (refl, (refl, (refl, (refl, (refl, (refl, (refl, tt))))))))))))))))))
+later_symbol true true ev false t u us w h = all_false
+later_symbol false true ev false t u us w h = all_false
+later_symbol true false ev true true u us w h = all_false
+later_symbol false false ev true true u us w h = all_false
+later_symbol true true ev true true u us w h = all_false
+later_symbol false true ev true true u us w h = all_false
 
 pub proof_word : (c ev v t : Bool) (us : List Name) (w : Name) → AllFalse (table (inside c ev v t) (front_with (codes "$p") true us w) plain_word false false false)
-proof_word c ev v t us w = (refl, (refl, (refl, (refl, (refl, (refl, (refl, (refl, (refl, (refl, (refl, (refl, (refl, (refl, (refl, (refl, (refl, (refl, tt))))))))))))))))))
+proof_word c ev v t us w = all_false
