@@ -36,7 +36,8 @@ module _ (base i : List (List Name)) (outside : path_of base ≡ []) (quiet : Al
   pub path_behind : (y : List (List Name)) → is_empty (path_of (y ++ closed_block)) ≡ is_empty (path_of (y ++ base))
   path_behind y = ap is_empty (path_over i base calm outside y) ∙ empty_map _ (path_of (y ++ base))
 
-  all_behind : (kind : List Name → Bool) → kind opened ≡ false → kind closed ≡ false → AllByRecursion (λ s. kind s ≡ false) i → (y : List (List Name)) → filter kind (y ++ closed_block) ≡ filter kind (y ++ base)
+  all_behind : (kind : List Name → Bool) → kind opened ≡ false → kind closed ≡ false → AllByRecursion (λ s. kind s ≡ false) i
+      → (y : List (List Name)) → filter kind (y ++ closed_block) ≡ filter kind (y ++ base)
   all_behind kind o c h [] = ap (λ b. cond b (closed ∷ filter kind (in_block base outside i)) (filter kind (in_block base outside i))) c ∙ all_kept base outside kind o i h
   all_behind kind o c h (s ∷ y) = ap (λ xs. cond (kind s) (s ∷ xs) xs) (all_behind kind o c h y)
 
@@ -49,7 +50,8 @@ module _ (base i : List (List Name)) (outside : path_of base ≡ []) (quiet : Al
       ap (λ xs. known_with (flat_map symbol_names xs) (ever_of e) (variables_of e) (typed_of e) (is_empty (path_of e)) w) (all_behind (has_kw (codes "$c")) refl refl cs y)
       ∙ ap (λ xs. known_with (constants_of d) (flat_map symbol_names xs) (variables_of e) (typed_of e) (is_empty (path_of e)) w) (all_behind (has_kw (codes "$v")) refl refl vs y)
       ∙ ap (λ xs. known_with (constants_of d) (ever_of d) (flat_map symbol_names xs) (typed_of e) (is_empty (path_of e)) w) (kept_behind i base calm outside (has_kw (codes "$v")) refl y)
-      ∙ ap (λ xs. known_with (constants_of d) (ever_of d) (variables_of d) (flat_map (λ s. second (symbol_names s)) xs) (is_empty (path_of e)) w) (kept_behind i base calm outside (has_kw (codes "$f")) refl y)
+      ∙ ap (λ xs. known_with (constants_of d) (ever_of d) (variables_of d) (flat_map (λ s. second (symbol_names s)) xs) (is_empty (path_of e)) w)
+      (kept_behind i base calm outside (has_kw (codes "$f")) refl y)
       ∙ ap (λ b. known_with (constants_of d) (ever_of d) (variables_of d) (typed_of d) b w) (path_behind y)
 
   -- ---- labels

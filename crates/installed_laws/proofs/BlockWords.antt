@@ -161,7 +161,8 @@ pub keyword_by : (e : List (List Name)) (f : List Name) (w : Name) (after : List
 keyword_by e f w after g is h = subst (λ x. AllFalse (table (known e w) x (token w) (taken e f w) (extra f w after) (bad f w))) (sym is) h
 
 -- a label
-pub label_passes : (e : List (List Name)) (n k : Name) → HasNoDollar n → list_any (bytes_eq k) labelled ≡ true → contains (labels_of e) n ≡ false → list_all is_label_byte n ≡ true → Passes e [] n (k ∷ [])
+pub label_passes : (e : List (List Name)) (n k : Name) → HasNoDollar n → list_any (bytes_eq k) labelled ≡ true
+    → contains (labels_of e) n ≡ false → list_all is_label_byte n ≡ true → Passes e [] n (k ∷ [])
 label_passes e n k plain is_k new bytes =
     let no_taken : taken e [] n ≡ false = ap (λ b. is_label_at [] n && b) new ∙ and_false (is_label_at [] n) in
     let no_extra : extra [] n (k ∷ []) ≡ false = ap (λ b. is_label_at [] n && (not b || false)) is_k ∙ and_false (is_label_at [] n) in
@@ -193,9 +194,12 @@ inside c ev v t = record { constant = c; ever = ev; variable = v; typed = t; out
 abbrev pub IsMeant : Bool → Bool → Bool → Type 0
 IsMeant c v t = ((c ≡ true) × (v ≡ false)) ⊎ ((v ≡ true) × (t ≡ true))
 
-pub pair_symbol : (c ev v t s : Bool) (us : List Name) (w : Name) → v ≡ true → contains us w ≡ s → s ≡ false → AllFalse (table (inside c ev v t) (front_with (codes "$d") false us w) plain_word false false false)
+pub pair_symbol : (c ev v t s : Bool) (us : List Name) (w : Name) → v ≡ true → contains us w ≡ s → s ≡ false
+    → AllFalse (table (inside c ev v t) (front_with (codes "$d") false us w) plain_word false false false)
 pair_symbol c ev false t s us w h is e = absurd cc
-pair_symbol c ev true t s us w h is e = let none : contains us w ≡ false = is ∙ e in (refl, (refl, (refl, (refl, (refl, (refl, (refl, (refl, (refl, (refl, (refl, (refl, (refl, (none, (refl, (refl, (refl, (refl, tt))))))))))))))))))
+pair_symbol c ev true t s us w h is e =
+    let none : contains us w ≡ false = is ∙ e in
+    (refl, (refl, (refl, (refl, (refl, (refl, (refl, (refl, (refl, (refl, (refl, (refl, (refl, (none, (refl, (refl, (refl, (refl, tt))))))))))))))))))
 
 -- `$e` or `$p`
 abbrev pub keyword_of : Bool → Name
@@ -208,7 +212,8 @@ first_symbol false true ev false t w h k = all_false
 first_symbol b false ev v t w h k = absurd cc
 first_symbol b true ev true t w h k = absurd cc
 
-pub later_symbol : (b c ev v t : Bool) (u : Name) (us : List Name) (w : Name) → IsMeant c v t → AllFalse (table (inside c ev v t) (front_with (keyword_of b) false (u ∷ us) w) plain_word false false false)
+pub later_symbol : (b c ev v t : Bool) (u : Name) (us : List Name) (w : Name) → IsMeant c v t
+    → AllFalse (table (inside c ev v t) (front_with (keyword_of b) false (u ∷ us) w) plain_word false false false)
 later_symbol b false ev false t u us w (inl h) = let x = h.0 in absurd cc
 later_symbol b false ev false t u us w (inr h) = let x = h.0 in absurd cc
 later_symbol b c ev true false u us w (inl h) = let x = h.1 in absurd cc

@@ -1,5 +1,6 @@
 -- No constant is a variable, by the bytes of tokens.
-use Rattle.std.proofs.Common.{◌≡◌, ◌⊎◌, ℕ, suc, ◌+◌, Bool, true, false, ◌&&◌, ◌||◌, cond, List, [], ◌∷◌, ◌++◌, take, drop, flat_map, refl, sym, ap, ◌∙◌, subst, inl, inr, codes, append_assoc, arith, nat_eq}
+use Rattle.std.proofs.Common.{◌≡◌, ◌⊎◌, ℕ, suc, ◌+◌, Bool, true, false, ◌&&◌, ◌||◌, cond, List, [], ◌∷◌, ◌++◌, take, drop, flat_map, refl, sym, ap, ◌∙◌}
+use Rattle.std.proofs.Common.{subst, inl, inr, codes, append_assoc, arith, nat_eq}
 use Rattle.std.specs.Prelude.{filter, take_while}
 use Rattle.std.specs.List.{list_any, prefix_len, ends_with}
 use Rattle.std.specs.Str.{bytes_eq}
@@ -108,7 +109,8 @@ one_keyword s h k = by (body_names s) h k
     by (m ∷ ns) h k = let bad : false ≡ true = subst (λ x. (bytes_eq x (codes "$v") || false) ≡ true) (first m (codes "$c") h) k in absurd cc
 
 -- what a name among those that statements with a keyword declare stands in
-split_declared : (k : Name) (s : List Name) (e : List (List Name)) (n : Name) → (b : Bool) → has_kw k s ≡ b → contains (flat_map symbol_names (cond b (s ∷ filter (has_kw k) e) (filter (has_kw k) e))) n ≡ true
+split_declared : (k : Name) (s : List Name) (e : List (List Name)) (n : Name) → (b : Bool) → has_kw k s ≡ b
+    → contains (flat_map symbol_names (cond b (s ∷ filter (has_kw k) e) (filter (has_kw k) e))) n ≡ true
     → ((has_kw k s ≡ true) × (contains (symbol_names s) n ≡ true)) ⊎ (contains (flat_map symbol_names (filter (has_kw k) e)) n ≡ true)
 split_declared k s e n false is h = inr h
 split_declared k s e n true is h =

@@ -235,7 +235,9 @@ module _ (text : List ℕ) (place : ℕ) (t : NewTheorem) (ok : database_fault t
   closed_end = ends_closed (length text) (reverse (tokens text)) (or_else_none _ (end_fault (length text) (reverse (tokens text))) sound).1
 
   old_turned : tokens_of (last_first text) ≡ back ++ base text place t can
-  old_turned = tokens_turned text ∙ ap reverse (sym (take-append-drop place (tokens_of (statements text)))) ∙ reverse-append (take place (tokens_of (statements text))) (drop place (tokens_of (statements text)))
+  old_turned =
+      tokens_turned text ∙ ap reverse (sym (take-append-drop place (tokens_of (statements text))))
+      ∙ reverse-append (take place (tokens_of (statements text))) (drop place (tokens_of (statements text)))
 
   each_old : Each (back ++ base text place t can)
   each_old = subst Each old_turned (each_walked (last_first text) (text_checked text sound))

@@ -402,7 +402,9 @@ module _ (text : List ℕ) (place : ℕ) (t : NewTheorem) (within : place ≤ le
       let block_behind : Fine false (block_names t ++ here.after) =
       fine_join false (block_names t) here.after (calm_fine (block_names t) (block_calm t plain)) (subst (λ c. Fine c here.after) (sym (block_whole t plain).closed) behind) in
       record {
-        fine = subst (Fine false) (sym names_new) (fine_join false here.before (block_names t ++ here.after) parts.0 (subst (λ c. Fine c (block_names t ++ here.after)) (sym here.whole.closed) block_behind));
+        fine =
+            subst (Fine false) (sym names_new)
+            (fine_join false here.before (block_names t ++ here.after) parts.0 (subst (λ c. Fine c (block_names t ++ here.after)) (sym here.whole.closed) block_behind));
         closed =
             ap (opened false) names_new ∙ whole_join here.before (block_names t ++ here.after) here.whole ∙ whole_join (block_names t) here.after (block_whole t plain)
             ∙ sym (whole_join here.before here.after here.whole) ∙ ap (opened false) (sym here.both) ∙ a.closed;
