@@ -15,10 +15,10 @@ use Rattle.install_laws.proofs.ActiveNames.{has_kw, path_of, on_path, active_of}
 abbrev pub IsNoBrace : List Name → Type 0
 IsNoBrace s = (has_kw (codes "${") s ≡ false) × (has_kw (codes "$}") s ≡ false)
 
-abbrev opened : List Name
+abbrev pub opened : List Name
 opened = codes "${" ∷ []
 
-abbrev closed : List Name
+abbrev pub closed : List Name
 closed = codes "$}" ∷ []
 
 -- ---- numbers that are all below, or all not below, a bound
@@ -60,7 +60,7 @@ no_end n p k q h l = by (drop (length p - suc (length q)) p) (drop_from n (lengt
     by (m ∷ r) f = let differ : nat_eq k m ≡ false = let g = f.0 in grind (arith, nat_tests, l, g) in rw differ refl
 
 -- so there only what stands in no block is active
-only_outside : (n : ℕ) (p : List ℕ) (e : List (List Name)) → AllFrom n p → length e ≤ n → on_path p e ≡ on_path [] e
+pub only_outside : (n : ℕ) (p : List ℕ) (e : List (List Name)) → AllFrom n p → length e ≤ n → on_path p e ≡ on_path [] e
 only_outside n p [] h l = refl
 only_outside n p (s ∷ e) h l =
     let shorter : length e ≤ n = omega (arith, l) in
@@ -100,7 +100,7 @@ module _ (inner before : List (List Name)) (plain : AllByRecursion IsNoBrace inn
   m = length block
 
   -- within the block its own number is the path
-  within : (i : List (List Name)) → AllByRecursion IsNoBrace i → path_of ((i ++ opened ∷ []) ++ before) ≡ n ∷ []
+  pub within : (i : List (List Name)) → AllByRecursion IsNoBrace i → path_of ((i ++ opened ∷ []) ++ before) ≡ n ∷ []
   within [] h = ap (λ p. n ∷ p) outside
   within (s ∷ i) h =
       let rest = path_of ((i ++ opened ∷ []) ++ before) in
@@ -133,7 +133,7 @@ module _ (inner before : List (List Name)) (plain : AllByRecursion IsNoBrace inn
       let a = length-append y (block ++ before) in let b = length-append block before in let c = length-append y before in
       omega (arith, a, b, c)
 
-  path_over : (y : List (List Name)) → path_of (y ++ (block ++ before)) ≡ further (path_of (y ++ before))
+  pub path_over : (y : List (List Name)) → path_of (y ++ (block ++ before)) ≡ further (path_of (y ++ before))
   path_over [] = path_behind ∙ sym (ap further outside)
   path_over (s ∷ y) =
       ap (λ k. cond (has_kw (codes "${") s) (k ∷ path_of (y ++ (block ++ before)))

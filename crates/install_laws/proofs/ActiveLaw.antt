@@ -44,22 +44,22 @@ same_active syms a b same =
 abbrev pub inner : NewTheorem → List (List Name)
 inner t = map pair_statement t.pairs ++ map hyp_statement t.hyps ++ theorem_statement t ∷ []
 
-block_is : (t : NewTheorem) → block_statements t ≡ (codes "${" ∷ []) ∷ (inner t ++ (codes "$}" ∷ []) ∷ [])
+pub block_is : (t : NewTheorem) → block_statements t ≡ (codes "${" ∷ []) ∷ (inner t ++ (codes "$}" ∷ []) ∷ [])
 block_is t = by (map pair_statement t.pairs) (map hyp_statement t.hyps) (theorem_statement t)
   where
     by : (a b : List (List Name)) (s : List Name) → (codes "${" ∷ []) ∷ a ++ b ++ s ∷ (codes "$}" ∷ []) ∷ [] ≡ (codes "${" ∷ []) ∷ ((a ++ b ++ s ∷ []) ++ (codes "$}" ∷ []) ∷ [])
     by a b s = simp append_assoc
 
-backward : (t : NewTheorem) → reverse (block_statements t) ≡ (codes "$}" ∷ []) ∷ reverse (inner t) ++ (codes "${" ∷ []) ∷ []
+pub backward : (t : NewTheorem) → reverse (block_statements t) ≡ (codes "$}" ∷ []) ∷ reverse (inner t) ++ (codes "${" ∷ []) ∷ []
 backward t =
     ap reverse (block_is t) ∙ reverse-cons (codes "${" ∷ []) (inner t ++ (codes "$}" ∷ []) ∷ [])
     ∙ ap (λ ss. ss ++ (codes "${" ∷ []) ∷ []) (reverse-append (inner t) ((codes "$}" ∷ []) ∷ []))
 
-all_append : {X : Type 0} (P : X → Type 0) (xs ys : List X) → AllByRecursion P xs → AllByRecursion P ys → AllByRecursion P (xs ++ ys)
+pub all_append : {X : Type 0} (P : X → Type 0) (xs ys : List X) → AllByRecursion P xs → AllByRecursion P ys → AllByRecursion P (xs ++ ys)
 all_append P [] ys h g = g
 all_append P (x ∷ xs) ys h g = (h.0, all_append P xs ys h.1 g)
 
-all_reverse : {X : Type 0} (P : X → Type 0) (xs : List X) → AllByRecursion P xs → AllByRecursion P (reverse xs)
+pub all_reverse : {X : Type 0} (P : X → Type 0) (xs : List X) → AllByRecursion P xs → AllByRecursion P (reverse xs)
 all_reverse P [] h = tt
 all_reverse P (x ∷ xs) h = subst (AllByRecursion P) (sym (reverse-cons x xs)) (all_append P (reverse xs) (x ∷ []) (all_reverse P xs h.1) (h.0, tt))
 

@@ -1,6 +1,6 @@
-mod ActiveBlock
-mod ActiveLaw
-mod ActiveNames
+pub mod ActiveBlock
+pub mod ActiveLaw
+pub mod ActiveNames
 mod DatabaseLaw
 pub mod Forward
 mod FrameLaw
@@ -8,11 +8,11 @@ mod FrameNames
 mod KeptLaw
 pub mod Lines
 mod MovedLists
-mod NamesLaw
+pub mod NamesLaw
 mod ProofsLaw
-mod StatementCuts
-mod StatementsLaw
-mod WordCuts
+pub mod StatementCuts
+pub mod StatementsLaw
+pub mod WordCuts
 pub mod WordLaws
 mod MorePairsLaw
 mod TwoDatabasesLaws

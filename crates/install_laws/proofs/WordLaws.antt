@@ -153,32 +153,36 @@ names_behind (x ∷ xs) ys h e =
     ap names_in (append_assoc (32 ∷ x) (behind xs) ys) ∙ names_next 32 x (behind xs ++ ys) refl (plain_token x h.0) (behind_ends xs ys e)
     ∙ ap (λ (ns : List Name). x ∷ ns) (names_behind xs ys h.1 e)
 
--- ---- words of a text without `$`
+-- ---- words of a text without such bytes
 
-abbrev NoDollar : Word → Type 0
-NoDollar w = HasNoDollar w.bytes
+module _ (test : ℕ → Bool) where
+  abbrev HasNone : Word → Type 0
+  HasNone w = list_any test w.bytes ≡ false
 
-put_dollar : (at b : ℕ) (ws : List Word) → eqb b 36 ≡ false → AllByRecursion NoDollar ws → AllByRecursion NoDollar (put_before at b ws)
-put_dollar at b [] e h = (rw e refl, tt)
-put_dollar at b (w ∷ ws) e h = by (eqb w.start (suc at))
-  where
-    by : (t : Bool) → AllByRecursion NoDollar (cond t (word at (b ∷ w.bytes) ∷ ws) (word at (b ∷ []) ∷ w ∷ ws))
-    by true = (rw e h.0, h.1)
-    by false = (rw e refl, h)
+  put_none : (at b : ℕ) (ws : List Word) → test b ≡ false → AllByRecursion HasNone ws → AllByRecursion HasNone (put_before at b ws)
+  put_none at b [] e h = (rw e refl, tt)
+  put_none at b (w ∷ ws) e h = by (eqb w.start (suc at))
+    where
+      by : (t : Bool) → AllByRecursion HasNone (cond t (word at (b ∷ w.bytes) ∷ ws) (word at (b ∷ []) ∷ w ∷ ws))
+      by true = (rw e h.0, h.1)
+      by false = (rw e refl, h)
 
-words_dollar : (at : ℕ) (bs : List ℕ) → HasNoDollar bs → AllByRecursion NoDollar (words_from at bs)
-words_dollar at [] h = tt
-words_dollar at (b ∷ bs) h =
-    let first : eqb b 36 ≡ false = (or_parts (eqb b 36) (list_any (λ c. eqb c 36) bs) h).0 in
-    let rest : HasNoDollar bs = (or_parts (eqb b 36) (list_any (λ c. eqb c 36) bs) h).1 in
-    elim (cases_Bool (is_white b)) [
-      | inl e ↦ subst (AllByRecursion NoDollar) (sym (from_white at b bs e)) (words_dollar (suc at) bs rest)
-      | inr e ↦ subst (AllByRecursion NoDollar) (sym (from_ink at b bs e)) (put_dollar at b (words_from (suc at) bs) first (words_dollar (suc at) bs rest))
-    ]
+  words_none : (at : ℕ) (bs : List ℕ) → list_any test bs ≡ false → AllByRecursion HasNone (words_from at bs)
+  words_none at [] h = tt
+  words_none at (b ∷ bs) h =
+      let first : test b ≡ false = (or_parts (test b) (list_any test bs) h).0 in
+      let rest : list_any test bs ≡ false = (or_parts (test b) (list_any test bs) h).1 in
+      elim (cases_Bool (is_white b)) [
+        | inl e ↦ subst (AllByRecursion HasNone) (sym (from_white at b bs e)) (words_none (suc at) bs rest)
+        | inr e ↦ subst (AllByRecursion HasNone) (sym (from_ink at b bs e)) (put_none at b (words_from (suc at) bs) first (words_none (suc at) bs rest))
+      ]
 
-names_all : (ws : List Word) → AllByRecursion NoDollar ws → AllByRecursion HasNoDollar (names ws)
-names_all [] h = tt
-names_all (w ∷ ws) h = (h.0, names_all ws h.1)
+  names_all : (ws : List Word) → AllByRecursion HasNone ws → AllByRecursion (λ n. list_any test n ≡ false) (names ws)
+  names_all [] h = tt
+  names_all (w ∷ ws) h = (h.0, names_all ws h.1)
+
+  pub names_none : (bs : List ℕ) → list_any test bs ≡ false → AllByRecursion (λ n. list_any test n ≡ false) (names_in bs)
+  names_none bs h = names_all (words bs) (words_none 0 bs h)
 
 pub names_dollar : (bs : List ℕ) → HasNoDollar bs → AllByRecursion HasNoDollar (names_in bs)
-names_dollar bs h = names_all (words bs) (words_dollar 0 bs h)
+names_dollar bs h = names_none (λ b. eqb b 36) bs h

@@ -1,0 +1,3 @@
+pub mod CanBePutIn
+pub mod CanBePutInExamples
+pub mod InstalledFault
