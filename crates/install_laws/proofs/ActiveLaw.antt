@@ -13,7 +13,8 @@ use Rattle.mm_model.specs.Frames.{symbols, symbol_in, below, pair_of, active_at}
 use Rattle.model_laws.proofs.Checked.{reverse-cons}
 use Rattle.install_model.specs.declared.install.NewTheorem.{NewTheorem}
 use Rattle.install_model.specs.Installed.{installed}
-use Rattle.install_laws.specs.InstalledStatements.{names, tokens_of, HasNoDollar, IsPlain, IsPlainTheorem, pair_statement, hyp_statement, theorem_statement, block_statements}
+use Rattle.install_model.specs.Moved.{pair_statement, hyp_statement, theorem_statement, block_statements}
+use Rattle.install_laws.specs.InstalledStatements.{names, tokens_of, HasNoDollar, IsPlain, IsPlainTheorem}
 use Rattle.install_laws.specs.InstalledActive.{IsOutside, ActiveStaysBefore, ActiveStaysBehind}
 use Rattle.install_laws.proofs.WordLaws.{plain_dollar}
 use Rattle.install_laws.proofs.StatementsLaw.{statements_are_put_in}

@@ -19,10 +19,10 @@ use Rattle.mm_model.specs.Frames.{positions, positions_from, is_assertion, frame
 use Rattle.proof_model.specs.DatabaseProofs.{frames_of_database}
 use Rattle.install_model.specs.declared.install.NewTheorem.{NewTheorem}
 use Rattle.install_model.specs.Installed.{installed}
-use Rattle.install_laws.specs.InstalledStatements.{names, tokens_of, IsPlainTheorem, block_statements}
-use Rattle.install_laws.specs.InstalledNames.{new_labels}
+use Rattle.install_model.specs.Moved.{block_statements, new_labels, labels_before, moved, moved_frame}
+use Rattle.install_laws.specs.InstalledStatements.{names, tokens_of, IsPlainTheorem}
 use Rattle.install_laws.specs.InstalledActive.{IsOutside}
-use Rattle.install_laws.specs.InstalledDatabase.{labels_before, moved, moved_frame, FramesAreMoved}
+use Rattle.install_laws.specs.InstalledDatabase.{FramesAreMoved}
 use Rattle.install_laws.proofs.ActiveLaw.{new_is, counted}
 use Rattle.install_laws.proofs.FrameLaw.{frames_stay_before, frames_stay_behind}
 use Rattle.install_laws.proofs.MovedLists.{moved_low, moved_high, get_moved, position_moved, get_numbers}

@@ -21,10 +21,11 @@ use Rattle.proof_model.specs.Machine.{run_steps, ended_fault, proof_fault, keep_
 use Rattle.std.specs.Option.{option_and_then}
 use Rattle.install_model.specs.declared.install.NewTheorem.{NewTheorem}
 use Rattle.install_model.specs.Installed.{installed}
+use Rattle.install_model.specs.Moved.{block_statements, moved, moved_frame}
 use Rattle.install_laws.specs.TwoDatabases.{assertion_before}
-use Rattle.install_laws.specs.InstalledStatements.{IsPlainTheorem, block_statements}
+use Rattle.install_laws.specs.InstalledStatements.{IsPlainTheorem}
 use Rattle.install_laws.specs.InstalledActive.{IsOutside}
-use Rattle.install_laws.specs.InstalledDatabase.{moved, moved_frame, HasNewLabels}
+use Rattle.install_laws.specs.InstalledDatabase.{HasNewLabels}
 use Rattle.install_laws.specs.InstalledProofs.{OldProofsStayAccepted}
 use Rattle.install_laws.proofs.DatabaseLaw.{frames_are_moved}
 use Rattle.install_laws.proofs.MorePairsLaw.{Keeps, and_keeps, numbered_keeps}

@@ -13,8 +13,9 @@ use Rattle.mm_model.specs.Frames.{without_repeats}
 use Rattle.mm_model.proofs.Lists.{labels-cons}
 use Rattle.install_model.specs.declared.install.NewTheorem.{NewTheorem}
 use Rattle.install_model.specs.Installed.{installed}
-use Rattle.install_laws.specs.InstalledStatements.{names, tokens_of, HasNoDollar, IsPlain, IsPlainTheorem, pair_statement, hyp_statement, theorem_statement, block_statements}
-use Rattle.install_laws.specs.InstalledNames.{new_labels, LabelsArePutIn, SymbolsStay}
+use Rattle.install_model.specs.Moved.{pair_statement, hyp_statement, theorem_statement, block_statements, new_labels}
+use Rattle.install_laws.specs.InstalledStatements.{names, tokens_of, HasNoDollar, IsPlain, IsPlainTheorem}
+use Rattle.install_laws.specs.InstalledNames.{LabelsArePutIn, SymbolsStay}
 use Rattle.install_laws.proofs.WordLaws.{plain_dollar}
 use Rattle.install_laws.proofs.StatementsLaw.{statements_are_put_in}
 

@@ -19,11 +19,10 @@ use Rattle.proof_model.specs.DatabaseProofs.{frames_of_database, theorem_of_fram
 use Rattle.proof_model.specs.Machine.{proof_fault}
 use Rattle.install_model.specs.declared.install.NewTheorem.{NewTheorem}
 use Rattle.install_model.specs.Installed.{installed}
+use Rattle.install_model.specs.Moved.{block_statements, new_labels, labels_before, moved, moved_frame}
 use Rattle.install_laws.specs.TwoDatabases.{labels_named, unplaced}
-use Rattle.install_laws.specs.InstalledStatements.{names, IsPlainTheorem, block_statements}
-use Rattle.install_laws.specs.InstalledNames.{new_labels}
+use Rattle.install_laws.specs.InstalledStatements.{names, IsPlainTheorem}
 use Rattle.install_laws.specs.InstalledActive.{IsOutside}
-use Rattle.install_laws.specs.InstalledDatabase.{labels_before, moved, moved_frame}
 use Rattle.install_laws.specs.InstalledProofs.{TheoremsStay, ProofsStay, OldProofsEndAlike}
 use Rattle.install_laws.proofs.ActiveLaw.{active_stays_before, active_stays_behind}
 use Rattle.install_laws.proofs.ActiveNames.{has_kw, has_kw_by}
