@@ -1,0 +1,2 @@
+pub mod CanBePutIn
+pub mod InstalledFault
