@@ -60,7 +60,7 @@ no_end n p k q h l = by (drop (length p - suc (length q)) p) (drop_from n (lengt
     by (m ∷ r) f = let differ : nat_eq k m ≡ false = let g = f.0 in grind (arith, nat_tests, l, g) in rw differ refl
 
 -- so there only what stands in no block is active
-only_outside : (n : ℕ) (p : List ℕ) (e : List (List Name)) → AllFrom n p → length e ≤ n → on_path p e ≡ on_path [] e
+pub only_outside : (n : ℕ) (p : List ℕ) (e : List (List Name)) → AllFrom n p → length e ≤ n → on_path p e ≡ on_path [] e
 only_outside n p [] h l = refl
 only_outside n p (s ∷ e) h l =
     let shorter : length e ≤ n = omega (arith, l) in
@@ -100,7 +100,7 @@ module _ (inner before : List (List Name)) (plain : AllByRecursion IsNoBrace inn
   m = length block
 
   -- within the block its own number is the path
-  within : (i : List (List Name)) → AllByRecursion IsNoBrace i → path_of ((i ++ opened ∷ []) ++ before) ≡ n ∷ []
+  pub within : (i : List (List Name)) → AllByRecursion IsNoBrace i → path_of ((i ++ opened ∷ []) ++ before) ≡ n ∷ []
   within [] h = ap (λ p. n ∷ p) outside
   within (s ∷ i) h =
       let rest = path_of ((i ++ opened ∷ []) ++ before) in

@@ -45,7 +45,7 @@ same_active syms a b same =
 abbrev pub inner : NewTheorem → List (List Name)
 inner t = map pair_statement t.pairs ++ map hyp_statement t.hyps ++ theorem_statement t ∷ []
 
-block_is : (t : NewTheorem) → block_statements t ≡ (codes "${" ∷ []) ∷ (inner t ++ (codes "$}" ∷ []) ∷ [])
+pub block_is : (t : NewTheorem) → block_statements t ≡ (codes "${" ∷ []) ∷ (inner t ++ (codes "$}" ∷ []) ∷ [])
 block_is t = by (map pair_statement t.pairs) (map hyp_statement t.hyps) (theorem_statement t)
   where
     by : (a b : List (List Name)) (s : List Name) → (codes "${" ∷ []) ∷ a ++ b ++ s ∷ (codes "$}" ∷ []) ∷ [] ≡ (codes "${" ∷ []) ∷ ((a ++ b ++ s ∷ []) ++ (codes "$}" ∷ []) ∷ [])
@@ -56,15 +56,15 @@ backward t =
     ap reverse (block_is t) ∙ reverse-cons (codes "${" ∷ []) (inner t ++ (codes "$}" ∷ []) ∷ [])
     ∙ ap (λ ss. ss ++ (codes "${" ∷ []) ∷ []) (reverse-append (inner t) ((codes "$}" ∷ []) ∷ []))
 
-all_append : {X : Type 0} (P : X → Type 0) (xs ys : List X) → AllByRecursion P xs → AllByRecursion P ys → AllByRecursion P (xs ++ ys)
+pub all_append : {X : Type 0} (P : X → Type 0) (xs ys : List X) → AllByRecursion P xs → AllByRecursion P ys → AllByRecursion P (xs ++ ys)
 all_append P [] ys h g = g
 all_append P (x ∷ xs) ys h g = (h.0, all_append P xs ys h.1 g)
 
-all_reverse : {X : Type 0} (P : X → Type 0) (xs : List X) → AllByRecursion P xs → AllByRecursion P (reverse xs)
+pub all_reverse : {X : Type 0} (P : X → Type 0) (xs : List X) → AllByRecursion P xs → AllByRecursion P (reverse xs)
 all_reverse P [] h = tt
 all_reverse P (x ∷ xs) h = subst (AllByRecursion P) (sym (reverse-cons x xs)) (all_append P (reverse xs) (x ∷ []) (all_reverse P xs h.1) (h.0, tt))
 
-pairs_open_nothing : (ps : List (Name × Name)) → AllByRecursion IsNoBrace (map pair_statement ps)
+pub pairs_open_nothing : (ps : List (Name × Name)) → AllByRecursion IsNoBrace (map pair_statement ps)
 pairs_open_nothing [] = tt
 pairs_open_nothing (p ∷ ps) = ((refl, refl), pairs_open_nothing ps)
 
@@ -78,12 +78,12 @@ labelled n k ns h e a b = (first (codes "${") a, first (codes "$}") b)
     first : (w : Name) → has_kw w (k ∷ []) ≡ false → has_kw w (n ∷ k ∷ ns) ≡ false
     first w f = rw (plain_is n h, keyword) (rw keyword at f)
 
-hyps_open_nothing : (hs : List (Name × List Name)) → AllByRecursion (λ (h : Name × List Name). IsPlain h.0 × AllByRecursion IsPlain h.1) hs
+pub hyps_open_nothing : (hs : List (Name × List Name)) → AllByRecursion (λ (h : Name × List Name). IsPlain h.0 × AllByRecursion IsPlain h.1) hs
     → AllByRecursion IsNoBrace (map hyp_statement hs)
 hyps_open_nothing [] p = tt
 hyps_open_nothing (h ∷ hs) p = (labelled h.0 (codes "$e") (h.1 ++ codes "$." ∷ []) (plain_dollar h.0 p.0.0) refl refl refl, hyps_open_nothing hs p.1)
 
-theorem_opens_nothing : (t : NewTheorem) → IsPlainTheorem t → IsNoBrace (theorem_statement t)
+pub theorem_opens_nothing : (t : NewTheorem) → IsPlainTheorem t → IsNoBrace (theorem_statement t)
 theorem_opens_nothing t p =
     labelled t.name (codes "$p") (t.formula ++ codes "$=" ∷ names (words t.proof) ++ codes "$." ∷ []) (plain_dollar t.name p.name) refl refl refl
 

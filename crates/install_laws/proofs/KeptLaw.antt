@@ -79,12 +79,12 @@ module _ (here there : Frames) (s : Theorem) (k : ℕ)
 
 -- ---- what has a frame is a label
 
-no_position : (p : Name → Bool) (ls : List Name) → list_any p ls ≡ false → position p ls ≡ None
+pub no_position : (p : Name → Bool) (ls : List Name) → list_any p ls ≡ false → position p ls ≡ None
 no_position p [] e = refl
 no_position p (l ∷ ls) e =
     let both = or_parts (p l) (list_any p ls) e in position_later p l ls both.0 ∙ ap (option_map suc) (no_position p ls both.1)
 
-has_label : (ss : List Statement) (name : Name) (f : Frame) → frames_of_database ss name ≡ Some f → contains (labels ss) name ≡ true
+pub has_label : (ss : List Statement) (name : Name) (f : Frame) → frames_of_database ss name ≡ Some f → contains (labels ss) name ≡ true
 has_label ss name f e = elim (cases_Bool (contains (labels ss) name)) [
   | inl h ↦ h
   | inr h ↦

@@ -1,18 +1,18 @@
-mod ActiveBlock
-mod ActiveLaw
-mod ActiveNames
-mod DatabaseLaw
+pub mod ActiveBlock
+pub mod ActiveLaw
+pub mod ActiveNames
+pub mod DatabaseLaw
 pub mod Forward
-mod FrameLaw
-mod FrameNames
-mod KeptLaw
+pub mod FrameLaw
+pub mod FrameNames
+pub mod KeptLaw
 pub mod Lines
-mod MovedLists
-mod NamesLaw
-mod ProofsLaw
+pub mod MovedLists
+pub mod NamesLaw
+pub mod ProofsLaw
 mod StatementCuts
-mod StatementsLaw
+pub mod StatementsLaw
 mod WordCuts
 pub mod WordLaws
-mod MorePairsLaw
-mod TwoDatabasesLaws
+pub mod MorePairsLaw
+pub mod TwoDatabasesLaws

@@ -8,7 +8,7 @@ pub mod Facts
 mod FilledSheet
 pub mod FilledSteps
 mod Filling
-mod FrameApart
+pub mod FrameApart
 pub mod Lists
 mod NoOther
 mod Pairs

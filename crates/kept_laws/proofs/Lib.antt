@@ -1,0 +1,6 @@
+mod Verdicts
+mod Stands
+mod NewLabels
+mod CodeLabels
+mod FrameLabels
+mod OldTheorems
