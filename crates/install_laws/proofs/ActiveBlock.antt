@@ -15,10 +15,10 @@ use Rattle.install_laws.proofs.ActiveNames.{has_kw, path_of, on_path, active_of}
 abbrev pub IsNoBrace : List Name → Type 0
 IsNoBrace s = (has_kw (codes "${") s ≡ false) × (has_kw (codes "$}") s ≡ false)
 
-abbrev opened : List Name
+abbrev pub opened : List Name
 opened = codes "${" ∷ []
 
-abbrev closed : List Name
+abbrev pub closed : List Name
 closed = codes "$}" ∷ []
 
 -- ---- numbers that are all below, or all not below, a bound
@@ -133,7 +133,7 @@ module _ (inner before : List (List Name)) (plain : AllByRecursion IsNoBrace inn
       let a = length-append y (block ++ before) in let b = length-append block before in let c = length-append y before in
       omega (arith, a, b, c)
 
-  path_over : (y : List (List Name)) → path_of (y ++ (block ++ before)) ≡ further (path_of (y ++ before))
+  pub path_over : (y : List (List Name)) → path_of (y ++ (block ++ before)) ≡ further (path_of (y ++ before))
   path_over [] = path_behind ∙ sym (ap further outside)
   path_over (s ∷ y) =
       ap (λ k. cond (has_kw (codes "${") s) (k ∷ path_of (y ++ (block ++ before)))

@@ -51,7 +51,7 @@ block_is t = by (map pair_statement t.pairs) (map hyp_statement t.hyps) (theorem
     by : (a b : List (List Name)) (s : List Name) → (codes "${" ∷ []) ∷ a ++ b ++ s ∷ (codes "$}" ∷ []) ∷ [] ≡ (codes "${" ∷ []) ∷ ((a ++ b ++ s ∷ []) ++ (codes "$}" ∷ []) ∷ [])
     by a b s = simp append_assoc
 
-backward : (t : NewTheorem) → reverse (block_statements t) ≡ (codes "$}" ∷ []) ∷ reverse (inner t) ++ (codes "${" ∷ []) ∷ []
+pub backward : (t : NewTheorem) → reverse (block_statements t) ≡ (codes "$}" ∷ []) ∷ reverse (inner t) ++ (codes "${" ∷ []) ∷ []
 backward t =
     ap reverse (block_is t) ∙ reverse-cons (codes "${" ∷ []) (inner t ++ (codes "$}" ∷ []) ∷ [])
     ∙ ap (λ ss. ss ++ (codes "${" ∷ []) ∷ []) (reverse-append (inner t) ((codes "$}" ∷ []) ∷ []))

@@ -61,12 +61,12 @@ on_path_by p (s ∷ e) =
 abbrev pub active_of : List (List Name) → List (List Name)
 active_of e = on_path (path_of e) e
 
-active_by : (e : List Statement) → tokens_of (active e) ≡ active_of (tokens_of e)
+pub active_by : (e : List Statement) → tokens_of (active e) ≡ active_of (tokens_of e)
 active_by e = on_path_by (path e) e ∙ ap (λ p. on_path p (tokens_of e)) (path_by e)
 
 -- ---- filters
 
-filter_by : (f : Statement → Bool) (g : List Name → Bool) → ((s : Statement) → f s ≡ g (names s)) → (ss : List Statement) → tokens_of (filter f ss) ≡ filter g (tokens_of ss)
+pub filter_by : (f : Statement → Bool) (g : List Name → Bool) → ((s : Statement) → f s ≡ g (names s)) → (ss : List Statement) → tokens_of (filter f ss) ≡ filter g (tokens_of ss)
 filter_by f g same [] = refl
 filter_by f g same (s ∷ ss) =
     ap (λ b. tokens_of (cond b (s ∷ filter f ss) (filter f ss))) (same s) ∙ by (g (names s)) (filter_by f g same ss)
@@ -79,7 +79,7 @@ filter_by f g same (s ∷ ss) =
 pub kept_by : (k : Name) (e : List Statement) → tokens_of (with_keyword k (active e)) ≡ filter (has_kw k) (active_of (tokens_of e))
 kept_by k e = filter_by (has_keyword k) (has_kw k) (has_kw_by k) (active e) ∙ ap (filter (has_kw k)) (active_by e)
 
-all_symbols : (ss : List Statement) → flat_map symbols_in ss ≡ flat_map symbol_names (tokens_of ss)
+pub all_symbols : (ss : List Statement) → flat_map symbols_in ss ≡ flat_map symbol_names (tokens_of ss)
 all_symbols [] = refl
 all_symbols (s ∷ ss) = ap (λ xs. xs ++ flat_map symbols_in ss) (symbols_by s) ∙ ap (λ xs. symbol_names (names s) ++ xs) (all_symbols ss)
 

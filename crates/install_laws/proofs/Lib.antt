@@ -10,9 +10,9 @@ pub mod Lines
 pub mod MovedLists
 pub mod NamesLaw
 pub mod ProofsLaw
-mod StatementCuts
+pub mod StatementCuts
 pub mod StatementsLaw
-mod WordCuts
+pub mod WordCuts
 pub mod WordLaws
 pub mod MorePairsLaw
 pub mod TwoDatabasesLaws

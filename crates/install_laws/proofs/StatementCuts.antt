@@ -40,7 +40,7 @@ split_names front (n ∷ ns) = cond (ends n) ((front ++ n ∷ []) ∷ split_name
 abbrev pub statements_among : List Name → List Name → List (List Name)
 statements_among front ns = split_names front (tokens_among false ns)
 
-tokens_are : (c : Bool) (ws : List Word) → names (tokens_where c ws) ≡ tokens_among c (names ws)
+pub tokens_are : (c : Bool) (ws : List Word) → names (tokens_where c ws) ≡ tokens_among c (names ws)
 tokens_are true [] = refl
 tokens_are false [] = refl
 tokens_are true (w ∷ ws) = tokens_are (not (is_close_comment w)) ws
@@ -166,7 +166,7 @@ cut_behind false front n (w ∷ ws) h = elim (cases_Bool (is_open_comment w)) [
 
 -- ---- statements of plain words
 
-apart : (n k : Name) → HasNoDollar n → list_any (λ b. eqb b 36) k ≡ true → bytes_eq n k ≡ false
+pub apart : (n k : Name) → HasNoDollar n → list_any (λ b. eqb b 36) k ≡ true → bytes_eq n k ≡ false
 apart n k none some = elim (cases_Bool (bytes_eq n k)) [
   | inl e ↦
       let same : n ≡ k = (bytes_eq-Decides n k).0 e in

@@ -36,14 +36,9 @@ names_end more =
 plain_one : (n : Name) (front more : List Name) → HasNoDollar n → statements_among front (n ∷ more) ≡ statements_among (front ++ n ∷ []) more
 plain_one n front more h = plain_run (n ∷ []) front more (h, tt)
 
-pair_put : (p : Name × Name) (more : List ℕ) → IsPlain p.0 × IsPlain p.1
-    → statements_among [] (names_in (ended (pair_line p) ++ more)) ≡ pair_statement p ∷ statements_among [] (names_in more)
-pair_put p more h =
-    ap (λ bytes. statements_among [] (names_in (bytes ++ more))) (pair_is p)
-    ∙ ap (λ bytes. statements_among [] (names_in bytes)) regroup
-    ∙ ap (statements_among []) named
-    ∙ plain_one p.0 (codes "$d" ∷ []) (p.1 ∷ codes "$." ∷ names_in more) (plain_dollar p.0 h.0)
-    ∙ plain_one p.1 (codes "$d" ∷ p.0 ∷ []) (codes "$." ∷ names_in more) (plain_dollar p.1 h.1)
+pub pair_words : (p : Name × Name) (more : List ℕ) → IsPlain p.0 × IsPlain p.1
+    → names_in (ended (pair_line p) ++ more) ≡ codes "$d" ∷ p.0 ∷ p.1 ∷ codes "$." ∷ names_in more
+pair_words p more h = ap (λ bytes. names_in (bytes ++ more)) (pair_is p) ∙ ap names_in regroup ∙ named
   where
     regroup : (codes "$d " ++ p.0 ++ codes " " ++ p.1 ++ 32 ∷ 36 ∷ 46 ∷ 10 ∷ []) ++ more ≡ 36 ∷ 100 ∷ 32 ∷ (p.0 ++ (32 ∷ (p.1 ++ end more)))
     regroup = simp append_assoc
@@ -54,18 +49,20 @@ pair_put p more h =
         ∙ ap (λ (ns : List Name). codes "$d" ∷ ns) (names_next 32 p.0 (32 ∷ (p.1 ++ end more)) refl (plain_token p.0 h.0) refl
         ∙ ap (λ (ns : List Name). p.0 ∷ ns) (names_next 32 p.1 (end more) refl (plain_token p.1 h.1) refl ∙ ap (λ (ns : List Name). p.1 ∷ ns) (names_end more)))
 
-dollars : (ns : List Name) → AllByRecursion IsPlain ns → AllByRecursion HasNoDollar ns
+pair_put : (p : Name × Name) (more : List ℕ) → IsPlain p.0 × IsPlain p.1
+    → statements_among [] (names_in (ended (pair_line p) ++ more)) ≡ pair_statement p ∷ statements_among [] (names_in more)
+pair_put p more h =
+    ap (statements_among []) (pair_words p more h)
+    ∙ plain_one p.0 (codes "$d" ∷ []) (p.1 ∷ codes "$." ∷ names_in more) (plain_dollar p.0 h.0)
+    ∙ plain_one p.1 (codes "$d" ∷ p.0 ∷ []) (codes "$." ∷ names_in more) (plain_dollar p.1 h.1)
+
+pub dollars : (ns : List Name) → AllByRecursion IsPlain ns → AllByRecursion HasNoDollar ns
 dollars [] h = tt
 dollars (n ∷ ns) h = (plain_dollar n h.0, dollars ns h.1)
 
-hyp_put : (h : Name × List Name) (more : List ℕ) → IsPlain h.0 × AllByRecursion IsPlain h.1
-    → statements_among [] (names_in (ended (hyp_line h) ++ more)) ≡ hyp_statement h ∷ statements_among [] (names_in more)
-hyp_put h more p =
-    ap (λ bytes. statements_among [] (names_in (bytes ++ more))) (hyp_is h)
-    ∙ ap (λ bytes. statements_among [] (names_in bytes)) regroup
-    ∙ ap (statements_among []) named
-    ∙ plain_one h.0 [] (codes "$e" ∷ (h.1 ++ codes "$." ∷ names_in more)) (plain_dollar h.0 p.0)
-    ∙ plain_run h.1 (h.0 ∷ codes "$e" ∷ []) (codes "$." ∷ names_in more) (dollars h.1 p.1)
+pub hyp_words : (h : Name × List Name) (more : List ℕ) → IsPlain h.0 × AllByRecursion IsPlain h.1
+    → names_in (ended (hyp_line h) ++ more) ≡ h.0 ∷ codes "$e" ∷ (h.1 ++ codes "$." ∷ names_in more)
+hyp_words h more p = ap (λ bytes. names_in (bytes ++ more)) (hyp_is h) ∙ ap names_in regroup ∙ named
   where
     regroup : (h.0 ++ codes " $e" ++ behind h.1 ++ 32 ∷ 36 ∷ 46 ∷ 10 ∷ []) ++ more ≡ h.0 ++ (32 ∷ 36 ∷ 101 ∷ (behind h.1 ++ end more))
     regroup = by (behind h.1)
@@ -79,16 +76,16 @@ hyp_put h more p =
         ∙ ap (λ (ns : List Name). h.0 ∷ ns) (names_next 32 (codes "$e") (behind h.1 ++ end more) refl (refl, (refl, tt)) (behind_ends h.1 (end more) refl)
         ∙ ap (λ (ns : List Name). codes "$e" ∷ ns) (names_behind h.1 (end more) p.1 refl ∙ ap (λ (ns : List Name). h.1 ++ ns) (names_end more)))
 
-theorem_put : (t : NewTheorem) (more : List ℕ) → IsPlainTheorem t
-    → statements_among [] (names_in (ended (theorem_line t) ++ more)) ≡ theorem_statement t ∷ statements_among [] (names_in more)
-theorem_put t more p =
-    ap (λ bytes. statements_among [] (names_in (bytes ++ more))) (theorem_is t)
-    ∙ ap (λ bytes. statements_among [] (names_in bytes)) regroup
-    ∙ ap (statements_among []) named
-    ∙ plain_one t.name [] (codes "$p" ∷ (t.formula ++ codes "$=" ∷ (names_in t.proof ++ codes "$." ∷ names_in more))) (plain_dollar t.name p.name)
-    ∙ plain_run t.formula (t.name ∷ codes "$p" ∷ []) (codes "$=" ∷ (names_in t.proof ++ codes "$." ∷ names_in more)) (dollars t.formula p.formula)
-    ∙ plain_run (names_in t.proof) ((t.name ∷ codes "$p" ∷ t.formula) ++ codes "$=" ∷ []) (codes "$." ∷ names_in more) (names_dollar t.proof p.proof)
-    ∙ ap (λ (s : List Name). (s ++ codes "$." ∷ []) ∷ statements_among [] (names_in more)) (append_assoc (t.name ∷ codes "$p" ∷ t.formula) (codes "$=" ∷ []) (names_in t.proof))
+hyp_put : (h : Name × List Name) (more : List ℕ) → IsPlain h.0 × AllByRecursion IsPlain h.1
+    → statements_among [] (names_in (ended (hyp_line h) ++ more)) ≡ hyp_statement h ∷ statements_among [] (names_in more)
+hyp_put h more p =
+    ap (statements_among []) (hyp_words h more p)
+    ∙ plain_one h.0 [] (codes "$e" ∷ (h.1 ++ codes "$." ∷ names_in more)) (plain_dollar h.0 p.0)
+    ∙ plain_run h.1 (h.0 ∷ codes "$e" ∷ []) (codes "$." ∷ names_in more) (dollars h.1 p.1)
+
+pub theorem_words : (t : NewTheorem) (more : List ℕ) → IsPlainTheorem t
+    → names_in (ended (theorem_line t) ++ more) ≡ t.name ∷ codes "$p" ∷ (t.formula ++ codes "$=" ∷ (names_in t.proof ++ codes "$." ∷ names_in more))
+theorem_words t more p = ap (λ bytes. names_in (bytes ++ more)) (theorem_is t) ∙ ap names_in regroup ∙ named
   where
     regroup : (t.name ++ codes " $p" ++ behind t.formula ++ codes " $= " ++ t.proof ++ 32 ∷ 36 ∷ 46 ∷ 10 ∷ []) ++ more
         ≡ t.name ++ (32 ∷ 36 ∷ 112 ∷ (behind t.formula ++ (32 ∷ 36 ∷ 61 ∷ 32 ∷ (t.proof ++ end more))))
@@ -115,6 +112,15 @@ theorem_put t more p =
         ∙ ap (λ (ns : List Name). codes "$p" ∷ ns)
         (names_behind t.formula (32 ∷ 36 ∷ 61 ∷ 32 ∷ (t.proof ++ end more)) p.formula refl ∙ ap (λ (ns : List Name). t.formula ++ ns) named_proof))
 
+theorem_put : (t : NewTheorem) (more : List ℕ) → IsPlainTheorem t
+    → statements_among [] (names_in (ended (theorem_line t) ++ more)) ≡ theorem_statement t ∷ statements_among [] (names_in more)
+theorem_put t more p =
+    ap (statements_among []) (theorem_words t more p)
+    ∙ plain_one t.name [] (codes "$p" ∷ (t.formula ++ codes "$=" ∷ (names_in t.proof ++ codes "$." ∷ names_in more))) (plain_dollar t.name p.name)
+    ∙ plain_run t.formula (t.name ∷ codes "$p" ∷ []) (codes "$=" ∷ (names_in t.proof ++ codes "$." ∷ names_in more)) (dollars t.formula p.formula)
+    ∙ plain_run (names_in t.proof) ((t.name ∷ codes "$p" ∷ t.formula) ++ codes "$=" ∷ []) (codes "$." ∷ names_in more) (names_dollar t.proof p.proof)
+    ∙ ap (λ (s : List Name). (s ++ codes "$." ∷ []) ∷ statements_among [] (names_in more)) (append_assoc (t.name ∷ codes "$p" ∷ t.formula) (codes "$=" ∷ []) (names_in t.proof))
+
 -- lines, one behind the other
 module _ {X : Type 0} (P : X → Type 0) (line : X → List ℕ) (statement : X → List Name)
     (put : (x : X) (more : List ℕ) → P x → statements_among [] (names_in (line x ++ more)) ≡ statement x ∷ statements_among [] (names_in more)) where
@@ -126,18 +132,16 @@ module _ {X : Type 0} (P : X → Type 0) (line : X → List ℕ) (statement : X 
       ∙ put x (flat_map line xs ++ more) h.0
       ∙ ap (λ ss. statement x ∷ ss) (lines_put xs more h.1)
 
-block_put : (t : NewTheorem) (more : List ℕ) → IsPlainTheorem t → statements_among [] (names_in (block t ++ more)) ≡ block_statements t ++ statements_among [] (names_in more)
-block_put t more p =
-    ap (λ bytes. statements_among [] (names_in (bytes ++ more))) (block_is t)
-    ∙ ap (λ bytes. statements_among [] (names_in bytes)) regroup
-    ∙ ap (statements_among []) opened
-    ∙ ap (λ ss. (codes "${" ∷ []) ∷ ss)
-    (lines_put (λ (q : Name × Name). IsPlain q.0 × IsPlain q.1) (λ q. ended (pair_line q)) pair_statement pair_put t.pairs
-    (hyps_line ++ (theorem ++ close)) p.pairs
-    ∙ ap (λ ss. map pair_statement t.pairs ++ ss)
-    (lines_put (λ (h : Name × List Name). IsPlain h.0 × AllByRecursion IsPlain h.1) (λ h. ended (hyp_line h)) hyp_statement hyp_put t.hyps (theorem ++ close) p.hyps
-    ∙ ap (λ ss. map hyp_statement t.hyps ++ ss) (theorem_put t close p ∙ ap (λ ss. theorem_statement t ∷ ss) (ap (statements_among []) closed))))
-    ∙ sym joined
+-- what stands behind the theorem's line
+abbrev pub close : List ℕ → List ℕ
+close more = 36 ∷ 125 ∷ 10 ∷ more
+
+pub close_words : (more : List ℕ) → names_in (close more) ≡ codes "$}" ∷ names_in more
+close_words more = names_token (codes "$}") (10 ∷ more) (refl, (refl, tt)) refl ∙ ap (λ (ns : List Name). codes "$}" ∷ ns) (names_white 10 more refl)
+
+pub block_opened : (t : NewTheorem) (more : List ℕ) → names_in (block t ++ more)
+    ≡ codes "${" ∷ names_in (flat_map (λ q. ended (pair_line q)) t.pairs ++ (flat_map (λ h. ended (hyp_line h)) t.hyps ++ (ended (theorem_line t) ++ close more)))
+block_opened t more = ap (λ bytes. names_in (bytes ++ more)) (block_is t) ∙ ap names_in regroup ∙ opened
   where
     pairs_line : List ℕ
     pairs_line = flat_map (λ q. ended (pair_line q)) t.pairs
@@ -148,23 +152,28 @@ block_put t more p =
     theorem : List ℕ
     theorem = ended (theorem_line t)
 
-    close : List ℕ
-    close = 36 ∷ 125 ∷ 10 ∷ more
-
-    regroup : (10 ∷ 36 ∷ 123 ∷ 10 ∷ pairs_line ++ hyps_line ++ theorem ++ 36 ∷ 125 ∷ 10 ∷ []) ++ more ≡ 10 ∷ 36 ∷ 123 ∷ 10 ∷ (pairs_line ++ (hyps_line ++ (theorem ++ close)))
+    regroup : (10 ∷ 36 ∷ 123 ∷ 10 ∷ pairs_line ++ hyps_line ++ theorem ++ 36 ∷ 125 ∷ 10 ∷ []) ++ more ≡ 10 ∷ 36 ∷ 123 ∷ 10 ∷ (pairs_line ++ (hyps_line ++ (theorem ++ (close more))))
     regroup = by pairs_line hyps_line theorem
       where
         by : (a b c : List ℕ) → (10 ∷ 36 ∷ 123 ∷ 10 ∷ a ++ b ++ c ++ 36 ∷ 125 ∷ 10 ∷ []) ++ more ≡ 10 ∷ 36 ∷ 123 ∷ 10 ∷ (a ++ (b ++ (c ++ (36 ∷ 125 ∷ 10 ∷ more))))
         by a b c = simp append_assoc
 
-    opened : names_in (10 ∷ 36 ∷ 123 ∷ 10 ∷ (pairs_line ++ (hyps_line ++ (theorem ++ close)))) ≡ codes "${" ∷ names_in (pairs_line ++ (hyps_line ++ (theorem ++ close)))
+    opened : names_in (10 ∷ 36 ∷ 123 ∷ 10 ∷ (pairs_line ++ (hyps_line ++ (theorem ++ (close more))))) ≡ codes "${" ∷ names_in (pairs_line ++ (hyps_line ++ (theorem ++ (close more))))
     opened =
-        names_next 10 (codes "${") (10 ∷ (pairs_line ++ (hyps_line ++ (theorem ++ close)))) refl (refl, (refl, tt)) refl
-        ∙ ap (λ (ns : List Name). codes "${" ∷ ns) (names_white 10 (pairs_line ++ (hyps_line ++ (theorem ++ close))) refl)
+        names_next 10 (codes "${") (10 ∷ (pairs_line ++ (hyps_line ++ (theorem ++ (close more))))) refl (refl, (refl, tt)) refl
+        ∙ ap (λ (ns : List Name). codes "${" ∷ ns) (names_white 10 (pairs_line ++ (hyps_line ++ (theorem ++ (close more)))) refl)
 
-    closed : names_in close ≡ codes "$}" ∷ names_in more
-    closed = names_token (codes "$}") (10 ∷ more) (refl, (refl, tt)) refl ∙ ap (λ (ns : List Name). codes "$}" ∷ ns) (names_white 10 more refl)
-
+block_put : (t : NewTheorem) (more : List ℕ) → IsPlainTheorem t → statements_among [] (names_in (block t ++ more)) ≡ block_statements t ++ statements_among [] (names_in more)
+block_put t more p =
+    ap (statements_among []) (block_opened t more)
+    ∙ ap (λ ss. (codes "${" ∷ []) ∷ ss)
+    (lines_put (λ (q : Name × Name). IsPlain q.0 × IsPlain q.1) (λ q. ended (pair_line q)) pair_statement pair_put t.pairs
+    (flat_map (λ h. ended (hyp_line h)) t.hyps ++ (ended (theorem_line t) ++ close more)) p.pairs
+    ∙ ap (λ ss. map pair_statement t.pairs ++ ss)
+    (lines_put (λ (h : Name × List Name). IsPlain h.0 × AllByRecursion IsPlain h.1) (λ h. ended (hyp_line h)) hyp_statement hyp_put t.hyps (ended (theorem_line t) ++ close more) p.hyps
+    ∙ ap (λ ss. map hyp_statement t.hyps ++ ss) (theorem_put t (close more) p ∙ ap (λ ss. theorem_statement t ∷ ss) (ap (statements_among []) (close_words more)))))
+    ∙ sym joined
+  where
     joined : block_statements t ++ statements_among [] (names_in more)
         ≡ (codes "${" ∷ []) ∷ (map pair_statement t.pairs ++ (map hyp_statement t.hyps ++ (theorem_statement t ∷ (codes "$}" ∷ []) ∷ statements_among [] (names_in more))))
     joined = by (map pair_statement t.pairs) (map hyp_statement t.hyps) (theorem_statement t) (statements_among [] (names_in more))
@@ -186,7 +195,7 @@ front_is n f xs l e =
 -- ---- the law
 
 -- the text with the block at a byte behind which a word can end
-at_byte : (text : List ℕ) (at : ℕ) (t : NewTheorem)
+pub at_byte : (text : List ℕ) (at : ℕ) (t : NewTheorem)
     → names_in (take at text ++ block t ++ drop at text) ≡ names_in (take at text) ++ names_in (block t ++ drop at text)
 at_byte text at t = ap names_in (append_assoc (take at text) (block t) (drop at text)) ∙ names_join (take at text) (block t ++ drop at text) refl
 
@@ -195,7 +204,7 @@ pub record IsParted (text : List ℕ) (at count : ℕ) : Type 0 where
   pub before : names_in (take at text) ≡ take count (names_in text)
   pub after : names_in (drop at text) ≡ drop count (names_in text)
 
-parted : (text : List ℕ) (i : ℕ) → i < length (words text) → (c : Cut 0 text (words text) i) → IsParted text c.count (suc i)
+pub parted : (text : List ℕ) (i : ℕ) → i < length (words text) → (c : Cut 0 text (words text) i) → IsParted text c.count (suc i)
 parted text i l c =
     let m = c.count in
     let zero_more : 0 + m ≡ m = omega arith in

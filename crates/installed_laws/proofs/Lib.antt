@@ -1,0 +1,2 @@
+mod RuleTable
+mod Walks

@@ -38,7 +38,7 @@ pub record CanBePutIn (text : List ℕ) (place : ℕ) (t : NewTheorem) : Type 0 
   pub plain : IsPlainTheorem t
   -- its labels have the bytes of labels, are none of the text, and differ
   pub label_bytes : AllByRecursion (λ n. list_all is_label_byte n ≡ true) (new_labels t)
-  pub new_labels : HasNewLabels text t
+  pub labels_new : HasNewLabels text t
   pub labels_differ : has_twice (new_labels t) ≡ false
   -- its pairs and its formulas are such at the place
   pub pairs : AllByRecursion (λ p. is_pair (below (statements text) place) p ≡ true) t.pairs
