@@ -111,7 +111,7 @@ module _ (text : List ℕ) (place : ℕ) (t : NewTheorem) (can : CanBePutIn text
       ∙ ap (λ ns. labels (take place old) ++ ns) (hyp_labels hs plain)
 
   pub not_old : (name : Name) → contains (new_labels t) name ≡ true → contains (labels old) name ≡ false
-  not_old name h = of_all (λ n. contains (labels old) n ≡ false) (new_labels t) name can.new_labels h
+  not_old name h = of_all (λ n. contains (labels old) n ≡ false) (new_labels t) name can.labels_new h
 
   pub not_in_front : (name : Name) → contains (labels old) name ≡ false → contains (labels (take place old)) name ≡ false
   not_in_front name h =

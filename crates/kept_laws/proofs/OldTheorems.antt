@@ -119,7 +119,7 @@ module _ (text : List ℕ) (place : ℕ) (t : NewTheorem) (can : CanBePutIn text
 
   module _ (theorem : Name) (is_old : contains (labels old) theorem ≡ true) where
     position_moves : position (bytes_eq theorem) (labels new) ≡ option_map (moved a b) (position (bytes_eq theorem) (labels old))
-    position_moves = label_is text place t can.within can.plain theorem (none_new (labels old) theorem is_old (new_labels t) can.new_labels)
+    position_moves = label_is text place t can.within can.plain theorem (none_new (labels old) theorem is_old (new_labels t) can.labels_new)
 
     abbrev named_at : List Statement → Option ℕ → Option (Theorem × List Name)
     named_at ss o = option_and_then (λ l. named (theorem_of_frame ss) (frame_of ss l) (proof_of ss l)) (option_map label o)
@@ -135,7 +135,7 @@ module _ (text : List ℕ) (place : ℕ) (t : NewTheorem) (can : CanBePutIn text
     kept_by (Some i) h = subst (Says (frames_of_database new)) (sym (named_moves i))
         (says_keeps (frames_of_database old) (frames_of_database new) (theorem_of_frame old) (λ f. theorem_of_frame new (moves f)) (frame_of old (label i)) (proof_of old (label i))
         (λ f words fe pe v. verdict_keeps (frames_of_database old) (frames_of_database new) (theorem_of_frame old f) (theorem_of_frame new (moves f)) words refl
-        (λ code is accepts. old_proofs_stay_accepted text place t can.within can.plain can.outside can.new_labels f code accepts) v) h)
+        (λ code is accepts. old_proofs_stay_accepted text place t can.within can.plain can.outside can.labels_new f code accepts) v) h)
 
     pub stays_accepted : IsVerdict text theorem accepted → IsVerdict (installed text place t) theorem accepted
     stays_accepted h =
