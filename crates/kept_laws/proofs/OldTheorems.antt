@@ -43,7 +43,7 @@ use Rattle.kept_laws.proofs.Verdicts.{named, Says, says_keeps, named_moved, verd
 
 from_filter_map : {X Y : Type 0} (P : Y → Type 0) (h : X → Option Y) → ((x : X) (y : Y) → h x ≡ Some y → P y) → (xs : List X) (y : Y) → Contains (filter_map h xs) y → P y
 from_filter_map P h f [] y c = absurd (nothing y c)
-from_filter_map P h f (x ∷ xs) y c = by (h x) (f x) (from_filter_map P h f xs) y c
+from_filter_map {X = X} {Y = Y} P h f (x ∷ xs) y c = by (h x) (f x) (from_filter_map P h f xs) y c
   where
     by : (o : Option Y) → ((z : Y) → o ≡ Some z → P z) → ((z : Y) → Contains (filter_map h xs) z → P z) → (z : Y) → Contains (cons_option o (filter_map h xs)) z → P z
     by None g rest z d = rest z d

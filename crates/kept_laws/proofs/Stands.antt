@@ -25,7 +25,7 @@ get_there [] x ys (suc k) e = absurd cc
 get_there (y ∷ xs) x ys zero e = absurd cc
 get_there (y ∷ xs) x ys (suc k) e = let less : length xs ≡ k = omega (arith, e) in get_there xs x ys k less
 
-none_of : (name : Name) (ns : List Name) → contains ns name ≡ false → AllByRecursion (λ n. bytes_eq name n ≡ false) ns
+pub none_of : (name : Name) (ns : List Name) → contains ns name ≡ false → AllByRecursion (λ n. bytes_eq name n ≡ false) ns
 none_of name [] h = tt
 none_of name (n ∷ ns) h = let both = or_parts (bytes_eq name n) (contains ns name) h in (both.0, none_of name ns both.1)
 
@@ -33,6 +33,7 @@ position_there : (name : Name) (ns rest : List Name) → contains ns name ≡ fa
 position_there name ns rest h =
     position_behind (bytes_eq name) ns (name ∷ rest) (none_of name ns h)
     ∙ ap (option_map (λ n. n + length ns)) (position_here (bytes_eq name) name rest ((bytes_eq-Decides name name).1 refl))
+    ∙ (let same : 0 + length ns ≡ length ns = omega arith in ap (λ n. Some n) same)
 
 some_names : (o : Option Statement) (s : List Name) → option_map names o ≡ Some s → (w : Statement) × (o ≡ Some w) × (names w ≡ s)
 some_names None s e = absurd cc
@@ -58,15 +59,17 @@ module _ (ss : List Statement) (before : List (List Name)) (s : List Name) (behi
       ap (λ ns. option_map label (position (bytes_eq name) ns)) all_labels
       ∙ ap (option_map label) (position_there name (flat_map label_names before) (flat_map label_names behind) first)
 
-  all_positions : positions ss ≡ numbers_from 0 before ++ length before ∷ numbers_from (suc (0 + length before)) behind
+  all_positions : positions ss ≡ numbers_from 0 before ++ length before ∷ numbers_from (suc (length before)) behind
   all_positions =
+      let same : 0 + length before ≡ length before = omega arith in
       positions_by 0 ss ∙ ap (numbers_from 0) are ∙ numbers_append 0 before (s ∷ behind)
-      ∙ ap (λ ns. numbers_from 0 before ++ (map (λ n. 0 + length before) ns ++ numbers_from (suc (0 + length before)) behind)) own
+      ∙ ap (λ k. numbers_from 0 before ++ numbers_from k (s ∷ behind)) same
+      ∙ ap (λ ns. numbers_from 0 before ++ (map (λ n. length before) ns ++ numbers_from (suc (length before)) behind)) own
 
   position_is : slice_get (positions ss) count ≡ Some (length before)
   position_is =
       ap (λ xs. slice_get xs count) all_positions
-      ∙ get_there (numbers_from 0 before) (length before) (numbers_from (suc (0 + length before)) behind) count (numbers_count 0 before)
+      ∙ get_there (numbers_from 0 before) (length before) (numbers_from (suc (length before)) behind) count (numbers_count 0 before)
 
   pub there : (w : Statement) × (slice_get ss (length before) ≡ Some w) × (names w ≡ s)
   there =
