@@ -1,6 +1,7 @@
 mod Verdicts
 mod Stands
 mod NewLabels
+mod NewActive
 mod CodeLabels
 mod FrameLabels
 mod OldTheorems
