@@ -117,7 +117,7 @@ module _ (text : List ℕ) (place : ℕ) (t : NewTheorem) (can : CanBePutIn text
   pub old_active : active_at (old text place t can) place ≡ what_is_active syms before
   old_active = active_is (old text place t can) place ∙ ap (what_is_active syms) (below_is (old text place t can) place)
 
-  active_is_block : active_of e ≡ reverse (pairs ++ hyps) ++ opened ∷ active_of before
+  pub active_is_block : active_of e ≡ reverse (pairs ++ hyps) ++ opened ∷ active_of before
   active_is_block =
       active_in_block before no_path (reverse (pairs ++ hyps))
       (all_reverse IsNoBrace (pairs ++ hyps) (all_append IsNoBrace pairs hyps (pairs_open_nothing t.pairs) (hyps_open_nothing t.hyps can.plain.hyps)))
