@@ -3,6 +3,7 @@ mod Stands
 mod NewLabels
 mod NewActive
 mod NewMandatory
+mod NewPairs
 mod CodeLabels
 mod FrameLabels
 mod OldTheorems

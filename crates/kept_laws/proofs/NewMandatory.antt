@@ -49,7 +49,7 @@ either_order true false = refl
 either_order false true = refl
 either_order false false = refl
 
-any_reverse : {X : Type 0} (p : X → Bool) (xs : List X) → list_any p (reverse xs) ≡ list_any p xs
+pub any_reverse : {X : Type 0} (p : X → Bool) (xs : List X) → list_any p (reverse xs) ≡ list_any p xs
 any_reverse p [] = refl
 any_reverse p (x ∷ xs) =
     ap (list_any p) (reverse-cons x xs) ∙ list_any-append p (reverse xs) (x ∷ []) ∙ ap (λ b. b || (p x || false)) (any_reverse p xs) ∙ either_order (list_any p xs) (p x)
@@ -58,7 +58,7 @@ any_same : {X : Type 0} (p q : X → Bool) → ((x : X) → p x ≡ q x) → (xs
 any_same p q f [] = refl
 any_same p q f (x ∷ xs) = ap (λ b. b || list_any p xs) (f x) ∙ ap (λ b. q x || b) (any_same p q f xs)
 
-any_mapped : {X Y : Type 0} (p : Y → Bool) (f : X → Y) (xs : List X) → list_any p (map f xs) ≡ list_any (λ x. p (f x)) xs
+pub any_mapped : {X Y : Type 0} (p : Y → Bool) (f : X → Y) (xs : List X) → list_any p (map f xs) ≡ list_any (λ x. p (f x)) xs
 any_mapped p f [] = refl
 any_mapped p f (x ∷ xs) = ap (λ b. p (f x) || b) (any_mapped p f xs)
 
@@ -86,7 +86,7 @@ or_no : (b : Bool) → (b || false) ≡ b
 or_no true = refl
 or_no false = refl
 
-contains_filter : (p : Name → Bool) (ns : List Name) (n : Name) → contains (filter p ns) n ≡ (contains ns n && p n)
+pub contains_filter : (p : Name → Bool) (ns : List Name) (n : Name) → contains (filter p ns) n ≡ (contains ns n && p n)
 contains_filter p [] n = refl
 contains_filter p (m ∷ ns) n = by (bytes_eq n m) refl (p m) refl (contains_filter p ns n)
   where
@@ -164,7 +164,7 @@ float_is_hyp s h = float_by (body_names s) h
 -- ---- numbers of symbols
 
 module _ (ss : List Statement) where
-  symbol_same : (x y : Name) → contains (symbols ss) x ≡ true → ((symbol_in (symbols ss) x).0 == (symbol_in (symbols ss) y).0) ≡ bytes_eq x y
+  pub symbol_same : (x y : Name) → contains (symbols ss) x ≡ true → ((symbol_in (symbols ss) x).0 == (symbol_in (symbols ss) y).0) ≡ bytes_eq x y
   symbol_same x y h = elim (cases_Bool ((symbol_in (symbols ss) x).0 == (symbol_in (symbols ss) y).0)) [
     | inl d ↦
         let same : (symbol_in (symbols ss) x).0 ≡ (symbol_in (symbols ss) y).0 = eqb-true (symbol_in (symbols ss) x).0 (symbol_in (symbols ss) y).0 d in

@@ -1,3 +1,4 @@
+use Rattle.kept_laws.proofs.NewPairs.{pair_is_active}
 use Rattle.kept_laws.proofs.NewMandatory.{mandatory_same}
 use Rattle.kept_laws.proofs.NewActive.{new_hyps}
 use Rattle.kept_laws.proofs.OldTheorems.{old_proofs_end_as_before}
