@@ -4,6 +4,9 @@ mod NewLabels
 mod NewActive
 mod NewMandatory
 mod NewPairs
+mod NewStatement
+mod ProofWords
+mod NewVerdict
 mod CodeLabels
 mod FrameLabels
 mod OldTheorems

@@ -153,7 +153,7 @@ module _ (text : List ℕ) (place : ℕ) (t : NewTheorem) (can : CanBePutIn text
       ∙ no_frame f.hyp name own_plain (statement new (opening ++ map hyp_statement f.pre) (hyp_statement f.hyp) behind name are own first)
       (there new (opening ++ map hyp_statement f.pre) (hyp_statement f.hyp) behind name are own first).2 _
 
-  old_none : (name : Name) → contains (labels old) name ≡ false → frames_of_database old name ≡ None
+  pub old_none : (name : Name) → contains (labels old) name ≡ false → frames_of_database old name ≡ None
   old_none name h = ap (λ o. option_and_then (frame_of old) (option_map label o)) (no_position (bytes_eq name) (labels old) h)
 
   -- each label but the theorem's has the frame that it had

@@ -1,3 +1,6 @@
+use Rattle.kept_laws.proofs.NewVerdict.{verdict}
+use Rattle.kept_laws.proofs.NewStatement.{hyp_is}
+use Rattle.kept_laws.proofs.ProofWords.{read_proof}
 use Rattle.kept_laws.proofs.NewPairs.{pair_is_active}
 use Rattle.kept_laws.proofs.NewMandatory.{mandatory_same}
 use Rattle.kept_laws.proofs.NewActive.{new_hyps}
