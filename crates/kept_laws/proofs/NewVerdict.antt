@@ -83,17 +83,17 @@ module _ (text : List ℕ) (place : ℕ) (t : NewTheorem) (can : CanBePutIn text
   fresh : contains (labels (old text place t can)) t.name ≡ false
   fresh = not_old text place t can t.name (some_last t.name (map (λ (h : Name × List Name). h.0) t.hyps))
 
-  first : contains (flat_map label_names (front text place t can)) t.name ≡ false
+  pub first : contains (flat_map label_names (front text place t can)) t.name ≡ false
   first = front_none text place t can t.hyps can.plain.hyps t.name fresh
       (apart (map (λ (h : Name × List Name). h.0) t.hyps) (t.name ∷ []) t.name can.labels_differ (self_alone t.name))
 
   abbrev rest : List (List Name)
   rest = (codes "$}" ∷ []) ∷ drop place (ts text place t can)
 
-  are : tokens_of (new text place t can) ≡ front text place t can ++ theorem_statement t ∷ rest
+  pub are : tokens_of (new text place t can) ≡ front text place t can ++ theorem_statement t ∷ rest
   are = around_theorem text place t can
 
-  own : label_names (theorem_statement t) ≡ t.name ∷ []
+  pub own : label_names (theorem_statement t) ≡ t.name ∷ []
   own = theorem_labels t can.plain
 
   abbrev w : Statement
