@@ -7,6 +7,7 @@ mod NewPairs
 mod NewStatement
 mod ProofWords
 mod NewVerdict
+mod NewTheorem
 mod CodeLabels
 mod FrameLabels
 mod OldTheorems
