@@ -12,7 +12,7 @@ use Rattle.mm_base.specs.declared.symbols.Pair.{Pair}
 use Rattle.mm_base.specs.declared.symbols.Sym.{Sym}
 use Rattle.mm_model.specs.declared.frames.Frame.{Frame}
 use Rattle.mm_model.specs.declared.frames.Hyp.{Hyp}
-use Rattle.mm_model.specs.Names.{Name, sym, symbol_named, label_named, contains}
+use Rattle.mm_model.specs.Names.{Name, sym as sym_numbered, symbol_named, label_named, contains}
 use Rattle.mm_model.specs.Words.{words}
 use Rattle.mm_model.specs.Statements.{statements, database_fault, labels}
 use Rattle.mm_model.specs.Frames.{symbols, symbol_in, active_at, frame_of}
@@ -45,7 +45,7 @@ named_known : (ns : List Name) (n : Name) → contains ns n ≡ true → symbol_
 named_known ns n h =
     let less : position_or_len (bytes_eq n) ns < length ns = first_within (bytes_eq n) ns h in
     let yes : nat_lt (position_or_len (bytes_eq n) ns) (length ns) ≡ true = grind (arith, nat_tests, less) in
-    ap (λ b. option_map sym (cond b (Some (position_or_len (bytes_eq n) ns)) None)) yes
+    ap (λ b. option_map sym_numbered (cond b (Some (position_or_len (bytes_eq n) ns)) None)) yes
 
 module _ (ns : List Name) where
   all_found : (ts : List Name) → AllByRecursion (λ n. contains ns n ≡ true) ts → list_all (λ n. is_some (symbol_named ns n)) ts ≡ true
@@ -130,3 +130,17 @@ module _ (text : List ℕ) (db : Database) (kinds_text : List ℕ) (options : Op
       ap (λ (f : List Sym). let h : Hyp = record { name = unwrap_or e.reference []; floating = false; formula = f } in h ∷ map new_of es)
       (symbols_known (formula_tokens db e.tree) (formula_known text place t can (formula_tokens db e.tree) a.0))
       ∙ ap (λ hs. hyp_at (named_hyp db options w e) ∷ hs) (each_hyp es a.1)
+
+  pub hyps_equal : thm.hyps ≡ (T text place t can).hyps
+  hyps_equal =
+      hyps_same db book kinds_text options w wr finished
+      ∙ ap (λ (k : ℕ). (db.active_at k).hyps ++ map new_of (drop (length (given_hyps db s)) (filter (λ (e : WrittenStep). e.hyp) (steps_in w.items)))) (sym wr.binds.place)
+      ∙ ap (λ hs. (db.active_at place).hyps ++ map new_of (drop (length hs) (filter (λ (e : WrittenStep). e.hyp) (steps_in w.items)))) given_are
+      ∙ ap (λ a. a.hyps ++ map new_of own) (is.active_at place)
+      ∙ ap (λ hs. (active_at (statements text) place).hyps ++ hs) (each_hyp own can.hyps)
+      ∙ sym (hyps_are text place t can)
+
+  pub mandatory_equal : thm.mandatory ≡ (T text place t can).mandatory
+  mandatory_equal =
+      ap (λ f. mandatory_of f thm.hyps) (formula_same ∙ formula_is text place t can) ∙ ap (mandatory_of (map (symbol_in sy) t.formula)) hyps_equal
+      ∙ sym (mandatory_is text place t can sound)

@@ -1,3 +1,4 @@
+use Rattle.kept_laws.proofs.NewTheorem.{mandatory_equal}
 use Rattle.kept_laws.proofs.NewTheorem.{formula_same}
 use Rattle.kept_laws.proofs.NewVerdict.{verdict}
 use Rattle.kept_laws.proofs.NewStatement.{hyp_is}
