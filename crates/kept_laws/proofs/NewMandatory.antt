@@ -225,7 +225,7 @@ module _ (text : List ℕ) (place : ℕ) (sound : database_fault text ≡ None) 
   abbrev pub IsTyped : List Name → Type 0
   IsTyped s = F s ≡ true → Typed (variables_of before) (symbol_names s)
 
-  variables_same : stated.variables b ≡ variables_of before
+  pub variables_same : stated.variables b ≡ variables_of before
   variables_same = variables_by b ∙ ap variables_of (below_is (statements text) place)
 
   pub floats_typed : AllByRecursion IsTyped (active_of before)

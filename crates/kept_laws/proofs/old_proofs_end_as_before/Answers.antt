@@ -1,3 +1,4 @@
+use Rattle.kept_laws.proofs.NewTheorem.{new_is_accepted}
 use Rattle.kept_laws.proofs.NewTheorem.{mandatory_equal}
 use Rattle.kept_laws.proofs.NewTheorem.{formula_same}
 use Rattle.kept_laws.proofs.NewVerdict.{verdict}
