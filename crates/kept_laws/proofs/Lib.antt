@@ -11,3 +11,4 @@ mod NewTheorem
 mod CodeLabels
 mod FrameLabels
 mod OldTheorems
+mod Installing
