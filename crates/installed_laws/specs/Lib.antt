@@ -1,2 +1,3 @@
+pub mod FinishedCanBePutIn
 pub mod CanBePutIn
 pub mod InstalledFault
