@@ -4,6 +4,7 @@ pub mod CommandLineExamples
 pub mod Endings
 pub mod Given
 pub mod GivenExamples
+pub mod Kept
 pub mod Trial
 pub mod TrialAnswerExamples
 pub mod Verified

@@ -13,7 +13,8 @@ use Rattle.mm_model.specs.Frames.{symbols, symbol_in, below, pair_of, active_at}
 use Rattle.model_laws.proofs.Checked.{reverse-cons}
 use Rattle.install_model.specs.declared.install.NewTheorem.{NewTheorem}
 use Rattle.install_model.specs.Installed.{installed}
-use Rattle.install_laws.specs.InstalledStatements.{names, tokens_of, HasNoDollar, IsPlain, IsPlainTheorem, pair_statement, hyp_statement, theorem_statement, block_statements}
+use Rattle.install_model.specs.Moved.{pair_statement, hyp_statement, theorem_statement, block_statements}
+use Rattle.install_laws.specs.InstalledStatements.{names, tokens_of, HasNoDollar, IsPlain, IsPlainTheorem}
 use Rattle.install_laws.specs.InstalledActive.{IsOutside, ActiveStaysBefore, ActiveStaysBehind}
 use Rattle.install_laws.proofs.WordLaws.{plain_dollar}
 use Rattle.install_laws.proofs.StatementsLaw.{statements_are_put_in}
@@ -63,7 +64,7 @@ pub all_reverse : {X : Type 0} (P : X → Type 0) (xs : List X) → AllByRecursi
 all_reverse P [] h = tt
 all_reverse P (x ∷ xs) h = subst (AllByRecursion P) (sym (reverse-cons x xs)) (all_append P (reverse xs) (x ∷ []) (all_reverse P xs h.1) (h.0, tt))
 
-pairs_open_nothing : (ps : List (Name × Name)) → AllByRecursion IsNoBrace (map pair_statement ps)
+pub pairs_open_nothing : (ps : List (Name × Name)) → AllByRecursion IsNoBrace (map pair_statement ps)
 pairs_open_nothing [] = tt
 pairs_open_nothing (p ∷ ps) = ((refl, refl), pairs_open_nothing ps)
 
@@ -77,12 +78,12 @@ labelled n k ns h e a b = (first (codes "${") a, first (codes "$}") b)
     first : (w : Name) → has_kw w (k ∷ []) ≡ false → has_kw w (n ∷ k ∷ ns) ≡ false
     first w f = rw (plain_is n h, keyword) (rw keyword at f)
 
-hyps_open_nothing : (hs : List (Name × List Name)) → AllByRecursion (λ (h : Name × List Name). IsPlain h.0 × AllByRecursion IsPlain h.1) hs
+pub hyps_open_nothing : (hs : List (Name × List Name)) → AllByRecursion (λ (h : Name × List Name). IsPlain h.0 × AllByRecursion IsPlain h.1) hs
     → AllByRecursion IsNoBrace (map hyp_statement hs)
 hyps_open_nothing [] p = tt
 hyps_open_nothing (h ∷ hs) p = (labelled h.0 (codes "$e") (h.1 ++ codes "$." ∷ []) (plain_dollar h.0 p.0.0) refl refl refl, hyps_open_nothing hs p.1)
 
-theorem_opens_nothing : (t : NewTheorem) → IsPlainTheorem t → IsNoBrace (theorem_statement t)
+pub theorem_opens_nothing : (t : NewTheorem) → IsPlainTheorem t → IsNoBrace (theorem_statement t)
 theorem_opens_nothing t p =
     labelled t.name (codes "$p") (t.formula ++ codes "$=" ∷ names (words t.proof) ++ codes "$." ∷ []) (plain_dollar t.name p.name) refl refl refl
 

@@ -173,7 +173,7 @@ what_is_active syms e = record {
 abbrev active_with : List Sym → List Hyp → List Pair → Active
 active_with vars hyps pairs = record { variables = vars; hyps = hyps; pairs = pairs }
 
-filter-append : {X : Type 0} (f : X → Bool) (xs ys : List X) → filter f (xs ++ ys) ≡ filter f xs ++ filter f ys
+pub filter-append : {X : Type 0} (f : X → Bool) (xs ys : List X) → filter f (xs ++ ys) ≡ filter f xs ++ filter f ys
 filter-append f [] ys = refl
 filter-append f (x ∷ xs) ys = by (f x) (filter-append f xs ys)
   where
@@ -182,7 +182,7 @@ filter-append f (x ∷ xs) ys = by (f x) (filter-append f xs ys)
     by true h = ap (λ zs. x ∷ zs) h
     by false h = h
 
-filter-reverse : {X : Type 0} (f : X → Bool) (xs : List X) → filter f (reverse xs) ≡ reverse (filter f xs)
+pub filter-reverse : {X : Type 0} (f : X → Bool) (xs : List X) → filter f (reverse xs) ≡ reverse (filter f xs)
 filter-reverse f [] = refl
 filter-reverse f (x ∷ xs) =
     ap (filter f) (reverse-cons x xs) ∙ filter-append f (reverse xs) (x ∷ []) ∙ ap (λ ys. ys ++ filter f (x ∷ [])) (filter-reverse f xs) ∙ by (f x)

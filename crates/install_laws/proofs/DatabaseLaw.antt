@@ -19,10 +19,10 @@ use Rattle.mm_model.specs.Frames.{positions, positions_from, is_assertion, frame
 use Rattle.proof_model.specs.DatabaseProofs.{frames_of_database}
 use Rattle.install_model.specs.declared.install.NewTheorem.{NewTheorem}
 use Rattle.install_model.specs.Installed.{installed}
-use Rattle.install_laws.specs.InstalledStatements.{names, tokens_of, IsPlainTheorem, block_statements}
-use Rattle.install_laws.specs.InstalledNames.{new_labels}
+use Rattle.install_model.specs.Moved.{block_statements, new_labels, labels_before, moved, moved_frame}
+use Rattle.install_laws.specs.InstalledStatements.{names, tokens_of, IsPlainTheorem}
 use Rattle.install_laws.specs.InstalledActive.{IsOutside}
-use Rattle.install_laws.specs.InstalledDatabase.{labels_before, moved, moved_frame, FramesAreMoved}
+use Rattle.install_laws.specs.InstalledDatabase.{FramesAreMoved}
 use Rattle.install_laws.proofs.ActiveLaw.{new_is, counted}
 use Rattle.install_laws.proofs.FrameLaw.{frames_stay_before, frames_stay_behind}
 use Rattle.install_laws.proofs.MovedLists.{moved_low, moved_high, get_moved, position_moved, get_numbers}
@@ -30,7 +30,7 @@ use Rattle.install_laws.proofs.NamesLaw.{label_names, front_names, labels_by, bl
 
 -- ---- positions by the bytes of tokens
 
-abbrev numbers_from : ℕ → List (List Name) → List ℕ
+abbrev pub numbers_from : ℕ → List (List Name) → List ℕ
 numbers_from k [] = []
 numbers_from k (ns ∷ rest) = map (λ n. k) (label_names ns) ++ numbers_from (suc k) rest
 
@@ -38,13 +38,13 @@ same_number : (k : ℕ) (ws : List Word) → map (λ w. k) ws ≡ map (λ n. k) 
 same_number k [] = refl
 same_number k (w ∷ ws) = ap (λ xs. k ∷ xs) (same_number k ws)
 
-positions_by : (k : ℕ) (ss : List Statement) → positions_from k ss ≡ numbers_from k (tokens_of ss)
+pub positions_by : (k : ℕ) (ss : List Statement) → positions_from k ss ≡ numbers_from k (tokens_of ss)
 positions_by k [] = refl
 positions_by k (s ∷ ss) =
     ap (λ xs. xs ++ positions_from (suc k) ss) (same_number k (labels_in s) ∙ ap (map (λ n. k)) (front_names s))
     ∙ ap (λ xs. map (λ n. k) (label_names (names s)) ++ xs) (positions_by (suc k) ss)
 
-numbers_append : (k : ℕ) (a c : List (List Name)) → numbers_from k (a ++ c) ≡ numbers_from k a ++ numbers_from (k + length a) c
+pub numbers_append : (k : ℕ) (a c : List (List Name)) → numbers_from k (a ++ c) ≡ numbers_from k a ++ numbers_from (k + length a) c
 numbers_append k [] c = let same : k ≡ k + 0 = omega arith in ap (λ n. numbers_from n c) same
 numbers_append k (s ∷ a) c =
     let same : suc k + length a ≡ k + suc (length a) = omega arith in
@@ -83,7 +83,7 @@ numbers_high bound k (s ∷ a) h =
     let later : bound ≤ suc k = omega (arith, h) in
     all_append (λ n. bound ≤ n) (map (λ n. k) (label_names s)) (numbers_from (suc k) a) (all_const (λ n. bound ≤ n) k h (label_names s)) (numbers_high bound (suc k) a later)
 
-numbers_count : (k : ℕ) (a : List (List Name)) → length (numbers_from k a) ≡ length (flat_map label_names a)
+pub numbers_count : (k : ℕ) (a : List (List Name)) → length (numbers_from k a) ≡ length (flat_map label_names a)
 numbers_count k [] = refl
 numbers_count k (s ∷ a) =
     let one = length-append (map (λ n. k) (label_names s)) (numbers_from (suc k) a) in
@@ -126,10 +126,10 @@ module _ (text : List ℕ) (place : ℕ) (t : NewTheorem) (within : place ≤ le
   abbrev high : List ℕ
   high = numbers_from place (drop place ts)
 
-  front_count : length (take place ts) ≡ place
+  pub front_count : length (take place ts) ≡ place
   front_count = counted text place t within plain
 
-  new_tokens : tokens_of new ≡ take place ts ++ (block_statements t ++ drop place ts)
+  pub new_tokens : tokens_of new ≡ take place ts ++ (block_statements t ++ drop place ts)
   new_tokens = new_is text place t within plain ∙ append_assoc (take place ts) (block_statements t) (drop place ts)
 
   from_place : (c : List (List Name)) → numbers_from (0 + length (take place ts)) c ≡ numbers_from place c
@@ -172,7 +172,7 @@ module _ (text : List ℕ) (place : ℕ) (t : NewTheorem) (within : place ≤ le
       ∙ ap (λ xs. slice_get xs at) (take-append-drop place ts)
       ∙ slice_get-map names old at
 
-  old_labels : labels old ≡ labels (take place old) ++ labels (drop place old)
+  pub old_labels : labels old ≡ labels (take place old) ++ labels (drop place old)
   old_labels =
       labels_by old ∙ ap (flat_map label_names) (sym (take-append-drop place ts)) ∙ flat_map-append label_names (take place ts) (drop place ts)
       ∙ ap (λ xs. flat_map label_names xs ++ flat_map label_names (drop place ts)) (take-map names place old)
@@ -180,7 +180,7 @@ module _ (text : List ℕ) (place : ℕ) (t : NewTheorem) (within : place ≤ le
       ∙ ap (λ xs. xs ++ flat_map label_names (tokens_of (drop place old))) (sym (labels_by (take place old)))
       ∙ ap (λ xs. labels (take place old) ++ xs) (sym (labels_by (drop place old)))
 
-  label_is : (name : Name) → AllByRecursion (λ n. bytes_eq name n ≡ false) (new_labels t)
+  pub label_is : (name : Name) → AllByRecursion (λ n. bytes_eq name n ≡ false) (new_labels t)
       → position (bytes_eq name) (labels new) ≡ option_map (moved a b) (position (bytes_eq name) (labels old))
   label_is name fresh =
       ap (position (bytes_eq name)) (labels_are_put_in text place t within plain ∙ append_assoc (labels (take place old)) (new_labels t) (labels (drop place old)))
@@ -242,7 +242,7 @@ module _ (text : List ℕ) (place : ℕ) (t : NewTheorem) (within : place ≤ le
     position_moves i None = refl
     position_moves i (Some at) = statement_moves i at (slice_get old at) (slice_get new (moved place m at)) (tokens_at at)
 
-    label_moves : (o : Option ℕ)
+    pub label_moves : (o : Option ℕ)
         → option_and_then (frame_of new) (option_map label (option_map (moved a b) o))
         ≡ option_map (moved_frame old place t) (option_and_then (frame_of old) (option_map label o))
     label_moves None = refl
@@ -253,7 +253,7 @@ module _ (text : List ℕ) (place : ℕ) (t : NewTheorem) (within : place ≤ le
     frames_move name fresh = ap (λ o. option_and_then (frame_of new) (option_map label o)) (label_is name fresh) ∙ label_moves (position (bytes_eq name) (labels old))
 
 -- an old label is none of the new ones
-none_new : (ls : List Name) (name : Name) → contains ls name ≡ true → (ns : List Name) → AllByRecursion (λ n. contains ls n ≡ false) ns
+pub none_new : (ls : List Name) (name : Name) → contains ls name ≡ true → (ns : List Name) → AllByRecursion (λ n. contains ls n ≡ false) ns
     → AllByRecursion (λ n. bytes_eq name n ≡ false) ns
 none_new ls name h [] f = tt
 none_new ls name h (n ∷ ns) f = (other, none_new ls name h ns f.1)

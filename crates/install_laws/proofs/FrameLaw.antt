@@ -7,7 +7,8 @@ use Rattle.mm_model.specs.Statements.{Statement, statements}
 use Rattle.mm_model.specs.Frames.{symbols, below, frame_at}
 use Rattle.install_model.specs.declared.install.NewTheorem.{NewTheorem}
 use Rattle.install_model.specs.Installed.{installed}
-use Rattle.install_laws.specs.InstalledStatements.{names, tokens_of, IsPlainTheorem, block_statements}
+use Rattle.install_model.specs.Moved.{block_statements}
+use Rattle.install_laws.specs.InstalledStatements.{names, tokens_of, IsPlainTheorem}
 use Rattle.install_laws.specs.InstalledActive.{IsOutside}
 use Rattle.install_laws.specs.InstalledFrames.{FramesStayBefore, FramesStayBehind}
 use Rattle.install_laws.proofs.ActiveBlock.{kept_behind}

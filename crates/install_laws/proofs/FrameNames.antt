@@ -16,7 +16,7 @@ use Rattle.install_laws.proofs.ActiveNames.{has_kw, has_kw_by, active_of, kept_b
 
 -- ---- the variables of an assertion and of the active `$e`
 
-abbrev stands_in : Name → List (List Name) → Bool
+abbrev pub stands_in : Name → List (List Name) → Bool
 stands_in n ds = list_any (λ d. contains (symbol_names d) n) ds
 
 stands_in_by : (n : Name) (ss : List Statement) → list_any (λ f. contains (symbols_in f) n) ss ≡ stands_in n (tokens_of ss)
@@ -24,10 +24,10 @@ stands_in_by n [] = refl
 stands_in_by n (s ∷ ss) =
     ap (λ ns. contains ns n || list_any (λ f. contains (symbols_in f) n) ss) (symbols_by s) ∙ ap (λ b. contains (symbol_names (names s)) n || b) (stands_in_by n ss)
 
-abbrev mandatory_by : List Name → List Name → List (List Name) → List Name → List Name
+abbrev pub mandatory_by : List Name → List Name → List (List Name) → List Name → List Name
 mandatory_by syms vars es ns = filter (λ n. contains vars n && stands_in n (ns ∷ es)) syms
 
-abbrev mandatory_of : List Name → List (List Name) → List Name → List Name
+abbrev pub mandatory_of : List Name → List (List Name) → List Name → List Name
 mandatory_of syms e ns = mandatory_by syms (variables_of e) (filter (has_kw (codes "$e")) (active_of e)) ns
 
 mandatory_is : (syms : List Name) (e : List Statement) (s : Statement) → mandatory_variables syms e s ≡ mandatory_of syms (tokens_of e) (names s)

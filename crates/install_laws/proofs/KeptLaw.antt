@@ -21,10 +21,11 @@ use Rattle.proof_model.specs.Machine.{run_steps, ended_fault, proof_fault, keep_
 use Rattle.std.specs.Option.{option_and_then}
 use Rattle.install_model.specs.declared.install.NewTheorem.{NewTheorem}
 use Rattle.install_model.specs.Installed.{installed}
+use Rattle.install_model.specs.Moved.{block_statements, moved, moved_frame}
 use Rattle.install_laws.specs.TwoDatabases.{assertion_before}
-use Rattle.install_laws.specs.InstalledStatements.{IsPlainTheorem, block_statements}
+use Rattle.install_laws.specs.InstalledStatements.{IsPlainTheorem}
 use Rattle.install_laws.specs.InstalledActive.{IsOutside}
-use Rattle.install_laws.specs.InstalledDatabase.{moved, moved_frame, HasNewLabels}
+use Rattle.install_laws.specs.InstalledDatabase.{HasNewLabels}
 use Rattle.install_laws.specs.InstalledProofs.{OldProofsStayAccepted}
 use Rattle.install_laws.proofs.DatabaseLaw.{frames_are_moved}
 use Rattle.install_laws.proofs.MorePairsLaw.{Keeps, and_keeps, numbered_keeps}
@@ -78,12 +79,12 @@ module _ (here there : Frames) (s : Theorem) (k : ℕ)
 
 -- ---- what has a frame is a label
 
-no_position : (p : Name → Bool) (ls : List Name) → list_any p ls ≡ false → position p ls ≡ None
+pub no_position : (p : Name → Bool) (ls : List Name) → list_any p ls ≡ false → position p ls ≡ None
 no_position p [] e = refl
 no_position p (l ∷ ls) e =
     let both = or_parts (p l) (list_any p ls) e in position_later p l ls both.0 ∙ ap (option_map suc) (no_position p ls both.1)
 
-has_label : (ss : List Statement) (name : Name) (f : Frame) → frames_of_database ss name ≡ Some f → contains (labels ss) name ≡ true
+pub has_label : (ss : List Statement) (name : Name) (f : Frame) → frames_of_database ss name ≡ Some f → contains (labels ss) name ≡ true
 has_label ss name f e = elim (cases_Bool (contains (labels ss) name)) [
   | inl h ↦ h
   | inr h ↦

@@ -1,18 +1,18 @@
 pub mod ActiveBlock
 pub mod ActiveLaw
 pub mod ActiveNames
-mod DatabaseLaw
+pub mod DatabaseLaw
 pub mod Forward
-mod FrameLaw
-mod FrameNames
-mod KeptLaw
+pub mod FrameLaw
+pub mod FrameNames
+pub mod KeptLaw
 pub mod Lines
-mod MovedLists
+pub mod MovedLists
 pub mod NamesLaw
-mod ProofsLaw
+pub mod ProofsLaw
 pub mod StatementCuts
 pub mod StatementsLaw
 pub mod WordCuts
 pub mod WordLaws
-mod MorePairsLaw
-mod TwoDatabasesLaws
+pub mod MorePairsLaw
+pub mod TwoDatabasesLaws

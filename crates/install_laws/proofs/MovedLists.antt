@@ -7,7 +7,7 @@ use Rattle.std.proofs.lemmas.Bool.{cases_Bool}
 use Rattle.std.proofs.lemmas.Bool.Decides.{nat_tests}
 use Rattle.std.proofs.lemmas.List.{map-append}
 use Rattle.std.proofs.lemmas.Option.{slice_get-map}
-use Rattle.install_laws.specs.InstalledDatabase.{moved}
+use Rattle.install_model.specs.Moved.{moved}
 
 -- ---- a moved number
 
@@ -30,7 +30,7 @@ moved_suc b k n = elim (cases_Bool (nat_lt n b)) [
 
 -- ---- the item at a number
 
-get_behind : {X : Type 0} (new ys : List X) (i : ℕ) → slice_get (new ++ ys) (i + length new) ≡ slice_get ys i
+pub get_behind : {X : Type 0} (new ys : List X) (i : ℕ) → slice_get (new ++ ys) (i + length new) ≡ slice_get ys i
 get_behind [] ys i = let same : i + 0 ≡ i = omega arith in ap (slice_get ys) same
 get_behind (x ∷ new) ys i = let same : i + suc (length new) ≡ suc (i + length new) = omega arith in ap (slice_get (x ∷ (new ++ ys))) same ∙ get_behind new ys i
 
@@ -41,7 +41,7 @@ get_moved (x ∷ xs) new ys (suc i) = ap (slice_get (x ∷ (xs ++ (new ++ ys))))
 
 -- ---- the first number that passes
 
-position_here : {X : Type 0} (p : X → Bool) (x : X) (xs : List X) → p x ≡ true → position p (x ∷ xs) ≡ Some 0
+pub position_here : {X : Type 0} (p : X → Bool) (x : X) (xs : List X) → p x ≡ true → position p (x ∷ xs) ≡ Some 0
 position_here p x xs e = let l : nat_lt 0 (suc (length xs)) ≡ true = grind (arith, nat_tests) in rw e (rw l refl)
 
 pub position_later : {X : Type 0} (p : X → Bool) (x : X) (xs : List X) → p x ≡ false → position p (x ∷ xs) ≡ option_map suc (position p xs)
@@ -59,7 +59,7 @@ map_map : (f g h : ℕ → ℕ) → ((n : ℕ) → f (g n) ≡ h n) → (o : Opt
 map_map f g h same None = refl
 map_map f g h same (Some n) = ap Some (same n)
 
-position_behind : {X : Type 0} (p : X → Bool) (new ys : List X) → AllByRecursion (λ x. p x ≡ false) new → position p (new ++ ys) ≡ option_map (λ n. n + length new) (position p ys)
+pub position_behind : {X : Type 0} (p : X → Bool) (new ys : List X) → AllByRecursion (λ x. p x ≡ false) new → position p (new ++ ys) ≡ option_map (λ n. n + length new) (position p ys)
 position_behind p [] ys h = sym (none_more (position p ys))
   where
     none_more : (o : Option ℕ) → option_map (λ n. n + 0) o ≡ o

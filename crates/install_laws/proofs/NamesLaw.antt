@@ -13,8 +13,9 @@ use Rattle.mm_model.specs.Frames.{without_repeats}
 use Rattle.mm_model.proofs.Lists.{labels-cons}
 use Rattle.install_model.specs.declared.install.NewTheorem.{NewTheorem}
 use Rattle.install_model.specs.Installed.{installed}
-use Rattle.install_laws.specs.InstalledStatements.{names, tokens_of, HasNoDollar, IsPlain, IsPlainTheorem, pair_statement, hyp_statement, theorem_statement, block_statements}
-use Rattle.install_laws.specs.InstalledNames.{new_labels, LabelsArePutIn, SymbolsStay}
+use Rattle.install_model.specs.Moved.{pair_statement, hyp_statement, theorem_statement, block_statements, new_labels}
+use Rattle.install_laws.specs.InstalledStatements.{names, tokens_of, HasNoDollar, IsPlain, IsPlainTheorem}
+use Rattle.install_laws.specs.InstalledNames.{LabelsArePutIn, SymbolsStay}
 use Rattle.install_laws.proofs.WordLaws.{plain_dollar}
 use Rattle.install_laws.proofs.StatementsLaw.{statements_are_put_in}
 
@@ -65,7 +66,7 @@ labels_by (s ∷ ss) = labels-cons s ss ∙ ap (λ ns. ns ++ labels ss) (front_n
 pub plain_is : (n : Name) → HasNoDollar n → is_plain n ≡ true
 plain_is n h = ap not h
 
-pairs_have_none : {X : Type 0} (g : List Name → List X) → ((p : Name × Name) → g (pair_statement p) ≡ []) → (ps : List (Name × Name)) → flat_map g (map pair_statement ps) ≡ []
+pub pairs_have_none : {X : Type 0} (g : List Name → List X) → ((p : Name × Name) → g (pair_statement p) ≡ []) → (ps : List (Name × Name)) → flat_map g (map pair_statement ps) ≡ []
 pairs_have_none g none [] = refl
 pairs_have_none g none (p ∷ ps) = ap (λ xs. xs ++ flat_map g (map pair_statement ps)) (none p) ∙ pairs_have_none g none ps
 
@@ -81,7 +82,7 @@ block_by t g none opened closed =
     ∙ ap (λ xs. flat_map g (map hyp_statement t.hyps) ++ (g (theorem_statement t) ++ (xs ++ []))) closed
     ∙ ap (λ xs. flat_map g (map hyp_statement t.hyps) ++ xs) (append-nil (g (theorem_statement t)))
 
-hyp_labels : (hs : List (Name × List Name)) → AllByRecursion (λ (h : Name × List Name). IsPlain h.0 × AllByRecursion IsPlain h.1) hs
+pub hyp_labels : (hs : List (Name × List Name)) → AllByRecursion (λ (h : Name × List Name). IsPlain h.0 × AllByRecursion IsPlain h.1) hs
     → flat_map label_names (map hyp_statement hs) ≡ map (λ (h : Name × List Name). h.0) hs
 hyp_labels [] p = refl
 hyp_labels (h ∷ hs) p =
@@ -91,7 +92,7 @@ hyp_labels (h ∷ hs) p =
     one_label : (n : Name) (ns : List Name) → IsPlain n → label_names ns ≡ [] → label_names (n ∷ ns) ≡ n ∷ []
     one_label n ns q e = let one : 1 + prefix_len is_plain ns ≡ suc (prefix_len is_plain ns) = omega arith in rw (plain_is n (plain_dollar n q), one) (ap (λ xs. n ∷ xs) e)
 
-theorem_labels : (t : NewTheorem) → IsPlainTheorem t → label_names (theorem_statement t) ≡ t.name ∷ []
+pub theorem_labels : (t : NewTheorem) → IsPlainTheorem t → label_names (theorem_statement t) ≡ t.name ∷ []
 theorem_labels t p = rw (plain_is t.name (plain_dollar t.name p.name)) refl
 
 pub block_labels : (t : NewTheorem) → IsPlainTheorem t → flat_map label_names (block_statements t) ≡ new_labels t

@@ -19,11 +19,10 @@ use Rattle.proof_model.specs.DatabaseProofs.{frames_of_database, theorem_of_fram
 use Rattle.proof_model.specs.Machine.{proof_fault}
 use Rattle.install_model.specs.declared.install.NewTheorem.{NewTheorem}
 use Rattle.install_model.specs.Installed.{installed}
+use Rattle.install_model.specs.Moved.{block_statements, new_labels, labels_before, moved, moved_frame}
 use Rattle.install_laws.specs.TwoDatabases.{labels_named, unplaced}
-use Rattle.install_laws.specs.InstalledStatements.{names, IsPlainTheorem, block_statements}
-use Rattle.install_laws.specs.InstalledNames.{new_labels}
+use Rattle.install_laws.specs.InstalledStatements.{names, IsPlainTheorem}
 use Rattle.install_laws.specs.InstalledActive.{IsOutside}
-use Rattle.install_laws.specs.InstalledDatabase.{labels_before, moved, moved_frame}
 use Rattle.install_laws.specs.InstalledProofs.{TheoremsStay, ProofsStay, OldProofsEndAlike}
 use Rattle.install_laws.proofs.ActiveLaw.{active_stays_before, active_stays_behind}
 use Rattle.install_laws.proofs.ActiveNames.{has_kw, has_kw_by}
@@ -43,7 +42,7 @@ before_names k ws = sym (take-map (λ (w : Word). w.bytes) (position_or_len (is 
 after_names : (k : Name) (ws : List Word) → names (after_first (is k) ws) ≡ after_first (λ n. bytes_eq n k) (names ws)
 after_names k ws = sym (drop-map (λ (w : Word). w.bytes) (position_or_len (is k) ws + 1) ws) ∙ ap (λ n. drop (n + 1) (names ws)) (position_names k ws)
 
-words_by : (s : Statement) → proof_words s ≡ before_first (λ n. bytes_eq n (codes "$.")) (after_first (λ n. bytes_eq n (codes "$=")) (names s))
+pub words_by : (s : Statement) → proof_words s ≡ before_first (λ n. bytes_eq n (codes "$.")) (after_first (λ n. bytes_eq n (codes "$=")) (names s))
 words_by s = before_names (codes "$.") (after_first (is (codes "$=")) s) ∙ ap (before_first (λ n. bytes_eq n (codes "$."))) (after_names (codes "$=") s)
 
 -- the words of the proof of a `$p`
@@ -134,7 +133,7 @@ module _ (text : List ℕ) (place : ℕ) (t : NewTheorem) (within : place ≤ le
   proof_stays l = ap (words_at new) (position_is text place t within plain l) ∙ position_words (slice_get (positions old) l)
 
   module _ (outside : IsOutside text place) where
-    active_moves : (at : ℕ) → active_at new (moved place m at) ≡ active_at old at
+    pub active_moves : (at : ℕ) → active_at new (moved place m at) ≡ active_at old at
     active_moves at = elim (cases_Bool (nat_lt at place)) [
       | inl e ↦
           let h : at < place = grind (arith, nat_tests, e) in let l : at ≤ place = omega (arith, h) in

@@ -12,8 +12,9 @@ use Rattle.mm_model.specs.Statements.{Statement, statements}
 use Rattle.sheet_text.specs.Layout.{ended}
 use Rattle.install_model.specs.declared.install.NewTheorem.{NewTheorem}
 use Rattle.install_model.specs.Installed.{byte_behind, place_byte, pair_line, hyp_line, theorem_line, block, installed}
-use Rattle.install_laws.specs.InstalledStatements.{names, tokens_of, HasNoDollar, IsPlain, IsPlainTheorem, pair_statement, hyp_statement}
-use Rattle.install_laws.specs.InstalledStatements.{theorem_statement, block_statements, StatementsArePutIn}
+use Rattle.install_model.specs.Moved.{pair_statement, hyp_statement, theorem_statement, block_statements}
+use Rattle.install_laws.specs.InstalledStatements.{names, tokens_of, HasNoDollar, IsPlain, IsPlainTheorem}
+use Rattle.install_laws.specs.InstalledStatements.{StatementsArePutIn}
 use Rattle.install_laws.proofs.Forward.{split, statements_forward}
 use Rattle.install_laws.proofs.Lines.{behind, pair_is, hyp_is, theorem_is, block_is}
 use Rattle.install_laws.proofs.WordLaws.{names_in, names_join, names_from, names_white, names_token, names_next, names_behind}

@@ -4,7 +4,8 @@ use Rattle.mm_model.specs.Statements.{statements, path}
 use Rattle.mm_model.specs.Frames.{active_at, below}
 use Rattle.install_model.specs.declared.install.NewTheorem.{NewTheorem}
 use Rattle.install_model.specs.Installed.{installed}
-use Rattle.install_laws.specs.InstalledStatements.{IsPlainTheorem, block_statements}
+use Rattle.install_model.specs.Moved.{block_statements}
+use Rattle.install_laws.specs.InstalledStatements.{IsPlainTheorem}
 
 -- no block is open at the place
 abbrev pub IsOutside : List ℕ → ℕ → Type 0

@@ -7,24 +7,9 @@ use Rattle.mm_model.specs.Statements.{Statement, statements, labels}
 use Rattle.proof_model.specs.DatabaseProofs.{frames_of_database}
 use Rattle.install_model.specs.declared.install.NewTheorem.{NewTheorem}
 use Rattle.install_model.specs.Installed.{installed}
-use Rattle.install_laws.specs.InstalledStatements.{IsPlainTheorem, block_statements}
-use Rattle.install_laws.specs.InstalledNames.{new_labels}
+use Rattle.install_model.specs.Moved.{block_statements, new_labels, moved_frame}
+use Rattle.install_laws.specs.InstalledStatements.{IsPlainTheorem}
 use Rattle.install_laws.specs.InstalledActive.{IsOutside}
-
--- so many labels stand before a place
-abbrev pub labels_before : List Statement → ℕ → ℕ
-labels_before ss place = length (labels (take place ss))
-
--- a number moves by so many where it is not below a bound
-abbrev pub moved : ℕ → ℕ → ℕ → ℕ
-moved bound by n = if nat_lt n bound then n else n + by
-
--- a frame of the old text, with its position and its label's number in the new one
-abbrev pub moved_frame : List Statement → ℕ → NewTheorem → Frame → Frame
-moved_frame ss place t f = record f {
-  label = label (moved (labels_before ss place) (length (new_labels t)) f.label.0);
-  at = moved place (length (block_statements t)) f.at;
-}
 
 -- no new label is one of the text
 abbrev pub HasNewLabels : List ℕ → NewTheorem → Type 0

@@ -5,7 +5,8 @@ use Rattle.mm_model.specs.Statements.{Statement, statements}
 use Rattle.mm_model.specs.Frames.{frame_at}
 use Rattle.install_model.specs.declared.install.NewTheorem.{NewTheorem}
 use Rattle.install_model.specs.Installed.{installed}
-use Rattle.install_laws.specs.InstalledStatements.{IsPlainTheorem, names, block_statements}
+use Rattle.install_model.specs.Moved.{block_statements}
+use Rattle.install_laws.specs.InstalledStatements.{IsPlainTheorem, names}
 use Rattle.install_laws.specs.InstalledActive.{IsOutside}
 
 -- the frame of an assertion that is not behind the block is what it was

@@ -5,11 +5,8 @@ use Rattle.mm_model.specs.Statements.{statements, labels}
 use Rattle.mm_model.specs.Frames.{symbols}
 use Rattle.install_model.specs.declared.install.NewTheorem.{NewTheorem}
 use Rattle.install_model.specs.Installed.{installed}
+use Rattle.install_model.specs.Moved.{new_labels}
 use Rattle.install_laws.specs.InstalledStatements.{IsPlainTheorem}
-
--- the new labels: those of the `$e`, and the theorem's
-abbrev pub new_labels : NewTheorem → List Name
-new_labels t = map (λ (h : Name × List Name). h.0) t.hyps ++ t.name ∷ []
 
 -- the labels in their order: those before the place, the new ones, and the others
 abbrev pub LabelsArePutIn : Type 0

@@ -8,11 +8,11 @@ use Rattle.proof_model.specs.DatabaseProofs.{frames_of_database, theorem_of_fram
 use Rattle.proof_model.specs.Machine.{Accepts, proof_fault}
 use Rattle.install_model.specs.declared.install.NewTheorem.{NewTheorem}
 use Rattle.install_model.specs.Installed.{installed}
+use Rattle.install_model.specs.Moved.{block_statements, new_labels, labels_before, moved, moved_frame}
 use Rattle.install_laws.specs.TwoDatabases.{labels_named}
-use Rattle.install_laws.specs.InstalledStatements.{IsPlainTheorem, block_statements}
-use Rattle.install_laws.specs.InstalledNames.{new_labels}
+use Rattle.install_laws.specs.InstalledStatements.{IsPlainTheorem}
 use Rattle.install_laws.specs.InstalledActive.{IsOutside}
-use Rattle.install_laws.specs.InstalledDatabase.{labels_before, moved, moved_frame, HasNewLabels}
+use Rattle.install_laws.specs.InstalledDatabase.{HasNewLabels}
 
 -- what an assertion has to prove is what it was, but for its position
 abbrev pub TheoremsStay : Type 0

@@ -6,6 +6,7 @@ use Rattle.mm_model.specs.Words.{Word, is_white, words}
 use Rattle.mm_model.specs.Statements.{Statement, statements}
 use Rattle.install_model.specs.declared.install.NewTheorem.{NewTheorem}
 use Rattle.install_model.specs.Installed.{installed}
+use Rattle.install_model.specs.Moved.{block_statements}
 
 -- the bytes of words, without their places
 abbrev pub names : List Word → List Name
@@ -14,20 +15,6 @@ names ws = map (λ (w : Word). w.bytes) ws
 -- the tokens of statements
 abbrev pub tokens_of : List Statement → List (List Name)
 tokens_of ss = map names ss
-
--- ---- the statements of the block
-
-abbrev pub pair_statement : Name × Name → List Name
-pair_statement p = codes "$d" ∷ p.0 ∷ p.1 ∷ codes "$." ∷ []
-
-abbrev pub hyp_statement : Name × List Name → List Name
-hyp_statement h = h.0 ∷ codes "$e" ∷ h.1 ++ codes "$." ∷ []
-
-abbrev pub theorem_statement : NewTheorem → List Name
-theorem_statement t = t.name ∷ codes "$p" ∷ t.formula ++ codes "$=" ∷ names (words t.proof) ++ codes "$." ∷ []
-
-abbrev pub block_statements : NewTheorem → List (List Name)
-block_statements t = (codes "${" ∷ []) ∷ map pair_statement t.pairs ++ map hyp_statement t.hyps ++ theorem_statement t ∷ (codes "$}" ∷ []) ∷ []
 
 -- ---- a theorem that can be put in
 

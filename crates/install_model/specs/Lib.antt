@@ -2,3 +2,4 @@ pub mod Installed
 pub mod InstalledExamples
 pub mod InstallAnswers
 pub mod InstallAnswersExamples
+pub mod Moved

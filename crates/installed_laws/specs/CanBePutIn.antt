@@ -8,8 +8,8 @@ use Rattle.mm_model.specs.Tokens.{is_bad_byte}
 use Rattle.mm_model.specs.Statements.{Statement, statements, constants, variables, typed}
 use Rattle.mm_model.specs.Frames.{below}
 use Rattle.install_model.specs.declared.install.NewTheorem.{NewTheorem}
+use Rattle.install_model.specs.Moved.{new_labels}
 use Rattle.install_laws.specs.InstalledStatements.{IsPlainTheorem}
-use Rattle.install_laws.specs.InstalledNames.{new_labels}
 use Rattle.install_laws.specs.InstalledActive.{IsOutside}
 use Rattle.install_laws.specs.InstalledDatabase.{HasNewLabels}
 

@@ -1,35 +1,35 @@
 pub mod ActiveHyps
 pub mod Books
-mod CodeLaw
-mod Declared
-mod Distinct
-mod Entries
+pub mod CodeLaw
+pub mod Declared
+pub mod Distinct
+pub mod Entries
 pub mod Facts
-mod FilledSheet
+pub mod FilledSheet
 pub mod FilledSteps
-mod Filling
-mod FrameApart
+pub mod Filling
+pub mod FrameApart
 pub mod Lists
-mod NoOther
-mod Pairs
-mod Parts
+pub mod NoOther
+pub mod Pairs
+pub mod Parts
 pub mod QedLaw
-mod ReadHyps
-mod ReadTheorem
-mod ReadTrees
-mod Replaced
-mod Runs
+pub mod ReadHyps
+pub mod ReadTheorem
+pub mod ReadTrees
+pub mod Replaced
+pub mod Runs
 pub mod Searched
-mod Solved
-mod StepLaw
+pub mod Solved
+pub mod StepLaw
 pub mod StepProofs
-mod Substituted
-mod TheoremHyps
-mod Tokens
-mod TreeLaw
-mod TreeProofs
-mod UseProofs
-mod Values
-mod WritableLaw
-mod WrittenProof
+pub mod Substituted
+pub mod TheoremHyps
+pub mod Tokens
+pub mod TreeLaw
+pub mod TreeProofs
+pub mod UseProofs
+pub mod Values
+pub mod WritableLaw
+pub mod WrittenProof
 pub mod WrittenSheet

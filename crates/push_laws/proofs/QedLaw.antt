@@ -180,7 +180,7 @@ module _ (db : Database) (book : IsBook db) (words : List ℕ) (options : Option
   thm = written_theorem db options w
 
   module _ (finished : w.finished ≡ true) where
-    formula_is : thm.formula ≡ symbols_from db (formula_tokens db qed_is.last.tree)
+    pub formula_is : thm.formula ≡ symbols_from db (formula_tokens db qed_is.last.tree)
     formula_is =
         ap (λ ts. option_map_or (λ (t : SheetStep). symbols_from db t.formula) (find is_qed ts) []) (steps_written db w.items ∙ ap (map (written_step db)) qed_is.whole)
         ∙ ap (λ o. option_map_or (λ (t : SheetStep). symbols_from db t.formula) o []) (find_last qed_is.pre qed_is.last qed_is.quiet qed_is.named)

@@ -173,19 +173,19 @@ module _ (db : Database) (book : IsBook db) (words : List ℕ) (options : Option
   loc_same : w.read.loc ≡ s.loc
   loc_same = sym (ap (λ (x : Sheet). x.loc) wr.reads.same)
 
-  place_same : place_of db ws ≡ place_of db s
+  pub place_same : place_of db ws ≡ place_of db s
   place_same = ap (λ n. place_of db (record ws { theorem = n })) theorem_same ∙ ap (λ l. place_of db (record ws { theorem = s.theorem; loc = l })) loc_same
 
-  given_same : given_hyps db ws ≡ given_hyps db s
+  pub given_same : given_hyps db ws ≡ given_hyps db s
   given_same = ap (λ n. given_hyps db (record ws { theorem = n })) theorem_same ∙ ap (λ l. given_hyps db (record ws { theorem = s.theorem; loc = l })) loc_same
 
-  at_same : thm.at ≡ w.bound.place
+  pub at_same : thm.at ≡ w.bound.place
   at_same = place_same ∙ sym wr.binds.place
 
   abbrev hyps : List Hyp
   hyps = all_hyps db book s wr.binds.sound H (hyps_zip db book words options w wr)
 
-  hyps_same : thm.hyps ≡ hyps
+  pub hyps_same : thm.hyps ≡ hyps
   hyps_same =
       ap (λ (n : ℕ). (db.active_at n).hyps ++ map (new_hyp db) (drop (length (given_hyps db ws)) (filter (λ (t : SheetStep). t.hyp) (steps ws)))) place_same
       ∙ ap (λ hs. (db.active_at (place_of db s)).hyps ++ map (new_hyp db) (drop (length hs) (filter (λ (t : SheetStep). t.hyp) (steps ws)))) given_same

@@ -127,11 +127,11 @@ token_clean t h = all_more (λ b. not (is_white b)) (is_not 10) white_apart t (a
 tokens_clean : (ts : List Name) → list_all is_token ts ≡ true → has_no 10 (spaced ts) ≡ true
 tokens_clean ts h = all_joined (is_not 10) 32 refl ts (all_more is_token (has_no 10) token_clean ts h)
 
-labels_tokens : (ns : List Name) → AllByRecursion (λ n. is_label n ≡ true) ns → list_all is_token ns ≡ true
+pub labels_tokens : (ns : List Name) → AllByRecursion (λ n. is_label n ≡ true) ns → list_all is_token ns ≡ true
 labels_tokens [] a = refl
 labels_tokens (n ∷ ns) a = and_from (is_token n) (list_all is_token ns) (label_token n a.0) (labels_tokens ns a.1)
 
-listable_token : (t : Name) → is_listable t ≡ true → is_token t ≡ true
+pub listable_token : (t : Name) → is_listable t ≡ true → is_token t ≡ true
 listable_token t h = (and_parts (is_token t) _ h).0
 
 -- ---- letters are a token
@@ -171,7 +171,7 @@ accepted_letters frames thm m code a = go code.steps refl
         absurd cc
     go (s ∷ ss) e = steps_there m (length code.labels) s ss
 
-letters_token : (frames : Frames) (thm : Theorem) (m : ℕ) (code : Code) → Accepts frames thm code → is_token (steps_letters m (length code.labels) code.steps) ≡ true
+pub letters_token : (frames : Frames) (thm : Theorem) (m : ℕ) (code : Code) → Accepts frames thm code → is_token (steps_letters m (length code.labels) code.steps) ≡ true
 letters_token frames thm m code a =
     let letters = steps_letters m (length code.labels) code.steps in
     and_from (not (length letters == 0)) (list_all (λ b. not (is_white b)) letters) (ap not (accepted_letters frames thm m code a))

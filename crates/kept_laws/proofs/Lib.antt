@@ -1,0 +1,14 @@
+mod Verdicts
+mod Stands
+mod NewLabels
+mod NewActive
+mod NewMandatory
+mod NewPairs
+mod NewStatement
+mod ProofWords
+mod NewVerdict
+mod NewTheorem
+mod CodeLabels
+mod FrameLabels
+mod OldTheorems
+mod Installing
