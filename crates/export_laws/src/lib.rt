@@ -1,0 +1,4 @@
+//! The law of `export`: which accepted proofs become finished worksheets. It is the contract of a function that does nothing.
+#![tactic(auto)]
+
+ghost use Rattle.export_laws.specs.ExportLaw.{LawOfExport};
