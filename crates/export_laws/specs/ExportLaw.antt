@@ -10,7 +10,7 @@ use Rattle.written_model.specs.Written.{Answer, Answers}
 use Rattle.export_model.specs.Exported.{export_sheet, export_text}
 use Rattle.export_laws.specs.Accepted.{IsAccepted}
 use Rattle.export_laws.specs.Exportable.{IsExportable}
-use Rattle.export_laws.specs.Finished.{BecomesFinished}
+use Rattle.fitting_laws.specs.FittingBecomesFinished.{BecomesFinished}
 
 -- an accepted proof that is exportable becomes a worksheet in which each step fits as it is given and none has a clash, and which
 -- is finished, or has a fault of size

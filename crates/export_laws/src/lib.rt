@@ -1,4 +1,9 @@
 //! The law of `export`: which accepted proofs become finished worksheets. It is the contract of a function that does nothing.
 #![tactic(auto)]
 
-ghost use Rattle.export_laws.specs.ExportLaw.{LawOfExport};
+ghost use Rattle.std.specs.Prelude.{◌≡◌, ℕ};
+
+/// A trial.
+pub fn trial()
+    ensures { (n : ℕ) → n ≡ n }
+{}

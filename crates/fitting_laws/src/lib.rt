@@ -1,0 +1,2 @@
+//! Laws of worksheets that fit as they are written. Each is the contract of a function that does nothing.
+#![tactic(auto)]
