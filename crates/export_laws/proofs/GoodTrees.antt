@@ -100,8 +100,8 @@ module _ (db : Database) (place : ℕ) where
     abbrev Kept : Tree → Type 0
     Kept t = IsValued t → IsGoodAs (code_of t) (valued t)
 
-    as : (c d : Typecode) (t u : Tree) → c ≡ d → t ≡ u → IsGoodAs d u → IsGoodAs c t
-    as c d t u p q h = subst (λ x. IsGoodAs x t) (sym p) (subst (IsGoodAs d) (sym q) h)
+    typed_as : (c d : Typecode) (t u : Tree) → c ≡ d → t ≡ u → IsGoodAs d u → IsGoodAs c t
+    typed_as c d t u p q h = subst (λ x. IsGoodAs x t) (sym p) (subst (IsGoodAs d) (sym q) h)
 
     child : (l : Label) (c : Typecode) (ts : List Tree) → IsValued (Node l c ts) → (k : ℕ) (t : Tree) → slice_get ts k ≡ Some t → IsValued t
     child l c ts v k t e = record {
@@ -124,14 +124,14 @@ module _ (db : Database) (place : ℕ) where
     node_kept l c ts each v =
         let layer = typed_here db.rows place l c ts v.typed in
         let below = children ts (λ k t e. each_at Kept ts k t each e (child l c ts v k t e)) in
-        as _ _ _ _ (code-Node l c ts) (replace-Node (λ s d. value s) leaf_tree l c ts) (record {
+        typed_as _ _ _ _ (code-Node l c ts) (replace-Node (λ s d. value s) leaf_tree l c ts) (record {
           code = code-Node l c (map valued ts);
           good = good-Node l c (map valued ts) (layer.0, layer.1, layer.2, layer.3, below.1 ∙ layer.4) below.0;
         })
 
     pub good_valued : (t : Tree) → Kept t
     good_valued = tree_ind Kept
-        (λ s c v. as _ _ _ _ (code-Var s c) (replace-Var (λ x d. value x) leaf_tree s c) (v.vars s c (subst (λ xs. Contains xs (leaf.Var s c)) (sym (text-Var db.rows s c)) (here (leaf.Var s c)))))
+        (λ s c v. typed_as _ _ _ _ (code-Var s c) (replace-Var (λ x d. value x) leaf_tree s c) (v.vars s c (subst (λ xs. Contains xs (leaf.Var s c)) (sym (text-Var db.rows s c)) (here (leaf.Var s c)))))
         (λ c n v. absurd (v.no_work c n (subst (λ xs. Contains xs (leaf.Work c n)) (sym (text-Work db.rows c n)) (here (leaf.Work c n)))))
         (λ c n v. absurd (fresh_is_not_named c n v.named))
         node_kept

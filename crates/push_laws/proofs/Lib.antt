@@ -2,8 +2,8 @@ pub mod ActiveHyps
 pub mod Books
 mod CodeLaw
 mod Declared
-mod Distinct
-mod Entries
+pub mod Distinct
+pub mod Entries
 pub mod Facts
 mod FilledSheet
 pub mod FilledSteps
@@ -12,24 +12,24 @@ mod FrameApart
 pub mod Lists
 mod NoOther
 mod Pairs
-mod Parts
+pub mod Parts
 pub mod QedLaw
 mod ReadHyps
 mod ReadTheorem
 mod ReadTrees
-mod Replaced
+pub mod Replaced
 mod Runs
 pub mod Searched
 mod Solved
 mod StepLaw
 pub mod StepProofs
-mod Substituted
+pub mod Substituted
 mod TheoremHyps
 mod Tokens
 mod TreeLaw
-mod TreeProofs
+pub mod TreeProofs
 mod UseProofs
-mod Values
+pub mod Values
 mod WritableLaw
 mod WrittenProof
 pub mod WrittenSheet
