@@ -1,1 +1,3 @@
 pub mod GoodTrees
+pub mod FrameTrees
+pub mod FloatValues

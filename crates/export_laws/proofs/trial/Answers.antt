@@ -1,6 +1,8 @@
 use Rattle.std.specs.Prelude.{refl}
 use Rattle.export_laws.proofs.trial.Goals as goal
 use Rattle.export_laws.proofs.GoodTrees.{good_valued}
+use Rattle.export_laws.proofs.FrameTrees.{row_tree}
+use Rattle.export_laws.proofs.FloatValues.{is_substituted}
 
 pub returns : goal.returns
 returns c = λ n. refl
