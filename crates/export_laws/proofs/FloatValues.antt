@@ -114,8 +114,8 @@ module _ (db : Database) (place : ℕ) where
 
     -- such a formula, substituted: its typecode and the text of its tree with the values
     pub record IsSubstituted (c : Sym) (d : Typecode) (t : Tree) (g : Formula) : Type 0 where
-      pub formula : substituted (zip f.hyps gs) g ≡ c ∷ tree_symbols db (valued db place value t)
-      pub good : IsGoodAs db place d (valued db place value t)
+      pub formula : substituted (zip f.hyps gs) g ≡ c ∷ tree_symbols db (valued value t)
+      pub good : IsGoodAs db place d (valued value t)
 
     pub is_substituted : (g : Formula) (c : Sym) (rest : Formula) (d : Typecode) (t : Tree) → g ≡ c ∷ rest → db.is_constant_at c f.at ≡ true → IsOwnFormula db f g → IsOwnTree db place f g d t
         → IsSubstituted c d t g

@@ -80,8 +80,8 @@ module _ (db : Database) (place : ℕ) (f : Frame) where
 
   -- with values of their typecodes for its variables it is a good tree
   pub good_own : IsBook db → (value : Sym → Tree) → ((v : TypedVariable) → Contains vars v → IsGoodAs db place v.code (value v.sym))
-      → (g : List Sym) (c : Typecode) (t : Tree) → IsOwnTree g c t → IsGoodAs db place c (valued db place value t)
-  good_own book value values g c t o = subst (λ d. IsGoodAs db place d (valued db place value t)) o.code (good_valued db place book value t (record {
+      → (g : List Sym) (c : Typecode) (t : Tree) → IsOwnTree g c t → IsGoodAs db place c (valued value t)
+  good_own book value values g c t o = subst (λ d. IsGoodAs db place d (valued value t)) o.code (good_valued db place book value t (record {
     typed = o.typed;
     named = o.named;
     no_work = λ d n h. no_work d n h;

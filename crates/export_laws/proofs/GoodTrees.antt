@@ -23,6 +23,10 @@ use Rattle.push_laws.proofs.Facts.{IsBook}
 use Rattle.push_laws.proofs.Parts.{node_leaf, each_at}
 use Rattle.push_laws.proofs.Replaced.{text_child}
 
+-- the tree with these values for its variables
+abbrev pub valued : (Sym → Tree) → Tree → Tree
+valued value t = replace (λ s c. value s) leaf_tree t
+
 module _ (db : Database) (place : ℕ) where
   -- the leaf is a variable that is declared at the place
   pub record IsVariable (s : Sym) (c : Typecode) : Type 0 where
@@ -87,9 +91,6 @@ module _ (db : Database) (place : ℕ) where
   -- ---- a tree whose variables are replaced by such trees
 
   module _ (book : IsBook db) (value : Sym → Tree) where
-    abbrev pub valued : Tree → Tree
-    valued t = replace (λ s c. value s) leaf_tree t
-
     -- what is asked of the tree: its variables have values of their typecodes
     pub record IsValued (t : Tree) : Type 0 where
       pub typed : IsTyped db.rows place t
@@ -98,7 +99,7 @@ module _ (db : Database) (place : ℕ) where
       pub vars : (s : Sym) (c : Typecode) → Contains (text db.rows t) (leaf.Var s c) → IsGoodAs c (value s)
 
     abbrev Kept : Tree → Type 0
-    Kept t = IsValued t → IsGoodAs (code_of t) (valued t)
+    Kept t = IsValued t → IsGoodAs (code_of t) (valued value t)
 
     typed_as : (c d : Typecode) (t u : Tree) → c ≡ d → t ≡ u → IsGoodAs d u → IsGoodAs c t
     typed_as c d t u p q h = subst (λ x. IsGoodAs x t) (sym p) (subst (IsGoodAs d) (sym q) h)
@@ -111,7 +112,7 @@ module _ (db : Database) (place : ℕ) where
       vars = λ s d h. v.vars s d (text_child db book place l c ts k t (leaf.Var s d) v.typed e h);
     }
 
-    children : (ts : List Tree) → ((k : ℕ) (t : Tree) → slice_get ts k ≡ Some t → IsGoodAs (code_of t) (valued t)) → Each IsGood (map valued ts) × (map code_of (map valued ts) ≡ map code_of ts)
+    children : (ts : List Tree) → ((k : ℕ) (t : Tree) → slice_get ts k ≡ Some t → IsGoodAs (code_of t) (valued value t)) → Each IsGood (map (valued value) ts) × (map code_of (map (valued value) ts) ≡ map code_of ts)
     children [] f = (tt, refl)
     children (t ∷ ts) f =
         let one = f 0 t refl in
@@ -125,8 +126,8 @@ module _ (db : Database) (place : ℕ) where
         let layer = typed_here db.rows place l c ts v.typed in
         let below = children ts (λ k t e. each_at Kept ts k t each e (child l c ts v k t e)) in
         typed_as _ _ _ _ (code-Node l c ts) (replace-Node (λ s d. value s) leaf_tree l c ts) (record {
-          code = code-Node l c (map valued ts);
-          good = good-Node l c (map valued ts) (layer.0, layer.1, layer.2, layer.3, below.1 ∙ layer.4) below.0;
+          code = code-Node l c (map (valued value) ts);
+          good = good-Node l c (map (valued value) ts) (layer.0, layer.1, layer.2, layer.3, below.1 ∙ layer.4) below.0;
         })
 
     pub good_valued : (t : Tree) → Kept t

@@ -1,3 +1,4 @@
 pub mod GoodTrees
 pub mod FrameTrees
 pub mod FloatValues
+pub mod PushPairs

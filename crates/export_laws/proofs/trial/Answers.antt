@@ -3,6 +3,7 @@ use Rattle.export_laws.proofs.trial.Goals as goal
 use Rattle.export_laws.proofs.GoodTrees.{good_valued}
 use Rattle.export_laws.proofs.FrameTrees.{row_tree}
 use Rattle.export_laws.proofs.FloatValues.{is_substituted}
+use Rattle.export_laws.proofs.PushPairs.{no_lack}
 
 pub returns : goal.returns
 returns c = λ n. refl
