@@ -2,3 +2,4 @@ pub mod GoodTrees
 pub mod FrameTrees
 pub mod FloatValues
 pub mod PushPairs
+pub mod Entries

@@ -151,6 +151,9 @@ declared_by s c false true None e = absurd cc
 declared_by s c false true (Some d) e = let same : d ≡ c = cc in ap (λ x. Some x) same
 declared_by s c false false o e = absurd cc
 
+same_self : (p : Pair) → same_pair p p ≡ true
+same_self p = and_from (p.a.0 == p.a.0) (p.b.0 == p.b.0) (eq-eqb p.a.0 p.a.0 refl) (eq-eqb p.b.0 p.b.0 refl)
+
 -- ---- orders of two
 
 turned : (v w : Sym) → (v.0 == w.0) ≡ false → ordered w v ≡ ordered v w
@@ -281,7 +284,7 @@ module _ (db : Database) (book : IsBook db) (thm : Theorem) (same_hyps : thm.hyp
       let within = ends_within _ q.0 q.1 r.0 r.2 a.one_within a.other_within in
       let stands = written_is_active db book.facts.symbols thm.pairs r.0 (record { a = within.0; b = within.1 }) r.1 in
       let there : Contains given (ordered q.0 q.1) = subst (Contains given) (same_ordered q.0 q.1 r.0 a.apart.differ r.2) stands in
-      any_of_contains (same_pair (ordered q.0 q.1)) given (ordered q.0 q.1) there (and_from _ _ (eq-eqb _ _ refl) (eq-eqb _ _ refl))
+      any_of_contains (same_pair (ordered q.0 q.1)) given (ordered q.0 q.1) there (same_self (ordered q.0 q.1))
 
   needed_given : (p : Pair) → Contains (needed u) p → is_pair_in given p ≡ true
   needed_given p h =

@@ -4,6 +4,7 @@ use Rattle.export_laws.proofs.GoodTrees.{good_valued}
 use Rattle.export_laws.proofs.FrameTrees.{row_tree}
 use Rattle.export_laws.proofs.FloatValues.{is_substituted}
 use Rattle.export_laws.proofs.PushPairs.{no_lack}
+use Rattle.export_laws.proofs.Entries.{all_taken_for}
 
 pub returns : goal.returns
 returns c = λ n. refl
