@@ -147,10 +147,7 @@ module _ (db : Database) (place : ℕ) where
         let here = none_first (differs_in_formula entries) (h, g) (zip hs gs) d in
         by h.floating refl here.0 (λ us r. all_taken_for hs gs us (omega (arith, l)) here.1 e.1 r) ts s
       where
-        abbrev rest_of : List Formula
-        rest_of = taken_of hs gs
-
-        by : (b : Bool) → h.floating ≡ b → differs_in_formula entries (h, g) ≡ false → ((us : List Tree) → AllZip Says (essentials hs) us → AllZip IsTakenFor us rest_of)
+        by : (b : Bool) → h.floating ≡ b → differs_in_formula entries (h, g) ≡ false → ((us : List Tree) → AllZip Says (essentials hs) us → AllZip IsTakenFor us (taken_of hs gs))
             → (us : List Tree) → AllZip Says (cond (not b) (h ∷ essentials hs) (essentials hs)) us
             → AllZip IsTakenFor us (map (λ (x : Entry). x.1) (cond (not b) ((h, g) ∷ filter (λ (x : Entry). not x.0.floating) (zip hs gs)) (filter (λ (x : Entry). not x.0.floating) (zip hs gs))))
         by true f i r us z = r us z

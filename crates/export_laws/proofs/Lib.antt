@@ -3,3 +3,4 @@ pub mod FrameTrees
 pub mod FloatValues
 pub mod PushPairs
 pub mod Entries
+pub mod FramePush

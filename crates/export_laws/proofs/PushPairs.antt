@@ -48,6 +48,10 @@ use Rattle.push_laws.proofs.Substituted.{typed_float}
 use Rattle.push_laws.proofs.TreeProofs.{tree_symbols}
 use Rattle.export_laws.proofs.GoodTrees.{IsGood, IsGoodAs, IsVariable}
 
+-- the pairs of the worksheet
+abbrev pub given_of : Database → Theorem → List Pair
+given_of db thm = pair_set (flat_map (λ (l : PairLine). two_of (filter_map (symbol_of db) l.names)) (map (written_pair db) thm.pairs))
+
 -- ---- the faults of entries
 
 first_none : {X : Type 0} (o p : Option X) → option_or o p ≡ None → (o ≡ None) × (p ≡ None)
@@ -276,7 +280,7 @@ module _ (db : Database) (book : IsBook db) (thm : Theorem) (same_hyps : thm.hyp
       ap (λ (xs : List (Sym × Sym)). fold lesser None (map (λ (q : Sym × Sym). q.0) xs)) (all_fail is_shared (crossings u p) (λ q h. (apart_at p q c h).apart.differ))))
 
   abbrev given : List Pair
-  given = pair_set (flat_map (λ (l : PairLine). two_of (filter_map (symbol_of db) l.names)) (map (written_pair db) thm.pairs))
+  given = given_of db thm
 
   is_given : (q : Sym × Sym) → IsApartAt q → is_pair_in given (ordered q.0 q.1) ≡ true
   is_given q a =
