@@ -4,3 +4,4 @@ pub mod FloatValues
 pub mod PushPairs
 pub mod Entries
 pub mod FramePush
+pub mod Run

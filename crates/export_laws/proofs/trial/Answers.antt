@@ -6,6 +6,7 @@ use Rattle.export_laws.proofs.FloatValues.{is_substituted}
 use Rattle.export_laws.proofs.PushPairs.{no_lack}
 use Rattle.export_laws.proofs.Entries.{all_taken_for}
 use Rattle.export_laws.proofs.FramePush.{usable_push}
+use Rattle.export_laws.proofs.Run.{all_fine}
 
 pub returns : goal.returns
 returns c = λ n. refl
