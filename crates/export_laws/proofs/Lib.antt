@@ -5,3 +5,4 @@ pub mod PushPairs
 pub mod Entries
 pub mod FramePush
 pub mod Run
+pub mod Reading

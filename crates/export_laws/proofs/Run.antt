@@ -138,6 +138,9 @@ module _ (db : Database) (book : IsBook db) (places : HasPlaces db) (thm : Theor
     same_frame : (m : Label) (g : Frame) → label_of db name ≡ Some m → db.frame m ≡ Some g → g ≡ frame
     same_frame m g e i = let both : Some g ≡ Some frame = sym i ∙ ap db.frame (same_label m e) ∙ before.1 in cc
 
+    row_moved : {r : Production} (m : Label) → m ≡ l → row_of db.rows m ≡ Some r → row_of db.rows l ≡ Some r
+    row_moved m e i = ap (row_of db.rows) (sym e) ∙ i
+
     usable_is_provable : (m : Label) (a : Assertion) → db.usable m ≡ Some a → is_provable db a.frame.formula ≡ true
     usable_is_provable m a u =
         let b = (book.facts.usable m a u).conclusion.provable.begins in
@@ -157,7 +160,7 @@ module _ (db : Database) (book : IsBook db) (places : HasPlaces db) (thm : Theor
     is_usable : is_provable db frame.formula ≡ true → UsableHere
     is_usable p = elim fine.may [
       | hypothesis h ↦ absurd (none_named thm.hyps name _ no_hyp h.0 h.1)
-      | production b r ↦ absurd (both_ways (is_provable db frame.formula) (rows_other _ _ frame (subst (λ m. row_of db.rows m ≡ Some _) (same_label _ b.0) r) before.1) p)
+      | production b r ↦ absurd (both_ways (is_provable db frame.formula) (rows_other l _ frame (row_moved _ (same_label _ b.0) r) before.1) p)
       | usable b u ↦ usable_here _ _ _ b.0 b.1 u
       | other b n t ↦ absurd (both_ways (is_provable db frame.formula) (ap (λ (g : Frame). is_provable db g.formula) (sym (same_frame _ _ b.0 b.1)) ∙ n) p)
     ]
@@ -193,7 +196,7 @@ module _ (db : Database) (book : IsBook db) (places : HasPlaces db) (thm : Theor
     is_other : is_provable db frame.formula ≡ false → OtherHere
     is_other p = elim fine.may [
       | hypothesis h ↦ absurd (none_named thm.hyps name _ no_hyp h.0 h.1)
-      | production b r ↦ row_here _ (subst (λ m. row_of db.rows m ≡ Some _) (same_label _ b.0) r)
+      | production b r ↦ row_here _ (row_moved _ (same_label _ b.0) r)
       | usable b u ↦
           let x = usable_here _ _ _ b.0 b.1 u in
           absurd (both_ways (is_provable db frame.formula) p (ap (λ (g : Frame). is_provable db g.formula) (sym x.same) ∙ usable_is_provable l x.assertion x.is))

@@ -25,7 +25,7 @@ mod StepLaw
 pub mod StepProofs
 pub mod Substituted
 mod TheoremHyps
-mod Tokens
+pub mod Tokens
 mod TreeLaw
 pub mod TreeProofs
 mod UseProofs

@@ -7,6 +7,7 @@ use Rattle.export_laws.proofs.PushPairs.{no_lack}
 use Rattle.export_laws.proofs.Entries.{all_taken_for}
 use Rattle.export_laws.proofs.FramePush.{usable_push}
 use Rattle.export_laws.proofs.Run.{all_fine}
+use Rattle.export_laws.proofs.Reading.{active_tokens}
 
 pub returns : goal.returns
 returns c = λ n. refl
