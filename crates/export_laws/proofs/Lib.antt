@@ -6,3 +6,4 @@ pub mod Entries
 pub mod FramePush
 pub mod Run
 pub mod Reading
+pub mod SheetSteps

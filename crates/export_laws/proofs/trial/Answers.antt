@@ -8,6 +8,7 @@ use Rattle.export_laws.proofs.Entries.{all_taken_for}
 use Rattle.export_laws.proofs.FramePush.{usable_push}
 use Rattle.export_laws.proofs.Run.{all_fine}
 use Rattle.export_laws.proofs.Reading.{active_tokens}
+use Rattle.export_laws.proofs.SheetSteps.{hyps_active}
 
 pub returns : goal.returns
 returns c = λ n. refl
