@@ -7,3 +7,4 @@ pub mod FramePush
 pub mod Run
 pub mod Reading
 pub mod SheetSteps
+pub mod TwoSymbols

@@ -9,6 +9,7 @@ use Rattle.export_laws.proofs.FramePush.{usable_push}
 use Rattle.export_laws.proofs.Run.{all_fine}
 use Rattle.export_laws.proofs.Reading.{active_tokens}
 use Rattle.export_laws.proofs.SheetSteps.{hyps_active}
+use Rattle.export_laws.proofs.TwoSymbols.{has_two}
 
 pub returns : goal.returns
 returns c = λ n. refl
