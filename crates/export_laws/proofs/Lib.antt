@@ -8,3 +8,4 @@ pub mod Run
 pub mod Reading
 pub mod SheetSteps
 pub mod TwoSymbols
+pub mod ActiveFloats

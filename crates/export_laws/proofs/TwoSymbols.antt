@@ -30,7 +30,7 @@ all_ended (w ∷ before) = elim (cases_Bool (ends_statement w)) [
 
 -- what ends a statement is no word
 no_word : (w : Word) → ends_statement w ≡ true → is_word w ≡ false
-no_word w e = elim (or_cases (is (codes "$.") w) (is_one_of (codes "${" ∷ codes "$}" ∷ []) w) (turn w e)) [
+no_word w e = elim (or_cases (is (codes "$.") w) (is_one_of (codes "${" ∷ codes "$}" ∷ []) w) e) [
   | inl d ↦ by (codes "$.") refl d
   | inr r ↦ elim (or_cases (is (codes "${") w) (is_one_of (codes "$}" ∷ []) w) r) [
     | inl d ↦ by (codes "${") refl d
@@ -38,11 +38,8 @@ no_word w e = elim (or_cases (is (codes "$.") w) (is_one_of (codes "${" ∷ code
   ]
 ]
   where
-    turn : (v : Word) → ends_statement v ≡ true → ends_statement v ≡ true
-    turn v h = h
-
     by : (k : List ℕ) → not (list_any (λ b. b == 36) k) ≡ false → is k w ≡ true → is_word w ≡ false
-    by k no d = ap (λ (bs : List ℕ). not (list_any (λ b. b == 36) bs)) (same_names w.bytes k d) ∙ no
+    by k none d = ap (λ (bs : List ℕ). not (list_any (λ b. b == 36) bs)) (same_names w.bytes k d) ∙ none
 
 -- ---- the body of a statement
 
@@ -173,9 +170,9 @@ module _ (e : List Statement) (s : Statement) (checked : IsChecked e s) (float :
         go true b p i j l h = absurd cc
         go false true p i j l h = absurd cc
         go false false true i j l h = absurd cc
-        go false false false i j l h = elim (or_cases (is (codes "$.") w) (is (codes "$=") w && false) h) [
+        go false false false i j l h = elim (or_cases (is (codes "$.") w) (is (codes "$=") w && false && not (in_proof front)) h) [
           | inl d ↦ d
-          | inr d ↦ let bad : false ≡ true = (and_parts (is (codes "$=") w) false d).1 in absurd cc
+          | inr d ↦ let bad : false ≡ true = (and_parts (is (codes "$=") w) (false && not (in_proof front)) d).1 in absurd cc
         ]
 
     two_or_more : 2 ≤ length (symbols_in s)
