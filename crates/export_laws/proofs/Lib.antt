@@ -9,3 +9,4 @@ pub mod Reading
 pub mod SheetSteps
 pub mod TwoSymbols
 pub mod ActiveFloats
+pub mod TheoremFacts

@@ -206,7 +206,7 @@ none_given : {X Y : Type 0} (h : X → Option Y) (xs : List X) → ((x : X) → 
 none_given h [] f = refl
 none_given h (x ∷ xs) f = ap (λ o. cons_option o (filter_map h xs)) (f x (first x x xs refl)) ∙ none_given h xs (λ y c. f y (later y x xs c))
 
-kept_in : {X : Type 0} (test : X → Bool) (xs : List X) (x : X) → Contains (filter test xs) x → Contains xs x
+pub kept_in : {X : Type 0} (test : X → Bool) (xs : List X) (x : X) → Contains (filter test xs) x → Contains xs x
 kept_in test [] x h = absurd (nothing x h)
 kept_in test (y ∷ xs) x h = elim (cases_Bool (test y)) [
   | inl d ↦

@@ -172,7 +172,7 @@ module _ (e : List Statement) (s : Statement) (checked : IsChecked e s) (float :
         go false false true i j l h = absurd cc
         go false false false i j l h = elim (or_cases (is (codes "$.") w) (is (codes "$=") w && false && not (in_proof front)) h) [
           | inl d ↦ d
-          | inr d ↦ let bad : false ≡ true = (and_parts (is (codes "$=") w) (false && not (in_proof front)) d).1 in absurd cc
+          | inr d ↦ let bad : false ≡ true = (and_parts (is (codes "$=") w) false (and_parts (is (codes "$=") w && false) (not (in_proof front)) d).0).1 in absurd cc
         ]
 
     two_or_more : 2 ≤ length (symbols_in s)

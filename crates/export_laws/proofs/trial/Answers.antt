@@ -11,6 +11,7 @@ use Rattle.export_laws.proofs.Reading.{active_tokens}
 use Rattle.export_laws.proofs.SheetSteps.{hyps_active}
 use Rattle.export_laws.proofs.TwoSymbols.{has_two}
 use Rattle.export_laws.proofs.ActiveFloats.{same_essentials}
+use Rattle.export_laws.proofs.TheoremFacts.{pair_is_active}
 
 pub returns : goal.returns
 returns c = λ n. refl
