@@ -10,3 +10,4 @@ pub mod SheetSteps
 pub mod TwoSymbols
 pub mod ActiveFloats
 pub mod TheoremFacts
+pub mod ExportedFits

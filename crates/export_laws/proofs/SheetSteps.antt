@@ -216,7 +216,7 @@ module _ (db : Database) (book : IsBook db) (thm : Theorem) where
   inner_name : (count n : ℕ) → suc n < count → number_name n ≡ numbered_name count n
   inner_name count n l = sym (ap (λ (b : Bool). cond b (codes "qed") (decimal (suc n))) (false_from_ne_true (suc n == count) (λ e. let same : suc n ≡ count = eqb-true (suc n) count e in omega (arith, same, l))))
 
-  some_rest : (steps : List Formula) (ps : List Push) → 0 < length (the_rest steps ps)
+  pub some_rest : (steps : List Formula) (ps : List Push) → 0 < length (the_rest steps ps)
   some_rest steps [] = omega arith
   some_rest steps (p ∷ ps) = by (gives p) (list_any (same_formula p.formula) steps) (some_rest steps ps)
     where

@@ -43,6 +43,10 @@ use Rattle.export_laws.proofs.ActiveFloats.{same_essentials}
 use Rattle.export_laws.proofs.Entries.{not_true}
 use Rattle.export_laws.proofs.PushPairs.{kept_in}
 
+was_kept : {X : Type 0} (c b : Bool) (x y : X) → c ≡ b → cond b (Some x) None ≡ Some y → c ≡ true
+was_kept c true x y e h = e
+was_kept c false x y e h = absurd cc
+
 -- ---- the frame of the theorem
 
 -- the frame of a `$p` with this label, of which the theorem is
@@ -73,12 +77,8 @@ module _ (kinds : Kinds) (text : List ℕ) (db : Database) (is : IsDatabaseOf ki
       ap (option_and_then (λ (at : ℕ). option_map (λ (s : Statement). (at, s)) (slice_get ss at))) k.position ∙ ap (option_map (λ (s : Statement). (k.at, s))) k.stands in
       let there : (cond (has_keyword (codes "$p") k.statement) (Some (proof_words k.statement)) None) ≡ Some ws =
       sym (ap (option_and_then (λ (p : ℕ × Statement). cond (has_keyword (codes "$p") p.1) (Some (proof_words p.1)) None)) stands) ∙ proof in
-      let theorem = by (has_keyword (codes "$p") k.statement) refl there in
+      let theorem = was_kept (has_keyword (codes "$p") k.statement) (has_keyword (codes "$p") k.statement) (proof_words k.statement) ws refl there in
       sym (ap (λ (x : Frame). x.is_axiom) k.frame) ∙ one_keyword k.statement (codes "$p") (codes "$a") theorem refl
-    where
-      by : {X : Type 0} {x y : X} {c : Bool} (b : Bool) → c ≡ b → cond b (Some x) None ≡ Some y → c ≡ true
-      by true e h = e
-      by false e h = absurd cc
 
   essential_of : (l : Label) (f : Frame) → frame_of ss l ≡ Some f → essentials f.hyps ≡ essentials (active_at ss f.at).hyps
   essential_of l f frame =
