@@ -241,8 +241,8 @@ module _ (law : HavePlaces) (kinds : Kinds) (text : List ℕ) (db : Database) (n
       (subst (λ n. AreNamed db book thm n (length ss) tail) long (pushes_named db book thm ps seen (length ss) (count long)))
     where
       count_steps : (n : ℕ) (hs : List Hyp) (more : List SheetStep) → length (hyp_steps db n hs ++ more) ≡ length hs + length more
-      count_steps n [] more = refl
-      count_steps n (h ∷ hs) more = ap suc (count_steps (suc n) hs more)
+      count_steps n [] more = omega arith
+      count_steps n (h ∷ hs) more = let rest = count_steps (suc n) hs more in omega (arith, rest)
 
       count : length seen ≡ length es → length seen + length tail ≡ length ss
       count long = ap (λ (n : ℕ). n + length tail) long ∙ sym (count_steps 0 es tail)
