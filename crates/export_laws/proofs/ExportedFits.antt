@@ -60,11 +60,6 @@ all_by : {X : Type 0} (P : X → Type 0) (xs : List X) → All P xs → AllByRec
 all_by P [] a = tt
 all_by P (x ∷ xs) a = (a 0 x (omega arith), all_by P xs (λ k d l. a (suc k) d (omega (arith, l))))
 
-all_at : {X : Type 0} (P : X → Type 0) (xs : List X) → AllByRecursion P xs → All P xs
-all_at P [] a k d l = let bad : ⊥ = omega (arith, l) in absurd bad
-all_at P (x ∷ xs) a zero d l = a.0
-all_at P (x ∷ xs) a (suc k) d l = all_at P xs a.1 k d (omega (arith, l))
-
 pass_of : {X : Type 0} (p : X → Bool) (xs : List X) (x : X) → list_all p xs ≡ true → Contains xs x → p x ≡ true
 pass_of p [] x e c = absurd (nothing x c)
 pass_of p (y ∷ ys) x e c =
@@ -237,8 +232,10 @@ module _ (law : HavePlaces) (kinds : Kinds) (text : List ℕ) (db : Database) (n
   all_named : AreNamed db book thm 0 (length ss) ss
   all_named =
       let long : length seen ≡ length es = length-map es (λ (h : Hyp). h.formula) in
-      hyps_named db book thm 0 es tail (length ss) (some_rest db book thm seen ps) refl
-      (subst (λ n. AreNamed db book thm n (length ss) tail) long (pushes_named db book thm ps seen (length ss) (count long)))
+      let from : length seen ≡ 0 + length es = omega (arith, long) in
+      let whole : 0 + length ss ≡ length ss = omega arith in
+      hyps_named db book thm 0 es tail (length ss) (some_rest db book thm seen ps) whole
+      (subst (λ n. AreNamed db book thm n (length ss) tail) from (pushes_named db book thm ps seen (length ss) (count long)))
     where
       count_steps : (n : ℕ) (hs : List Hyp) (more : List SheetStep) → length (hyp_steps db n hs ++ more) ≡ length hs + length more
       count_steps n [] more = omega arith
@@ -251,7 +248,7 @@ module _ (law : HavePlaces) (kinds : Kinds) (text : List ℕ) (db : Database) (n
   parts =
       let last = last_of_all db book thm 0 es tail (last_push db book thm ps seen) in
       record {
-        names = λ i s e. named_at db book thm 0 (length ss) ss all_named i s e;
+        names = λ i s e. let sum : 0 + i ≡ i = omega arith in named_at db book thm 0 (length ss) ss all_named i s e ∙ ap (numbered_name (length ss)) sum;
         qed = last.qed;
         qed_last = last.stands None;
         qed_no_hyp = last.is_qed.no_hyp;
@@ -265,10 +262,10 @@ module _ (law : HavePlaces) (kinds : Kinds) (text : List ℕ) (db : Database) (n
   sheet_parts : HasParts db thm (place_of db sheet) (steps sheet)
   sheet_parts = subst (λ n. HasParts db thm n (steps sheet)) (sym place_is) (subst (HasParts db thm thm.at) (sym same_steps) parts)
 
-  all_pairs : All (IsActivePair db (place_of db sheet)) sheet.pairs
+  all_pairs : AllByRecursion (IsActivePair db (place_of db sheet)) sheet.pairs
   all_pairs =
       let each = all_in (λ (p : Pair). IsActivePair db thm.at (written_pair db p)) thm.pairs (λ p c. pair_is_active kinds text db is sound thm.at p (subst (λ qs. Contains qs p) the_theorem.pairs c)) in
-      subst (λ n. All (IsActivePair db n) sheet.pairs) (sym place_is) (all_at (IsActivePair db thm.at) sheet.pairs (all_map (IsActivePair db thm.at) (written_pair db) thm.pairs each))
+      subst (λ n. AllByRecursion (IsActivePair db n) sheet.pairs) (sym place_is) (all_map (IsActivePair db thm.at) (written_pair db) thm.pairs each)
 
   pub sheet_fits : FitsAsWritten db sheet
   sheet_fits =

@@ -1,7 +1,7 @@
 -- Worksheets that fit as they are written: of a theorem of the database, with whole formulas, and a reference for each step that
 -- fits over the places that it lists.
-use Rattle.std.specs.Prelude.{◌≡◌, ℕ, suc, ◌<◌, ◌≤◌, ◌==◌, Bool, true, false, List, [], ◌∷◌, length, map, filter, take, if◌then◌else◌, All, decimal, slice_get, Option, Some, None, is_some, codes}
-use Rattle.std.specs.List.{AllZip, list_all, last_or}
+use Rattle.std.specs.Prelude.{◌≡◌, ℕ, suc, ◌<◌, ◌≤◌, ◌==◌, Bool, true, false, List, [], ◌∷◌, length, map, filter, take, if◌then◌else◌, decimal, slice_get, Option, Some, None, is_some, codes}
+use Rattle.std.specs.List.{AllByRecursion, AllZip, list_all, last_or}
 use Rattle.std.specs.Option.{option_map_or}
 use Rattle.std.specs.Str.{bytes_eq}
 use Rattle.mm_base.specs.declared.symbols.Label.{Label}
@@ -93,7 +93,7 @@ pub record FitsAsWritten (db : Database) (sheet : Sheet) : Type 0 where
   pub theorem : existing db sheet ≡ Some frame
   pub loc : sheet.loc ≡ None
   pub items : sheet.items ≡ map (λ s. item.Step s) (steps sheet)
-  pub pairs : All (IsActivePair db (place_of db sheet)) sheet.pairs
+  pub pairs : AllByRecursion (IsActivePair db (place_of db sheet)) sheet.pairs
   pub names : (i : ℕ) (s : SheetStep) → slice_get (steps sheet) i ≡ Some s → s.name ≡ numbered_name (length (steps sheet)) i
   pub qed : SheetStep
   pub qed_last : last_or None (steps sheet) ≡ Some qed
