@@ -1,37 +1,34 @@
 -- Each active `$f` of a text without a fault is one of a declared variable, and the `$e` of a frame are all that are active.
-use Rattle.std.specs.Prelude.{◌≡◌, ◌<◌, ◌≤◌, ◌==◌, ◌&&◌, ◌||◌, ◌⊎◌, ℕ, Bool, true, false, not, List, [], ◌∷◌, ◌++◌, length, drop, map, flat_map, filter, find, reverse, take, Contains, is_some, Option, Some, None, option_map, codes, refl}
+use Rattle.std.specs.Prelude.{◌≡◌, ◌<◌, ◌≤◌, ◌==◌, ◌&&◌, ℕ, Bool, true, false, not, List, [], ◌∷◌, ◌++◌, length, drop, map, flat_map, filter, find, reverse, take, Contains, is_some, Option, Some, None, option_map, codes, refl}
 use Rattle.std.specs.List.{AllByRecursion, list_any}
 use Rattle.std.specs.Cmp.{both_ways as same_tests}
 use Rattle.std.proofs.Common.{sym, ap, subst, ◌∙◌, cond, arith, inl, inr}
-use Rattle.std.proofs.lemmas.Bool.{cases_Bool, both_ways, and_parts, and_from, or_cases, or_left, or_right, eq-eqb, eqb-true, false_from_ne_true}
+use Rattle.std.proofs.lemmas.Bool.{cases_Bool, both_ways, and_parts, or_cases, or_left, eq-eqb, eqb-true, false_from_ne_true}
 use Rattle.mm_base.specs.declared.symbols.Sym.{Sym}
 use Rattle.mm_base.specs.declared.symbols.Label.{Label}
 use Rattle.mm_base.specs.declared.symbols.Typecode.{Typecode}
 use Rattle.mm_base.specs.declared.kinds.Kinds.{Kinds}
 use Rattle.mm_model.specs.declared.frames.Hyp.{Hyp}
-use Rattle.mm_model.specs.declared.frames.Frame.{Frame}
-use Rattle.mm_model.specs.declared.rows.Leaf.{Leaf}
 use Rattle.mm_model.specs.declared.rows.Leaf.TheVariants as leaf
 use Rattle.mm_model.specs.Names.{Name, typecode}
 use Rattle.mm_model.specs.Tokens.{tokens}
-use Rattle.mm_model.specs.Statements.{Statement, statements, database_fault, active, path, has_keyword, symbols_in, second, contains, body, ended}
+use Rattle.mm_model.specs.Statements.{Statement, statements, database_fault, active, path, has_keyword, symbols_in, second, contains, body}
 use Rattle.mm_model.specs.Frames.{symbols, symbol_in, below, hypothesis_of, is_hypothesis, active_at, frame_at}
 use Rattle.mm_model.specs.Productions.{TypedVariable, typed_by, typed_variables, floats, essentials}
 use Rattle.mm_model.specs.Book.{Database, IsDatabaseOf, float_of, declared_leaf}
 use Rattle.mm_model.specs.BookFacts.{IsKnownAt}
 use Rattle.model_laws.proofs.Checked.{IsChecked, EachBefore, last_first, text_checked, no_statement_fault}
-use Rattle.model_laws.proofs.FrameFacts.{is_float, Apart, floats_apart, FloatShort, floats_short, all_active, counts, filter-map, same_number, one_keyword, frame_known, IsShort, mandatory_at}
+use Rattle.model_laws.proofs.FrameFacts.{is_float, Apart, floats_apart, FloatShort, floats_short, all_active, counts, filter-map, same_number, IsShort, mandatory_at}
 use Rattle.model_laws.proofs.KnownAt.{constant_known, variable_known, one_of_two}
 use Rattle.model_laws.proofs.KnownFacts.{HypothesisKnown, hypotheses_known}
-use Rattle.model_laws.proofs.Listed.{all-reverse, all-filter, all_and, Pairwise, pairwise-filter, pairwise-reverse, same_names, name_self}
+use Rattle.model_laws.proofs.Listed.{all-reverse, all-filter, all_and, Pairwise, pairwise-filter, pairwise-reverse, name_self}
 use Rattle.model_laws.proofs.Symbols.{FormulaKnown, Meant}
 use Rattle.proof_model.specs.Machine.{is_float_of}
-use Rattle.answer_laws.proofs.Elements.{first, later, nothing, parted, mapped_from}
+use Rattle.answer_laws.proofs.Elements.{nothing, parted, mapped_from}
 use Rattle.push_laws.proofs.ActiveHyps.{all_taken, hypothesis_keyword}
 use Rattle.push_laws.proofs.Books.{each_below, is_book}
 use Rattle.push_laws.proofs.Lists.{all_of, any_of_contains}
 use Rattle.push_laws.proofs.TreeProofs.{is_its_float}
-use Rattle.export_laws.proofs.GoodTrees.{IsVariable}
 use Rattle.export_laws.proofs.Run.{IsDeclaredFloat}
 use Rattle.export_laws.proofs.TwoSymbols.{IsEnded, all_ended, has_two}
 

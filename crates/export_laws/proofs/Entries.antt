@@ -1,20 +1,18 @@
 -- The entries of the stack: formulas of another typecode than the provable one, which are texts of trees, and provable formulas, which
 -- are given or pushed before.
-use Rattle.std.specs.Prelude.{◌≡◌, ◌<◌, ◌==◌, ◌&&◌, ℕ, Bool, true, false, not, List, [], ◌∷◌, length, map, filter, find, take, zip, slice_get, Contains, Option, Some, None, option_map, refl}
-use Rattle.std.specs.List.{AllZip, AllByRecursion, list_any, list_all}
+use Rattle.std.specs.Prelude.{◌≡◌, ◌&&◌, ℕ, Bool, true, false, not, List, [], ◌∷◌, length, map, filter, find, take, zip, slice_get, Contains, Option, Some, None, option_map, refl}
+use Rattle.std.specs.List.{AllZip, AllByRecursion, list_any}
 use Rattle.std.specs.Str.{bytes_eq}
-use Rattle.std.proofs.Common.{sym, ap, subst, ◌∙◌, cond, arith, inl, inr}
-use Rattle.std.proofs.lemmas.Bool.{cases_Bool, and_parts, both_ways}
+use Rattle.std.proofs.Common.{sym, ap, subst, ◌∙◌, cond, arith}
+use Rattle.std.proofs.lemmas.Bool.{and_parts, both_ways}
 use Rattle.mm_base.specs.declared.symbols.Sym.{Sym}
 use Rattle.mm_base.specs.declared.tree.Tree.{Tree}
-use Rattle.mm_base.specs.declared.symbols.Typecode.{Typecode}
 use Rattle.mm_model.specs.declared.frames.Hyp.{Hyp}
-use Rattle.mm_model.specs.declared.frames.Frame.{Frame}
 use Rattle.mm_model.specs.Names.{typecode}
-use Rattle.mm_model.specs.Productions.{TypedVariable, typed_variables, floats, essentials}
+use Rattle.mm_model.specs.Productions.{typed_variables, floats, essentials}
 use Rattle.mm_model.specs.Book.{Database, symbol_name}
 use Rattle.mm_model.specs.BookFacts.{float_formula}
-use Rattle.proof_model.specs.Machine.{Formula, Entry, MachineFault, same_formula, differs_in_type, type_differs, type_fault, differs_in_formula, hyp_differs, hyp_fault, substituted}
+use Rattle.proof_model.specs.Machine.{Formula, Entry, same_formula, differs_in_type, type_differs, type_fault, differs_in_formula, hyp_differs, hyp_fault, substituted}
 use Rattle.proof_laws.proofs.AcceptedLaw.{formulas_are}
 use Rattle.export_model.specs.Exported.{is_provable}
 use Rattle.push_laws.proofs.Lists.{later, all_in, filter_contains, contains_get, map_get, get_mapped}
@@ -103,8 +101,7 @@ module _ (db : Database) (place : ℕ) where
   entries_are seen (h ∷ hs) [] l two n d e = let bad : ⊥ = omega (arith, l) in absurd bad
   entries_are seen (h ∷ hs) (g ∷ gs) l two n d e =
       let here = none_first differs_in_type (h, g) (zip hs gs) d in
-      let none = and_parts (not (h.floating && is_provable db h.formula)) (has_no_provable_float db hs) n in
-      (
+      let none = and_parts (not (h.floating && is_provable db h.formula)) (has_no_provable_float db hs) n in (
         (λ f. float_entry seen h g (two.0 f) f none.0 here.0 e.0),
         entries_are seen hs gs (omega (arith, l)) two.1 none.1 here.1 e.1,
       )

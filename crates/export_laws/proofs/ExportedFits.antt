@@ -1,9 +1,9 @@
 -- The worksheet of an accepted and exportable proof fits as it is written; so it becomes finished.
-use Rattle.std.specs.Prelude.{◌≡◌, ◌<◌, ◌≤◌, ◌+◌, ◌==◌, ◌||◌, ℕ, zero, suc, Bool, true, false, not, List, [], ◌∷◌, ◌++◌, length, map, filter, take, filter_map, slice_get, slice_index_or, All, Contains, Option, Some, None, option_and_then, refl}
+use Rattle.std.specs.Prelude.{◌≡◌, ◌≤◌, ◌+◌, ℕ, suc, Bool, true, false, not, List, [], ◌∷◌, ◌++◌, length, map, filter, take, filter_map, slice_get, All, Contains, Option, Some, None, option_and_then, refl}
 use Rattle.std.specs.List.{AllZip, AllByRecursion, list_any, list_all, last_or}
 use Rattle.std.specs.Option.{option_map_or}
 use Rattle.std.proofs.Common.{sym, ap, subst, ◌∙◌, cond, arith, inl, inr}
-use Rattle.std.proofs.lemmas.Bool.{and_parts, or_cases, cases_Bool}
+use Rattle.std.proofs.lemmas.Bool.{and_parts, or_cases}
 use Rattle.std.proofs.lemmas.List.{length-map}
 use Rattle.mm_base.specs.declared.symbols.Sym.{Sym}
 use Rattle.mm_base.specs.declared.symbols.Pair.{Pair}
@@ -15,19 +15,17 @@ use Rattle.mm_model.specs.declared.frames.Frame.{Frame}
 use Rattle.mm_model.specs.Names.{Name}
 use Rattle.mm_model.specs.Statements.{database_fault}
 use Rattle.mm_model.specs.Productions.{essentials}
-use Rattle.mm_model.specs.Book.{Database, IsDatabaseOf, label_of, symbol_of}
+use Rattle.mm_model.specs.Book.{Database, IsDatabaseOf, symbol_of}
 use Rattle.mm_model.specs.BookFacts.{IsKnownAt}
-use Rattle.model_laws.specs.DatabaseLaws.{HavePlaces, HasPlaces}
-use Rattle.model_laws.proofs.Listed.{all_pass}
+use Rattle.model_laws.specs.DatabaseLaws.{HavePlaces}
 use Rattle.proof_laws.proofs.AcceptedLaw.{formulas_are}
 use Rattle.proof_model.specs.declared.code.Code.{Code}
 use Rattle.proof_model.specs.declared.code.Step.{Step}
 use Rattle.proof_model.specs.declared.theorem.Theorem.{Theorem}
-use Rattle.proof_model.specs.Machine.{Formula, start, same_formula}
+use Rattle.proof_model.specs.Machine.{Formula, start}
 use Rattle.sheet_text.specs.declared.sheet.Sheet.{Sheet}
 use Rattle.sheet_text.specs.declared.sheet.SheetItem.TheVariants as item
 use Rattle.sheet_text.specs.declared.sheet.SheetStep.{SheetStep}
-use Rattle.sheet_text.specs.declared.sheet.PairLine.{PairLine}
 use Rattle.sheet_text.specs.Layout.{step_of_item, steps}
 use Rattle.solve_model.specs.Binding.{existing, new_place, place_of, names_of}
 use Rattle.solve_model.specs.Formulas.{IsTheTree}
@@ -47,11 +45,9 @@ use Rattle.export_laws.specs.Exportable.{IsExportable, IsReadable, gives_theorem
 use Rattle.export_laws.specs.ExportLaw.{ExportedFits, LawOfExport}
 use Rattle.export_laws.proofs.ActiveFloats.{floats_declared}
 use Rattle.export_laws.proofs.PushPairs.{given_of, kept_in}
-use Rattle.export_laws.proofs.Entries.{not_true}
-use Rattle.export_laws.proofs.FramePush.{IsPush}
 use Rattle.export_laws.proofs.Reading.{active_tokens}
 use Rattle.export_laws.proofs.Run.{AreFine, StepIsFine, Base, all_fine, IsDeclaredFloat}
-use Rattle.export_laws.proofs.SheetSteps.{EachFits, fits_at, pushes_fit, hyps_fit, AreNamed, named_at, pushes_named, hyps_named, some_rest, IsQed, last_push, last_of_all, hyps_are, IsActiveStep, pushes_active, hyps_active}
+use Rattle.export_laws.proofs.SheetSteps.{EachFits, fits_at, pushes_fit, hyps_fit, AreNamed, named_at, pushes_named, hyps_named, some_rest, last_push, last_of_all, hyps_are, IsActiveStep, pushes_active, hyps_active}
 use Rattle.export_laws.proofs.TheoremFacts.{IsTheoremOf, is_theorem, rows_other, pair_is_active}
 
 -- ---- lists
@@ -207,8 +203,7 @@ module _ (law : HavePlaces) (kinds : Kinds) (text : List ℕ) (db : Database) (n
 
   hyps_known : AllByRecursion (λ (h : Hyp). (is_provable db h.formula ≡ true) × IsKnownAt db thm.at h.formula) es
   hyps_known = all_in (λ (h : Hyp). (is_provable db h.formula ≡ true) × IsKnownAt db thm.at h.formula) es (λ h c.
-      let inside = kept_in (λ (y : Hyp). not y.floating) thm.hyps h c in
-      (
+      let inside = kept_in (λ (y : Hyp). not y.floating) thm.hyps h c in (
         pass_of (λ (y : Hyp). is_provable db y.formula) es h x.provable_hyps c,
         all_of (λ (y : Hyp). IsKnownAt db thm.at y.formula) (db.active_at thm.at).hyps h (book.hyps_apart thm.at).known (subst (λ hs. Contains hs h) the_theorem.hyps inside),
       ))

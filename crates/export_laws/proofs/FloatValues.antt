@@ -1,5 +1,5 @@
 -- What the `$f` of a frame take, as values of its variables, and the formulas of the frame with these values.
-use Rattle.std.specs.Prelude.{◌≡◌, ℕ, Bool, true, false, List, [], ◌∷◌, ◌++◌, length, flat_map, zip, slice_get, Contains, Some, refl}
+use Rattle.std.specs.Prelude.{◌≡◌, ℕ, Bool, true, false, List, [], ◌∷◌, ◌++◌, flat_map, zip, Contains, Some}
 use Rattle.std.specs.List.{AllZip}
 use Rattle.std.proofs.Common.{sym, ap, subst, ◌∙◌, cond, inl, inr}
 use Rattle.std.proofs.lemmas.Bool.{cases_Bool, both_ways}
@@ -63,8 +63,7 @@ module _ (db : Database) (place : ℕ) where
         trees = e.tree ∷ rest.trees;
         values = subst (λ vs. AllZip IsValueOf vs (e.tree ∷ rest.trees)) (sym more) (e.good, rest.values);
         taken = λ value a.
-            let b : (value e.variable ≡ e.tree) × AllZip (Gives value) (typed_variables hs) rest.trees = subst (λ vs. AllZip (Gives value) vs (e.tree ∷ rest.trees)) more a in
-            (
+            let b : (value e.variable ≡ e.tree) × AllZip (Gives value) (typed_variables hs) rest.trees = subst (λ vs. AllZip (Gives value) vs (e.tree ∷ rest.trees)) more a in (
               (λ i. record { code = e.code; variable = e.variable; formula = e.formula; taken = e.taken ∙ ap (λ t. e.code ∷ tree_symbols db t) (sym b.0) }),
               rest.taken value b.1,
             );

@@ -1,5 +1,5 @@
 -- Trees of the formulas of a frame, over the variables of its `$f`.
-use Rattle.std.specs.Prelude.{◌≡◌, ◌<◌, ◌≤◌, ◌==◌, ℕ, Bool, true, false, List, [], ◌∷◌, ◌++◌, drop, map, filter_map, find, position, slice_get, slice_index_or, Contains, is_some, Option, Some, None, option_map, refl}
+use Rattle.std.specs.Prelude.{◌≡◌, ◌<◌, ◌≤◌, ◌==◌, ℕ, Bool, true, false, List, [], ◌∷◌, ◌++◌, drop, map, filter_map, position, slice_get, slice_index_or, Contains, is_some, Option, Some, None, option_map, refl}
 use Rattle.std.specs.List.{AllByRecursion, list_any, cons_option}
 use Rattle.std.proofs.Common.{sym, ap, subst, ◌∙◌, cond}
 use Rattle.std.proofs.lemmas.Bool.{both_ways, eq-eqb}
@@ -9,7 +9,6 @@ use Rattle.mm_base.specs.declared.symbols.Typecode.{Typecode}
 use Rattle.mm_base.specs.declared.tree.Tree.{Tree}
 use Rattle.mm_base.specs.declared.tree.Tree.TheVariants.{Var, Node}
 use Rattle.mm_base.specs.Trees.{code_of, Each}
-use Rattle.mm_model.specs.declared.frames.Hyp.{Hyp}
 use Rattle.mm_model.specs.declared.frames.Frame.{Frame}
 use Rattle.mm_model.specs.declared.rows.Item.{Item}
 use Rattle.mm_model.specs.declared.rows.Item.TheVariants as slot
@@ -32,7 +31,7 @@ use Rattle.push_laws.proofs.Books.{not_found}
 use Rattle.push_laws.proofs.Facts.{IsBook, IsOwnFormula, FrameIsApart}
 use Rattle.push_laws.proofs.Lists.{get_contains, contains_get, map_get, index_get, any_of_contains}
 use Rattle.push_laws.proofs.Substituted.{typed_any}
-use Rattle.export_laws.proofs.GoodTrees.{IsGoodAs, IsValued, valued, good_valued}
+use Rattle.export_laws.proofs.GoodTrees.{IsGoodAs, valued, good_valued}
 
 -- the item of a symbol, by its place among the variables
 abbrev by_place : Sym → Option ℕ → Item

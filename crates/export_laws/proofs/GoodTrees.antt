@@ -1,15 +1,14 @@
 -- Trees that can be read at a place: typed, without fresh and open leaves, and each variable is declared there.
-use Rattle.std.specs.Prelude.{◌≡◌, ◌<◌, ◌⊎◌, ℕ, zero, suc, List, [], ◌∷◌, length, map, slice_get, Contains, Some, refl}
-use Rattle.std.proofs.Common.{sym, ap, subst, ◌∙◌, inl, inr}
+use Rattle.std.specs.Prelude.{◌≡◌, ◌<◌, ℕ, suc, List, [], ◌∷◌, length, map, slice_get, Contains, Some, refl}
+use Rattle.std.proofs.Common.{sym, subst, ◌∙◌, inl, inr}
 use Rattle.mm_base.specs.declared.symbols.Sym.{Sym}
 use Rattle.mm_base.specs.declared.symbols.Label.{Label}
 use Rattle.mm_base.specs.declared.symbols.Typecode.{Typecode}
 use Rattle.mm_base.specs.declared.tree.Tree.{Tree}
 use Rattle.mm_base.specs.declared.tree.Tree.TheOpen.{Tree-F}
-use Rattle.mm_base.specs.declared.tree.Tree.TheVariants.{Var, Work, Fresh, Node}
+use Rattle.mm_base.specs.declared.tree.Tree.TheVariants.{Var, Node}
 use Rattle.mm_base.specs.Trees.{code_of, Each}
 use Rattle.mm_base.proofs.TreeInduction.{tree_ind}
-use Rattle.mm_model.specs.declared.rows.Leaf.{Leaf}
 use Rattle.mm_model.specs.declared.rows.Leaf.TheVariants as leaf
 use Rattle.mm_model.specs.Texts.{text, row_of}
 use Rattle.mm_model.specs.Typed.{IsTyped, HasNoFresh, LayerIsTyped}

@@ -1,13 +1,13 @@
-pub mod GoodTrees
-pub mod FrameTrees
-pub mod FloatValues
-pub mod PushPairs
-pub mod Entries
-pub mod FramePush
-pub mod Run
-pub mod Reading
-pub mod SheetSteps
-pub mod TwoSymbols
-pub mod ActiveFloats
-pub mod TheoremFacts
-pub mod ExportedFits
+mod GoodTrees
+mod FrameTrees
+mod FloatValues
+mod PushPairs
+mod Entries
+mod FramePush
+mod Run
+mod Reading
+mod SheetSteps
+mod TwoSymbols
+mod ActiveFloats
+mod TheoremFacts
+mod ExportedFits

@@ -1,30 +1,24 @@
 -- Where the machine finds no fault of an assertion's entries, nothing clashes, and the needed pairs are active.
-use Rattle.std.specs.Prelude.{◌≡◌, ◌<◌, ◌==◌, ◌&&◌, ◌||◌, ℕ, Bool, true, false, not, List, [], ◌∷◌, length, map, flat_map, filter, filter_map, find, fold, zip, slice_get, Contains, nat_lt, Option, Some, None, option_map, refl}
+use Rattle.std.specs.Prelude.{◌≡◌, ◌<◌, ◌==◌, ◌&&◌, ℕ, Bool, true, false, not, List, [], ◌∷◌, length, map, flat_map, filter, filter_map, find, fold, zip, slice_get, Contains, nat_lt, Option, Some, None, option_map, refl}
 use Rattle.std.specs.List.{AllZip, AllByRecursion, list_any, cons_option}
 use Rattle.std.specs.Option.{option_or}
 use Rattle.std.proofs.Common.{sym, ap, subst, ◌∙◌, cond, arith, inl, inr}
-use Rattle.std.proofs.lemmas.Bool.{cases_Bool, and_parts, and_from, or_cases, eq-eqb, both_ways}
+use Rattle.std.proofs.lemmas.Bool.{cases_Bool, and_parts, and_from, or_cases, eq-eqb}
 use Rattle.std.proofs.lemmas.Bool.Decides.{nat_tests}
 use Rattle.mm_base.specs.declared.symbols.Sym.{Sym}
 use Rattle.mm_base.specs.declared.symbols.Pair.{Pair}
-use Rattle.mm_base.specs.declared.symbols.Label.{Label}
 use Rattle.mm_base.specs.declared.symbols.Typecode.{Typecode}
 use Rattle.mm_base.specs.declared.tree.Tree.{Tree}
-use Rattle.mm_base.specs.declared.tree.Tree.TheVariants.{Var, Node}
-use Rattle.mm_base.specs.Trees.{Each}
 use Rattle.mm_base.proofs.TreeInduction.{tree_ind}
-use Rattle.mm_model.specs.declared.frames.Hyp.{Hyp}
 use Rattle.mm_model.specs.declared.frames.Frame.{Frame}
-use Rattle.mm_model.specs.declared.rows.Leaf.{Leaf}
 use Rattle.mm_model.specs.declared.rows.Leaf.TheVariants as leaf
 use Rattle.mm_model.specs.Texts.{text}
 use Rattle.mm_model.specs.Typed.{IsTyped}
-use Rattle.mm_model.specs.Productions.{TypedVariable, typed_variables}
-use Rattle.mm_model.specs.Book.{Database, Assertion, float_of, symbol_of, declared_leaf}
+use Rattle.mm_model.specs.Book.{Database, float_of, symbol_of}
 use Rattle.mm_model.proofs.TextLaws.{text-Var}
 use Rattle.mm_model.proofs.TypedLaws.{typed_held}
 use Rattle.proof_model.specs.declared.theorem.Theorem.{Theorem}
-use Rattle.proof_model.specs.Machine.{Formula, Entry, MachineFault, shared, not_distinct, is_float_of, is_variable, substitute, variable_pairs, lesser as machine_lesser, least, or_later, first_pair}
+use Rattle.proof_model.specs.Machine.{Formula, Entry, is_float_of, is_variable, substitute, variable_pairs, least, or_later, first_pair}
 use Rattle.proof_model.specs.Machine.{is_shared, is_active_pair, type_fault, hyp_fault, shared_fault, distinct_fault, entries_fault}
 use Rattle.sheet_text.specs.declared.sheet.PairLine.{PairLine}
 use Rattle.solve_model.specs.Binding.{two_of}
@@ -46,7 +40,7 @@ use Rattle.push_laws.proofs.Parts.{each_at}
 use Rattle.push_laws.proofs.Replaced.{text_child}
 use Rattle.push_laws.proofs.Substituted.{typed_float}
 use Rattle.push_laws.proofs.TreeProofs.{tree_symbols}
-use Rattle.export_laws.proofs.GoodTrees.{IsGood, IsGoodAs, IsVariable}
+use Rattle.export_laws.proofs.GoodTrees.{IsGood}
 
 -- the pairs of the worksheet
 abbrev pub given_of : Database → Theorem → List Pair

@@ -1,5 +1,5 @@
 -- The formula of a good tree reads back as that tree, and its symbols are active.
-use Rattle.std.specs.Prelude.{◌≡◌, ◌<◌, ◌==◌, ℕ, Bool, true, false, List, [], ◌∷◌, ◌++◌, length, drop, map, flat_map, filter_map, Contains, is_some, Option, Some, None, option_map, refl}
+use Rattle.std.specs.Prelude.{◌≡◌, ◌<◌, ◌==◌, ℕ, Bool, true, false, List, [], ◌∷◌, ◌++◌, length, map, flat_map, filter_map, Contains, is_some, Option, Some, None, option_map, refl}
 use Rattle.std.specs.List.{AllByRecursion, list_any, list_all, cons_option}
 use Rattle.std.specs.Option.{option_map_or}
 use Rattle.std.specs.Str.{bytes_eq}
@@ -7,7 +7,6 @@ use Rattle.std.proofs.Common.{sym, ap, subst, ◌∙◌, cond, inl, inr}
 use Rattle.std.proofs.lemmas.Bool.{and_from, or_cases}
 use Rattle.std.proofs.lemmas.Slice.Eq.{bytes_eq-Decides}
 use Rattle.mm_base.specs.declared.symbols.Sym.{Sym}
-use Rattle.mm_base.specs.declared.symbols.Typecode.{Typecode}
 use Rattle.mm_base.specs.declared.tree.Tree.{Tree}
 use Rattle.mm_model.specs.declared.rows.Leaf.{Leaf}
 use Rattle.mm_model.specs.declared.rows.Leaf.TheVariants as leaf
@@ -17,7 +16,7 @@ use Rattle.mm_model.specs.Book.{Database, symbol_of, symbol_name, logic_code, de
 use Rattle.mm_model.specs.BookFacts.{IsKnownAt}
 use Rattle.mm_model.proofs.NameLaws.{symbol_back}
 use Rattle.solve_model.specs.Binding.{names_of}
-use Rattle.solve_model.specs.Formulas.{leaf_by, leaf_of, expression_of, IsTreeOf}
+use Rattle.solve_model.specs.Formulas.{leaf_by, leaf_of, IsTreeOf}
 use Rattle.written_model.specs.ProofsPush.{leaf_symbols}
 use Rattle.export_model.specs.Exported.{is_provable}
 use Rattle.again_laws.proofs.TokenLaws.{symbol_told}

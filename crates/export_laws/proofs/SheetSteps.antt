@@ -1,20 +1,19 @@
 -- The steps of an exported worksheet, where each push fits over the formulas before it.
-use Rattle.std.specs.Prelude.{◌≡◌, ◌<◌, ◌+◌, ◌==◌, ◌||◌, ◌⊎◌, ℕ, zero, suc, Bool, true, false, List, [], ◌∷◌, ◌++◌, length, map, filter, take, slice_get, Contains, Option, Some, None, option_map, decimal, codes, refl}
+use Rattle.std.specs.Prelude.{◌≡◌, ◌<◌, ◌+◌, ◌==◌, ◌||◌, ℕ, zero, suc, Bool, true, false, List, [], ◌∷◌, ◌++◌, length, map, filter, take, slice_get, Contains, Option, Some, None, option_map, decimal, codes, refl}
 use Rattle.std.specs.List.{AllZip, AllByRecursion, list_any, last_or}
 use Rattle.std.specs.Option.{option_map_or}
 use Rattle.std.proofs.Common.{sym, ap, subst, ◌∙◌, cond, arith, inl, inr}
-use Rattle.std.proofs.lemmas.Bool.{cases_Bool, or_cases, eq-eqb, false_from_ne_true, eqb-true}
+use Rattle.std.proofs.lemmas.Bool.{cases_Bool, eq-eqb, false_from_ne_true, eqb-true}
 use Rattle.std.proofs.lemmas.List.{append_assoc, append-nil}
 use Rattle.mm_base.specs.declared.symbols.Sym.{Sym}
 use Rattle.mm_base.specs.declared.tree.Tree.{Tree}
 use Rattle.mm_model.specs.declared.frames.Hyp.{Hyp}
 use Rattle.mm_model.specs.Names.{Name, first_number}
-use Rattle.mm_model.specs.Book.{Database, symbol_of, symbol_name, logic_code}
+use Rattle.mm_model.specs.Book.{Database, symbol_of, logic_code}
 use Rattle.mm_model.specs.BookFacts.{IsKnownAt}
 use Rattle.proof_laws.proofs.AcceptedLaw.{formulas_are, formula_self}
 use Rattle.proof_model.specs.declared.theorem.Theorem.{Theorem}
 use Rattle.proof_model.specs.Machine.{Formula, same_formula}
-use Rattle.sheet_text.specs.declared.sheet.Given.{Given}
 use Rattle.sheet_text.specs.declared.sheet.Given.TheVariants as given
 use Rattle.sheet_text.specs.declared.sheet.SheetStep.{SheetStep}
 use Rattle.solve_model.specs.Binding.{names_of}
@@ -243,8 +242,7 @@ module _ (db : Database) (book : IsBook db) (thm : Theorem) where
       by false true f g i = f i
       by false false f g i =
           let l = length_push steps p.formula in
-          let some = some_rest (steps ++ p.formula ∷ []) ps in
-          (
+          let some = some_rest (steps ++ p.formula ∷ []) ps in (
             inner_name count (length steps) (omega (arith, i, some)),
             subst (λ n. AreNamed n count (the_rest (steps ++ p.formula ∷ []) ps)) l (g (omega (arith, l, i))),
           )

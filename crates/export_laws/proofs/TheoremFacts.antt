@@ -1,25 +1,23 @@
 -- The theorem of a text with an accepted proof: its frame, its place, its pairs; and the typecodes of productions.
-use Rattle.std.specs.Prelude.{◌≡◌, ◌<◌, ◌==◌, ◌&&◌, ℕ, zero, suc, Bool, true, false, not, List, [], ◌∷◌, ◌++◌, length, map, filter, find, reverse, Contains, nat_lt, slice_get, slice_index_or, Option, Some, None, option_map, option_and_then, codes, refl}
-use Rattle.std.specs.List.{AllByRecursion, list_any, list_all, position_or_len}
+use Rattle.std.specs.Prelude.{◌≡◌, ◌<◌, ◌==◌, ◌&&◌, ℕ, zero, suc, Bool, true, false, not, List, [], ◌∷◌, length, map, filter, Contains, nat_lt, slice_get, slice_index_or, Option, Some, None, option_map, option_and_then, codes, refl}
+use Rattle.std.specs.List.{AllByRecursion, list_any, position_or_len}
 use Rattle.std.specs.Option.{option_map_or}
 use Rattle.std.specs.Str.{bytes_eq}
 use Rattle.std.proofs.Common.{sym, ap, subst, ◌∙◌, cond, arith, inl, inr}
-use Rattle.std.proofs.lemmas.Bool.{cases_Bool, both_ways, and_parts, and_from, or_cases, or_left, eq-eqb, false_from_ne_true}
+use Rattle.std.proofs.lemmas.Bool.{both_ways, and_parts, and_from, or_cases, eq-eqb, false_from_ne_true}
 use Rattle.std.proofs.lemmas.List.Elements.{Contains-append_cases}
 use Rattle.std.proofs.lemmas.Slice.Eq.{bytes_eq-Decides}
 use Rattle.mm_base.specs.declared.symbols.Sym.{Sym}
 use Rattle.mm_base.specs.declared.symbols.Pair.{Pair}
 use Rattle.mm_base.specs.declared.symbols.Label.{Label}
 use Rattle.mm_base.specs.declared.kinds.Kinds.{Kinds}
-use Rattle.mm_model.specs.declared.frames.Hyp.{Hyp}
 use Rattle.mm_model.specs.declared.frames.Frame.{Frame}
 use Rattle.mm_model.specs.declared.rows.Production.{Production}
 use Rattle.mm_model.specs.Names.{Name, sym as symbol, symbol_named, label_named}
 use Rattle.mm_model.specs.Statements.{Statement, statements, database_fault, active, contains, variables, has_keyword, symbols_in, with_keyword, labels, is_empty}
-use Rattle.mm_model.specs.Frames.{symbols, symbol_in, below, active_variables, pairs_with, pair_of, active_pairs, active_at, frame_of, frame_at, statement_of, positions}
+use Rattle.mm_model.specs.Frames.{symbols, symbol_in, below, pairs_with, pair_of, active_at, frame_of, statement_of}
 use Rattle.mm_model.specs.Texts.{row_of}
-use Rattle.mm_model.specs.Productions.{begins_with, is_syntax, essentials, rows}
-use Rattle.mm_model.specs.Chains.{kept}
+use Rattle.mm_model.specs.Productions.{begins_with, is_syntax, essentials}
 use Rattle.mm_model.specs.Book.{Database, IsDatabaseOf, label_of, symbol_of, symbol_name}
 use Rattle.mm_model.specs.BookFacts.{NamesDiffer}
 use Rattle.mm_model.proofs.NameLaws.{symbol_back}
@@ -31,7 +29,6 @@ use Rattle.model_laws.proofs.Listed.{Pairwise, pairwise-filter, same_names}
 use Rattle.model_laws.proofs.RowFacts.{row_by}
 use Rattle.proof_model.specs.declared.theorem.Theorem.{Theorem}
 use Rattle.proof_model.specs.DatabaseProofs.{theorem_of_frame, proof_of, proof_words}
-use Rattle.sheet_text.specs.declared.sheet.PairLine.{PairLine}
 use Rattle.solve_model.specs.BindFaults.{is_variable_at}
 use Rattle.written_model.specs.Written.{written_pair}
 use Rattle.call_answers.specs.Verified.{theorem_named}

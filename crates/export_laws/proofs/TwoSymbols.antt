@@ -1,15 +1,15 @@
 -- Each `$f` of a text without a fault has two symbols.
-use Rattle.std.specs.Prelude.{◌≡◌, ◌<◌, ◌≤◌, ◌+◌, ◌==◌, ◌&&◌, ◌||◌, ◌⊎◌, ℕ, zero, suc, Bool, true, false, not, List, [], ◌∷◌, ◌++◌, length, drop, take, map, nat_lt, codes, refl}
+use Rattle.std.specs.Prelude.{◌≡◌, ◌≤◌, ◌+◌, ◌==◌, ◌&&◌, ◌||◌, ℕ, suc, Bool, true, false, not, List, [], ◌∷◌, ◌++◌, length, drop, take, map, nat_lt, codes, refl}
 use Rattle.std.specs.List.{AllByRecursion, list_any, take_while, prefix_len}
 use Rattle.std.specs.Str.{bytes_eq}
 use Rattle.std.proofs.Common.{sym, ap, subst, ◌∙◌, cond, arith, inl, inr}
-use Rattle.std.proofs.lemmas.Bool.{cases_Bool, or_parts, or_cases, and_parts, both_ways, not-true, ltb-false}
-use Rattle.std.proofs.lemmas.List.{append_assoc, length-map}
+use Rattle.std.proofs.lemmas.Bool.{cases_Bool, or_parts, or_cases, and_parts, both_ways, ltb-false}
+use Rattle.std.proofs.lemmas.List.{append_assoc}
 use Rattle.mm_model.specs.Names.{Name}
 use Rattle.mm_model.specs.Words.{Word}
-use Rattle.mm_model.specs.Statements.{Statement, is, is_one_of, is_word, is_empty, is_label_alone, unended, ended, ends_statement, body, has_keyword, symbols_in, in_proof, bad_hypothesis, stray_token, can_stand, labelled, is_symbol_of, rank}
+use Rattle.mm_model.specs.Statements.{Statement, is, is_one_of, is_word, is_empty, is_label_alone, unended, ended, ends_statement, body, has_keyword, symbols_in, in_proof, bad_hypothesis, can_stand, labelled, rank}
 use Rattle.mm_model.proofs.Lists.{ended-on, ended-end}
-use Rattle.model_laws.proofs.Checked.{rules_fail, At, IsChecked, EachBefore}
+use Rattle.model_laws.proofs.Checked.{rules_fail, At, IsChecked}
 use Rattle.model_laws.proofs.Listed.{same_names}
 use Rattle.model_laws.proofs.Shapes.{Stops, parts, taken-front, at_split}
 
