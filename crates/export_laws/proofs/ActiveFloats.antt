@@ -3,7 +3,7 @@ use Rattle.std.specs.Prelude.{◌≡◌, ◌<◌, ◌≤◌, ◌==◌, ◌&&◌,
 use Rattle.std.specs.List.{AllByRecursion, list_any}
 use Rattle.std.specs.Cmp.{both_ways as same_tests}
 use Rattle.std.proofs.Common.{sym, ap, subst, ◌∙◌, cond, arith, inl, inr}
-use Rattle.std.proofs.lemmas.Bool.{cases_Bool, both_ways, and_parts, or_cases, or_left, eq-eqb, eqb-true, false_from_ne_true}
+use Rattle.std.proofs.lemmas.Bool.{cases_Bool, both_ways, and_parts, or_cases, or_left, eq-eqb, false_from_ne_true}
 use Rattle.mm_base.specs.declared.symbols.Sym.{Sym}
 use Rattle.mm_base.specs.declared.symbols.Label.{Label}
 use Rattle.mm_base.specs.declared.symbols.Typecode.{Typecode}
@@ -27,6 +27,7 @@ use Rattle.proof_model.specs.Machine.{is_float_of}
 use Rattle.answer_laws.proofs.Elements.{nothing, parted, mapped_from}
 use Rattle.push_laws.proofs.ActiveHyps.{all_taken, hypothesis_keyword}
 use Rattle.push_laws.proofs.Books.{each_below, is_book}
+use Rattle.push_laws.proofs.Entries.{same_symbol}
 use Rattle.push_laws.proofs.Lists.{all_of, any_of_contains}
 use Rattle.push_laws.proofs.TreeProofs.{is_its_float}
 use Rattle.export_laws.proofs.Run.{IsDeclaredFloat}
@@ -81,9 +82,6 @@ module _ (names : List Name) where
 
   abbrev code_in : Sym → List TypedVariable → Option Typecode
   code_in s vs = option_map (λ (v : TypedVariable). v.code) (find (λ (v : TypedVariable). v.sym.0 == s.0) vs)
-
-  same_symbol : (a b : Sym) → (a.0 == b.0) ≡ true → a ≡ b
-  same_symbol a b e = ap (λ (n : ℕ). let x : Sym = record { 0 = n } in x) (eqb-true a.0 b.0 e)
 
   code_is : (hs : List Statement) → AllByRecursion (NamedFloat names) hs → Pairwise Apart hs → (s : Statement) → Contains hs s → (e : is_float s ≡ true) → (f : IsNamedFloat names s)
       → float_of (symbol_in names f.variable) (hyps hs) ≡ Some (typecode (symbol_in names f.code))

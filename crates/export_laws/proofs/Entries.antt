@@ -1,10 +1,10 @@
 -- The entries of the stack: formulas of another typecode than the provable one, which are texts of trees, and provable formulas, which
 -- are given or pushed before.
-use Rattle.std.specs.Prelude.{◌≡◌, ◌&&◌, ℕ, Bool, true, false, not, List, [], ◌∷◌, length, map, filter, find, take, zip, slice_get, Contains, Option, Some, None, option_map, refl}
+use Rattle.std.specs.Prelude.{◌≡◌, ◌&&◌, ℕ, Bool, true, false, not, List, [], ◌∷◌, length, map, filter, find, take, zip, slice_get, Contains, Some, None, refl}
 use Rattle.std.specs.List.{AllZip, AllByRecursion, list_any}
 use Rattle.std.specs.Str.{bytes_eq}
 use Rattle.std.proofs.Common.{sym, ap, subst, ◌∙◌, cond, arith}
-use Rattle.std.proofs.lemmas.Bool.{and_parts, both_ways}
+use Rattle.std.proofs.lemmas.Bool.{and_parts, both_ways, not-false, not-true}
 use Rattle.mm_base.specs.declared.symbols.Sym.{Sym}
 use Rattle.mm_base.specs.declared.tree.Tree.{Tree}
 use Rattle.mm_model.specs.declared.frames.Hyp.{Hyp}
@@ -20,18 +20,11 @@ use Rattle.push_laws.proofs.TreeProofs.{tree_symbols}
 use Rattle.export_laws.specs.Exportable.{has_no_provable_float}
 use Rattle.export_laws.proofs.GoodTrees.{IsGoodAs}
 use Rattle.export_laws.proofs.FloatValues.{IsFloatEntry, IsEntryOf}
+use Rattle.export_laws.proofs.PushPairs.{mapped_none}
 
 -- whether a formula is provable rests on its first symbol
 pub same_start : (db : Database) (g h : Formula) → take 1 g ≡ take 1 h → is_provable db g ≡ is_provable db h
 same_start db g h e = ap (list_any (λ (s : Sym). bytes_eq (symbol_name db s) db.provable)) e
-
-not_false : (b : Bool) → not b ≡ false → b ≡ true
-not_false true e = refl
-not_false false e = absurd cc
-
-pub not_true : (b : Bool) → not b ≡ true → b ≡ false
-not_true true e = absurd cc
-not_true false e = refl
 
 -- an element that a search passes over
 pub none_first : {X : Type 0} (p : X → Bool) (x : X) (xs : List X) → find p (x ∷ xs) ≡ None → (p x ≡ false) × (find p xs ≡ None)
@@ -40,10 +33,6 @@ none_first p x xs e = go (p x) refl e
     go : (b : Bool) → p x ≡ b → cond b (Some x) (find p xs) ≡ None → (p x ≡ false) × (find p xs ≡ None)
     go true i j = absurd cc
     go false i j = (i, j)
-
-mapped_none : {X Y : Type 0} (f : X → Y) (o : Option X) → option_map f o ≡ None → o ≡ None
-mapped_none f None e = refl
-mapped_none f (Some x) e = absurd cc
 
 -- two symbols, a typecode and a variable
 pub record HasTwo (g : Formula) : Type 0 where
@@ -83,13 +72,13 @@ module _ (db : Database) (place : ℕ) where
   same_type : (h : Hyp) (g : Formula) → differs_in_type (h, g) ≡ false → h.floating ≡ true → take 1 g ≡ take 1 h.formula
   same_type h g e f =
       let test : not (same_formula (take 1 g) (take 1 h.formula)) ≡ false = subst (λ (b : Bool). (b && not (same_formula (take 1 g) (take 1 h.formula))) ≡ false) f e in
-      formulas_are (take 1 g) (take 1 h.formula) (not_false _ test)
+      formulas_are (take 1 g) (take 1 h.formula) (not-false _ test)
 
   float_entry : (seen : List Formula) (h : Hyp) (g : Formula) → HasTwo h.formula → h.floating ≡ true → not (h.floating && is_provable db h.formula) ≡ true → differs_in_type (h, g) ≡ false → IsEntry seen g
       → IsFloatEntry db place h g
   float_entry seen h g two f n d e =
       let starts = same_type h g d f in
-      let other : is_provable db h.formula ≡ false = not_true _ (subst (λ (b : Bool). not (b && is_provable db h.formula) ≡ true) f n) in
+      let other : is_provable db h.formula ≡ false = not-true _ (subst (λ (b : Bool). not (b && is_provable db h.formula) ≡ true) f n) in
       let t = other_tree seen g two.code two.variable e (same_start db g h.formula starts ∙ other) (starts ∙ ap (take 1) two.formula) in
       record { code = two.code; variable = two.variable; formula = two.formula; tree = t.0; good = t.1; taken = t.2 }
 
@@ -131,7 +120,7 @@ module _ (db : Database) (place : ℕ) where
     one_taken : (h : Hyp) (g : Formula) (t : Tree) → h.floating ≡ false → differs_in_formula entries (h, g) ≡ false → IsEntry seen g → Says h t → IsTakenFor t g
     one_taken h g t f d e s =
         let test : not (same_formula g (substituted entries h.formula)) ≡ false = subst (λ (b : Bool). (not b && not (same_formula g (substituted entries h.formula))) ≡ false) f d in
-        let is : g ≡ c ∷ symbols t = formulas_are g (substituted entries h.formula) (not_false _ test) ∙ s.0 in
+        let is : g ≡ c ∷ symbols t = formulas_are g (substituted entries h.formula) (not-false _ test) ∙ s.0 in
         record { formula = is; good = s.1; stands = provable_seen seen g e (ap (is_provable db) is ∙ provable (symbols t)) }
 
     pub all_taken_for : (hs : List Hyp) (gs : List Formula) (ts : List Tree) → length hs ≡ length gs → find (differs_in_formula entries) (zip hs gs) ≡ None

@@ -26,12 +26,13 @@ use Rattle.model_laws.specs.FrameLaws.{own_leaf, own_expression}
 use Rattle.model_laws.proofs.RowFacts.{slot_stands}
 use Rattle.proof_model.specs.Machine.{is_float_of}
 use Rattle.again_laws.proofs.TypedOn.{typed_later}
+use Rattle.again_laws.proofs.Lists.{some_same}
 use Rattle.answer_laws.proofs.PlainAssertions.{is_own, constant, own, float_stands}
 use Rattle.push_laws.proofs.Books.{not_found}
 use Rattle.push_laws.proofs.Facts.{IsBook, IsOwnFormula, FrameIsApart}
 use Rattle.push_laws.proofs.Lists.{get_contains, contains_get, map_get, index_get, any_of_contains}
 use Rattle.push_laws.proofs.Substituted.{typed_any}
-use Rattle.export_laws.proofs.GoodTrees.{IsGoodAs, valued, good_valued}
+use Rattle.export_laws.proofs.GoodTrees.{IsGoodAs, valued, good_valued, const_work, var_work, const_var, same_var}
 
 -- the item of a symbol, by its place among the variables
 abbrev by_place : Sym → Option ℕ → Item
@@ -41,21 +42,6 @@ by_place s (Some k) = slot.Slot k
 item-by : (vars : List TypedVariable) (s : Sym) (o : Option ℕ) → position (λ (v : TypedVariable). v.sym.0 == s.0) vars ≡ o → item_of vars s ≡ by_place s o
 item-by vars s None e = rw e refl
 item-by vars s (Some k) e = rw e refl
-
-const_work : (s : Sym) (c : Typecode) (n : ℕ) → leaf.Work c n ≡ leaf.Const s → ⊥
-const_work s c n e = cc
-
-var_work : (s : Sym) (d c : Typecode) (n : ℕ) → leaf.Work c n ≡ leaf.Var s d → ⊥
-var_work s d c n e = cc
-
-const_var : (s v : Sym) (d : Typecode) → leaf.Var v d ≡ leaf.Const s → ⊥
-const_var s v d e = cc
-
-same_var : (s v : Sym) (c d : Typecode) → leaf.Var s c ≡ leaf.Var v d → (s ≡ v) × (c ≡ d)
-same_var s v c d e = (cc, cc)
-
-some_same : {X : Type 0} (x y : X) → Some x ≡ Some y → x ≡ y
-some_same x y e = cc
 
 module _ (db : Database) (place : ℕ) (f : Frame) where
   abbrev vars : List TypedVariable
@@ -90,7 +76,7 @@ module _ (db : Database) (place : ℕ) (f : Frame) where
       no_work : (d : Typecode) (n : ℕ) → Contains (text db.rows t) (leaf.Work d n) → ⊥
       no_work d n h = elim (is_own db f g (leaf.Work d n) (subst (λ xs. Contains xs (leaf.Work d n)) (sym o.written) h)) [
         | constant s e ↦ const_work s d n e
-        | own s b e i ↦ var_work s b d n e
+        | own s b e i ↦ var_work s b d n (sym e)
       ]
 
       var_good : (s : Sym) (d : Typecode) → Contains (text db.rows t) (leaf.Var s d) → IsGoodAs db place d (value s)

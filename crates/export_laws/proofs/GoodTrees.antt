@@ -1,6 +1,6 @@
 -- Trees that can be read at a place: typed, without fresh and open leaves, and each variable is declared there.
 use Rattle.std.specs.Prelude.{◌≡◌, ◌<◌, ℕ, suc, List, [], ◌∷◌, length, map, slice_get, Contains, Some, refl}
-use Rattle.std.proofs.Common.{sym, subst, ◌∙◌, inl, inr}
+use Rattle.std.proofs.Common.{sym, ap, subst, ◌∙◌, inl, inr}
 use Rattle.mm_base.specs.declared.symbols.Sym.{Sym}
 use Rattle.mm_base.specs.declared.symbols.Label.{Label}
 use Rattle.mm_base.specs.declared.symbols.Typecode.{Typecode}
@@ -22,6 +22,19 @@ use Rattle.push_laws.proofs.Facts.{IsBook}
 use Rattle.push_laws.proofs.Parts.{node_leaf, each_at}
 use Rattle.push_laws.proofs.Replaced.{text_child}
 
+-- leaves of different kinds, and variables
+pub var_work : (s : Sym) (c d : Typecode) (n : ℕ) → leaf.Var s c ≡ leaf.Work d n → ⊥
+var_work s c d n e = cc
+
+pub const_work : (s : Sym) (d : Typecode) (n : ℕ) → leaf.Work d n ≡ leaf.Const s → ⊥
+const_work s d n e = cc
+
+pub const_var : (s v : Sym) (d : Typecode) → leaf.Var v d ≡ leaf.Const s → ⊥
+const_var s v d e = cc
+
+pub same_var : (s v : Sym) (c d : Typecode) → leaf.Var s c ≡ leaf.Var v d → (s ≡ v) × (c ≡ d)
+same_var s v c d e = (cc, cc)
+
 -- the tree with these values for its variables
 abbrev pub valued : (Sym → Tree) → Tree → Tree
 valued value t = replace (λ s c. value s) leaf_tree t
@@ -41,18 +54,6 @@ module _ (db : Database) (place : ℕ) where
   pub record IsGoodAs (c : Typecode) (t : Tree) : Type 0 where
     pub code : code_of t ≡ c
     pub good : IsGood t
-
-  var_work : (s : Sym) (c d : Typecode) (n : ℕ) → leaf.Var s c ≡ leaf.Work d n → ⊥
-  var_work s c d n e = cc
-
-  const_work : (s : Sym) (d : Typecode) (n : ℕ) → leaf.Work d n ≡ leaf.Const s → ⊥
-  const_work s d n e = cc
-
-  const_var : (s v : Sym) (d : Typecode) → leaf.Var v d ≡ leaf.Const s → ⊥
-  const_var s v d e = cc
-
-  same_var : (s v : Sym) (c d : Typecode) → leaf.Var s c ≡ leaf.Var v d → (s ≡ v) × (c ≡ d)
-  same_var s v c d e = (cc, cc)
 
   -- a declared variable
   pub good-Var : (s : Sym) (c : Typecode) → IsVariable s c → IsGood (Var s c)
@@ -111,22 +112,23 @@ module _ (db : Database) (place : ℕ) where
       vars = λ s d h. v.vars s d (text_child db book place l c ts k t (leaf.Var s d) v.typed e h);
     }
 
-    children : (ts : List Tree) → ((k : ℕ) (t : Tree) → slice_get ts k ≡ Some t → IsGoodAs (code_of t) (valued value t)) → Each IsGood (map (valued value) ts) × (map code_of (map (valued value) ts) ≡ map code_of ts)
-    children [] f = (tt, refl)
-    children (t ∷ ts) f =
-        let one = f 0 t refl in
-        let rest = children ts (λ k u e. f (suc k) u e) in
-        let code = one.code in
-        let codes = rest.1 in
-        ((one.good, rest.0), cc)
+    all_good : (ts : List Tree) → ((k : ℕ) (t : Tree) → slice_get ts k ≡ Some t → IsGoodAs (code_of t) (valued value t)) → Each IsGood (map (valued value) ts)
+    all_good [] f = tt
+    all_good (t ∷ ts) f = ((f 0 t refl).good, all_good ts (λ k u e. f (suc k) u e))
+
+    same_codes : (ts : List Tree) → ((k : ℕ) (t : Tree) → slice_get ts k ≡ Some t → IsGoodAs (code_of t) (valued value t)) → map code_of (map (valued value) ts) ≡ map code_of ts
+    same_codes [] f = refl
+    same_codes (t ∷ ts) f = ap (λ c. c ∷ map code_of (map (valued value) ts)) (f 0 t refl).code ∙ ap (λ cs. code_of t ∷ cs) (same_codes ts (λ k u e. f (suc k) u e))
+
+    children : (l : Label) (c : Typecode) (ts : List Tree) → Each Kept ts → IsValued (Node l c ts) → (k : ℕ) (t : Tree) → slice_get ts k ≡ Some t → IsGoodAs (code_of t) (valued value t)
+    children l c ts each v k t e = each_at Kept ts k t each e (child l c ts v k t e)
 
     node_kept : (l : Label) (c : Typecode) (ts : List Tree) → Each Kept ts → Kept (Node l c ts)
     node_kept l c ts each v =
         let layer = typed_here db.rows place l c ts v.typed in
-        let below = children ts (λ k t e. each_at Kept ts k t each e (child l c ts v k t e)) in
         typed_as _ _ _ _ (code-Node l c ts) (replace-Node (λ s d. value s) leaf_tree l c ts) (record {
           code = code-Node l c (map (valued value) ts);
-          good = good-Node l c (map (valued value) ts) (layer.0, layer.1, layer.2, layer.3, below.1 ∙ layer.4) below.0;
+          good = good-Node l c (map (valued value) ts) (layer.0, layer.1, layer.2, layer.3, same_codes ts (children l c ts each v) ∙ layer.4) (all_good ts (children l c ts each v));
         })
 
     pub good_valued : (t : Tree) → Kept t

@@ -3,7 +3,7 @@ use Rattle.std.specs.Prelude.{◌≡◌, ◌<◌, ◌==◌, ◌&&◌, ℕ, Bool,
 use Rattle.std.specs.List.{AllZip, AllByRecursion, list_any, cons_option}
 use Rattle.std.specs.Option.{option_or}
 use Rattle.std.proofs.Common.{sym, ap, subst, ◌∙◌, cond, arith, inl, inr}
-use Rattle.std.proofs.lemmas.Bool.{cases_Bool, and_parts, and_from, or_cases, eq-eqb}
+use Rattle.std.proofs.lemmas.Bool.{cases_Bool, and_parts, and_from, or_cases, eq-eqb, not-false}
 use Rattle.std.proofs.lemmas.Bool.Decides.{nat_tests}
 use Rattle.mm_base.specs.declared.symbols.Sym.{Sym}
 use Rattle.mm_base.specs.declared.symbols.Pair.{Pair}
@@ -52,7 +52,7 @@ first_none : {X : Type 0} (o p : Option X) → option_or o p ≡ None → (o ≡
 first_none None p e = (refl, e)
 first_none (Some x) p e = absurd cc
 
-mapped_none : {X Y : Type 0} (f : X → Y) (o : Option X) → option_map f o ≡ None → o ≡ None
+pub mapped_none : {X Y : Type 0} (f : X → Y) (o : Option X) → option_map f o ≡ None → o ≡ None
 mapped_none f None e = refl
 mapped_none f (Some x) e = absurd cc
 
@@ -100,10 +100,6 @@ pair_stands thm entries p v w c i d j =
     (filter_contains (is_variable thm) (substitute entries p.a) v c i)
     (in_mapped (λ (y : Sym). let q : Sym × Sym = (v, y) in q) (filter (is_variable thm) (substitute entries p.b)) w (filter_contains (is_variable thm) (substitute entries p.b) w d j))
 
-not_false : (b : Bool) → not b ≡ false → b ≡ true
-not_false true e = refl
-not_false false e = absurd cc
-
 -- two variables are different ones, and an active pair
 pub record AreApart (thm : Theorem) (v w : Sym) : Type 0 where
   pub differ : is_shared (v, w) ≡ false
@@ -115,7 +111,7 @@ are_apart thm f entries none p v w h c i d j =
     let stands = pair_stands thm entries p v w c i d j in
     record {
       differ = no_pair is_shared thm entries f.pairs p (v, w) (mapped_none _ _ none.shares) h stands;
-      active = not_false _ (no_pair (λ vw. not (is_active_pair thm vw)) thm entries f.pairs p (v, w) (mapped_none _ _ none.distinct) h stands);
+      active = not-false _ (no_pair (λ vw. not (is_active_pair thm vw)) thm entries f.pairs p (v, w) (mapped_none _ _ none.distinct) h stands);
     }
 
 -- ---- the variables of a tree stand in its text

@@ -3,7 +3,7 @@ use Rattle.std.specs.Prelude.{◌≡◌, ◌<◌, ◌≤◌, ℕ, Bool, true, fa
 use Rattle.std.specs.List.{AllByRecursion}
 use Rattle.std.specs.Str.{bytes_eq}
 use Rattle.std.proofs.Common.{sym, ap, subst, ◌∙◌, cond, arith, inl, inr}
-use Rattle.std.proofs.lemmas.Bool.{cases_Bool, and_parts, both_ways, ltb-true, or_left}
+use Rattle.std.proofs.lemmas.Bool.{cases_Bool, and_parts, both_ways, ltb-true, or_left, not-true}
 use Rattle.std.proofs.lemmas.Slice.Eq.{bytes_eq-Decides}
 use Rattle.mm_base.specs.declared.symbols.Sym.{Sym}
 use Rattle.mm_base.specs.declared.symbols.Label.{Label}
@@ -41,7 +41,7 @@ use Rattle.push_laws.proofs.TreeProofs.{tree_symbols}
 use Rattle.export_laws.specs.Exportable.{IsBefore, MayName, hypothesis, production, usable, other, HasTreeBefore, NamesNoProvableFloat, has_no_provable_float}
 use Rattle.export_laws.proofs.GoodTrees.{IsVariable, good-Var}
 use Rattle.export_laws.proofs.FrameTrees.{IsOwnTree, parsed_tree, row_tree}
-use Rattle.export_laws.proofs.Entries.{IsEntry, of_tree, of_step, entry_later, not_true}
+use Rattle.export_laws.proofs.Entries.{IsEntry, of_tree, of_step, entry_later}
 use Rattle.export_laws.proofs.FramePush.{IsApplied, is_applied, taken_by, IsPush, other_entry, usable_push}
 
 -- a label of a hypothesis finds one
@@ -121,7 +121,7 @@ module _ (db : Database) (book : IsBook db) (places : HasPlaces db) (thm : Theor
     | inl d ↦
         let f = floats_declared h c d in
         let none : is_provable db h.formula ≡ false =
-        not_true (is_provable db h.formula) (subst (λ (b : Bool). not (b && is_provable db h.formula) ≡ true) d (and_parts (not (h.floating && is_provable db h.formula)) true n).0) in
+        not-true (is_provable db h.formula) (subst (λ (b : Bool). not (b && is_provable db h.formula) ≡ true) d (and_parts (not (h.floating && is_provable db h.formula)) true n).0) in
         of_tree f.code (Var f.variable (typecode f.code)) (record { code = code-Var f.variable (typecode f.code); good = good-Var db thm.at f.variable (typecode f.code) f.declared })
         (f.formula ∙ ap (λ ss. f.code ∷ ss) (sym (float_symbols f.variable (typecode f.code)))) none
     | inr d ↦ of_step (hyps_provable h c d) (base h c d)

@@ -4,7 +4,7 @@ use Rattle.std.specs.List.{AllByRecursion, list_any, position_or_len}
 use Rattle.std.specs.Option.{option_map_or}
 use Rattle.std.specs.Str.{bytes_eq}
 use Rattle.std.proofs.Common.{sym, ap, subst, ◌∙◌, cond, arith, inl, inr}
-use Rattle.std.proofs.lemmas.Bool.{both_ways, and_parts, and_from, or_cases, eq-eqb, false_from_ne_true}
+use Rattle.std.proofs.lemmas.Bool.{both_ways, and_parts, and_from, or_cases, eq-eqb, false_from_ne_true, not-true}
 use Rattle.std.proofs.lemmas.List.Elements.{Contains-append_cases}
 use Rattle.std.proofs.lemmas.Slice.Eq.{bytes_eq-Decides}
 use Rattle.mm_base.specs.declared.symbols.Sym.{Sym}
@@ -37,7 +37,6 @@ use Rattle.answer_laws.proofs.Elements.{first, later, nothing, at_number, mapped
 use Rattle.push_laws.proofs.Lists.{all_in, all_of, any_of_contains}
 use Rattle.fitting_laws.specs.FitsAsWritten.{IsActivePair}
 use Rattle.export_laws.proofs.ActiveFloats.{same_essentials}
-use Rattle.export_laws.proofs.Entries.{not_true}
 use Rattle.export_laws.proofs.PushPairs.{kept_in}
 
 was_kept : {X : Type 0} (c b : Bool) (x y : X) → c ≡ b → cond b (Some x) None ≡ Some y → c ≡ true
@@ -82,26 +81,42 @@ module _ (kinds : Kinds) (text : List ℕ) (db : Database) (is : IsDatabaseOf ki
       let k = frame_known ss l f frame in
       subst (λ (x : Frame). essentials x.hyps ≡ essentials (active_at ss x.at).hyps) k.frame (same_essentials kinds text db is sound k.at l k.statement)
 
-  pub is_theorem : (name : Name) (thm : Theorem) (words : List Name) → theorem_named ss name ≡ Some (thm, words) → IsTheoremOf text db name thm
-  is_theorem name thm words e =
-      let l = and_then (λ (l : Label). option_and_then (λ (f : Frame). option_map (λ (ws : List Name). (theorem_of_frame ss f, ws)) (proof_of ss l)) (frame_of ss l)) (label_named (labels ss) name) (thm, words) e in
-      let f = and_then (λ (f : Frame). option_map (λ (ws : List Name). (theorem_of_frame ss f, ws)) (proof_of ss l.0)) (frame_of ss l.0) (thm, words) l.2 in
-      let w = mapped (λ (ws : List Name). (theorem_of_frame ss f.0, ws)) (proof_of ss l.0) (thm, words) f.2 in
-      let same : theorem_of_frame ss f.0 ≡ thm = ap (λ (p : Theorem × List Name). p.0) w.2 in
-      let at : f.0.at ≡ thm.at = ap (λ (t : Theorem). t.at) same in
-      let hyps : (active_at ss f.0.at).hyps ≡ thm.hyps = ap (λ (t : Theorem). t.hyps) same in
+  theorem_by : (name : Name) (thm : Theorem) (l : Label) (f : Frame) (ws : List Name) → label_named (labels ss) name ≡ Some l → frame_of ss l ≡ Some f → proof_of ss l ≡ Some ws
+      → theorem_of_frame ss f ≡ thm → IsTheoremOf text db name thm
+  theorem_by name thm l f ws named frame proof same =
+      let at : f.at ≡ thm.at = ap (λ (t : Theorem). t.at) same in
+      let hyps : (active_at ss f.at).hyps ≡ thm.hyps = ap (λ (t : Theorem). t.hyps) same in
       record {
-        label = l.0;
-        named = ap (λ ls. label_named ls name) is.labels ∙ l.1;
-        frame = f.0;
-        is_frame = is.frame l.0 ∙ f.1;
-        no_axiom = no_axiom l.0 f.0 w.0 f.1 w.1;
+        label = l;
+        named = ap (λ ls. label_named ls name) is.labels ∙ named;
+        frame = f;
+        is_frame = is.frame l ∙ frame;
+        no_axiom = no_axiom l f ws frame proof;
         at = at;
         formula = ap (λ (t : Theorem). t.formula) same;
-        essential = essential_of l.0 f.0 f.1 ∙ ap essentials hyps;
+        essential = essential_of l f frame ∙ ap essentials hyps;
         hyps = sym hyps ∙ ap (λ (n : ℕ). (active_at ss n).hyps) at ∙ sym (ap (λ a. a.hyps) (is.active_at thm.at));
         pairs = sym (ap (λ (t : Theorem). t.pairs) same) ∙ ap (λ (n : ℕ). (active_at ss n).pairs) at;
       }
+
+  abbrev with_proof : Frame → List Name → Theorem × List Name
+  with_proof f ws = (theorem_of_frame ss f, ws)
+
+  abbrev with_frame : Label → Frame → Option (Theorem × List Name)
+  with_frame l f = option_map (with_proof f) (proof_of ss l)
+
+  abbrev with_label : Label → Option (Theorem × List Name)
+  with_label l = option_and_then (with_frame l) (frame_of ss l)
+
+  pub is_theorem : (name : Name) (thm : Theorem) (words : List Name) → theorem_named ss name ≡ Some (thm, words) → IsTheoremOf text db name thm
+  is_theorem name thm words e =
+      let l = and_then with_label (label_named (labels ss) name) (thm, words) e in
+      let f = and_then (with_frame l.0) (frame_of ss l.0) (thm, words) l.2 in
+      let w = mapped (with_proof f.0) (proof_of ss l.0) (thm, words) f.2 in
+      theorem_by name thm l.0 f.0 w.0 l.1 f.1 w.1 (theorem_of (theorem_of_frame ss f.0, w.0) (thm, words) w.2)
+    where
+      theorem_of : (p q : Theorem × List Name) → p ≡ q → p.0 ≡ q.0
+      theorem_of p q same = ap (λ (x : Theorem × List Name). x.0) same
 
   -- ---- a production has another typecode
 
@@ -125,7 +140,7 @@ module _ (kinds : Kinds) (text : List ℕ) (db : Database) (is : IsDatabaseOf ki
           let y = is_empty g.pairs in
           let one = and_parts (a && n && x) y e in
           let two = and_parts (a && n) x one.0 in
-          not_true (begins_with p g.formula) (and_parts a n two.0).1
+          not-true (begins_with p g.formula) (and_parts a n two.0).1
 
       other : (g : List Sym) → begins_with (symbol_in (symbols ss) kinds.provable) g ≡ false → AllByRecursion (λ (s : Sym). s.0 < length db.symbols) g → is_provable db g ≡ false
       other [] n a = refl
