@@ -62,7 +62,8 @@ module _ (db : Database) (book : IsBook db) (thm : Theorem) where
   EachFits earlier (s ∷ ss) [] = ⊥
   EachFits earlier (s ∷ ss) (t ∷ ts) = (s.hyp ≡ false → Fits earlier s t) × EachFits (earlier ++ t ∷ []) ss ts
 
-  pub fits_at : (earlier : List Tree) (ss : List SheetStep) (ts : List Tree) → EachFits earlier ss ts → (i : ℕ) (s : SheetStep) (t : Tree) → slice_get ss i ≡ Some s → slice_get ts i ≡ Some t → s.hyp ≡ false
+  pub fits_at : (earlier : List Tree) (ss : List SheetStep) (ts : List Tree) → EachFits earlier ss ts → (i : ℕ) (s : SheetStep) (t : Tree) → slice_get ss i ≡ Some s → slice_get ts i ≡ Some t
+        → s.hyp ≡ false
       → Fits (earlier ++ take i ts) s t
   fits_at earlier [] ts f i s t e h n = absurd cc
   fits_at earlier (x ∷ ss) [] f i s t e h n = absurd f
@@ -326,14 +327,16 @@ module _ (db : Database) (book : IsBook db) (thm : Theorem) where
     pushes_active (q ∷ ps) seen steps fine some =
         by (gives q) (list_any (same_formula q.formula) steps) (pushes_active ps (q.formula ∷ seen) steps fine.1) (pushes_active ps (q.formula ∷ seen) (steps ++ q.formula ∷ []) fine.1) some
       where
-        by : (a b : Bool) → (list_any gives ps ≡ true → AllByRecursion IsActiveStep (the_rest steps ps)) → (list_any gives ps ≡ true → AllByRecursion IsActiveStep (the_rest (steps ++ q.formula ∷ []) ps))
+        by : (a b : Bool) → (list_any gives ps ≡ true → AllByRecursion IsActiveStep (the_rest steps ps))
+              → (list_any gives ps ≡ true → AllByRecursion IsActiveStep (the_rest (steps ++ q.formula ∷ []) ps))
             → (a || list_any gives ps) ≡ true
             → AllByRecursion IsActiveStep (cond a (push_step db steps (codes "qed") q ∷ []) (cond b (the_rest steps ps) (push_step db steps (number_name (length steps)) q ∷ the_rest (steps ++ q.formula ∷ []) ps)))
         by true b f g o = (record { said = q.formula; tokens = refl; active = push_active seen q fine.0 }, tt)
         by false true f g o = f o
         by false false f g o = (record { said = q.formula; tokens = refl; active = push_active seen q fine.0 }, g o)
 
-    pub hyps_active : (n : ℕ) (hs : List Hyp) (tail : List SheetStep) → AllByRecursion (λ (h : Hyp). (is_provable db h.formula ≡ true) × IsKnownAt db thm.at h.formula) hs → AllByRecursion IsActiveStep tail
+    pub hyps_active : (n : ℕ) (hs : List Hyp) (tail : List SheetStep) → AllByRecursion (λ (h : Hyp). (is_provable db h.formula ≡ true) × IsKnownAt db thm.at h.formula) hs
+          → AllByRecursion IsActiveStep tail
         → AllByRecursion IsActiveStep (hyp_steps db n hs ++ tail)
     hyps_active n [] tail a t = t
     hyps_active n (h ∷ hs) tail a t = (record { said = h.formula; tokens = refl; active = known_is_active db book thm.at p provable h.formula a.0.0 a.0.1 }, hyps_active (suc n) hs tail a.1 t)

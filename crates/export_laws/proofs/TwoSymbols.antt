@@ -54,7 +54,8 @@ body_behind (l ∷ ls) rest a s =
 keyword_of : (k : List ℕ) (s : Statement) (kw : Word) (more : List Word) → body s ≡ kw ∷ more → has_keyword k s ≡ (is k kw || false)
 keyword_of k s kw more e = ap (λ (ws : List Word). list_any (is k) (take 1 ws)) e
 
-symbols_of : (s : Statement) (kw : Word) (us tail : List Word) → body s ≡ kw ∷ (us ++ tail) → AllByRecursion (λ w. is_word w ≡ true) us → Stops is_word tail → symbols_in s ≡ map (λ (w : Word). w.bytes) us
+symbols_of : (s : Statement) (kw : Word) (us tail : List Word) → body s ≡ kw ∷ (us ++ tail) → AllByRecursion (λ w. is_word w ≡ true) us → Stops is_word tail
+      → symbols_in s ≡ map (λ (w : Word). w.bytes) us
 symbols_of s kw us tail e a stop =
     ap (λ (ws : List Word). map (λ (w : Word). w.bytes) (take_while is_word (drop 1 ws))) e ∙ ap (map (λ (w : Word). w.bytes)) (taken-front is_word us tail a stop)
 
