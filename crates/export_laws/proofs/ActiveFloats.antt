@@ -238,7 +238,8 @@ module _ (kinds : Kinds) (text : List ℕ) (db : Database) (is : IsDatabaseOf ki
         variable = v;
         formula = formula;
         declared = record {
-          declared = leaf_is v (typecode code) (db.is_constant_at v place) (list_any (λ (x : Sym). x.0 == v.0) (db.active_at place).variables) (float_of v (db.active_at place).hyps) no_constant float_of_v some.0;
+          declared = leaf_is v (typecode code) (db.is_constant_at v place) (list_any (λ (x : Sym). x.0 == v.0) (db.active_at place).variables)
+              (float_of v (db.active_at place).hyps) no_constant float_of_v some.0;
           within = in_range.1.0;
         };
       }

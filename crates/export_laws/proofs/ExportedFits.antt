@@ -163,7 +163,8 @@ module _ (law : HavePlaces) (kinds : Kinds) (text : List ℕ) (db : Database) (n
       record { may = x.labels n listed; no_float = x.no_provable_float n listed })
 
   fine : AreFine db thm seen ps
-  fine = all_fine db book (law kinds text db is sound) thm the_theorem.hyps (rows_other kinds text db is sound) floats hyps_provable code.labels code.steps seen base start (record { stack = tt; kept = tt }) steps_fine
+  fine = all_fine db book (law kinds text db is sound) thm the_theorem.hyps (rows_other kinds text db is sound) floats hyps_provable code.labels code.steps seen base start
+      (record { stack = tt; kept = tt }) steps_fine
 
   given : IsGiven db thm
   given = given_by db thm seen ps fine x.given
@@ -259,7 +260,8 @@ module _ (law : HavePlaces) (kinds : Kinds) (text : List ℕ) (db : Database) (n
 
   all_pairs : AllByRecursion (IsActivePair db (place_of db sheet)) sheet.pairs
   all_pairs =
-      let each = all_in (λ (p : Pair). IsActivePair db thm.at (written_pair db p)) thm.pairs (λ p c. pair_is_active kinds text db is sound thm.at p (subst (λ qs. Contains qs p) the_theorem.pairs c)) in
+      let each = all_in (λ (p : Pair). IsActivePair db thm.at (written_pair db p)) thm.pairs
+      (λ p c. pair_is_active kinds text db is sound thm.at p (subst (λ qs. Contains qs p) the_theorem.pairs c)) in
       subst (λ n. AllByRecursion (IsActivePair db n) sheet.pairs) (sym place_is) (all_map (IsActivePair db thm.at) (written_pair db) thm.pairs each)
 
   pub sheet_fits : FitsAsWritten db sheet

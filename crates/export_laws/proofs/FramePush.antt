@@ -196,7 +196,8 @@ module _ (db : Database) (book : IsBook db) (thm : Theorem) (same_hyps : thm.hyp
     all_said = zip_left (λ (h : Hyp) t. IsRead db a.frame.at h.formula t) (λ (h : Hyp) t. Says (look a.vars) h.formula t) (λ (h : Hyp). IsOwnFormula db a.frame h.formula)
         (λ h t own r. said h.formula t r own) (essentials a.frame.hyps) a.hyps (book.own l a.frame is_usable.frame).hyps is_usable.hyps
 
-    taken_are : AllZip (λ t g. (g ≡ provable ∷ tree_symbols db (valued_by by t)) × IsGoodAs db thm.at (logic_code db) (valued_by by t) × Contains seen g) a.hyps (taken_of db thm.at a.frame.hyps (taken_by a.frame st))
+    taken_are : AllZip (λ t g. (g ≡ provable ∷ tree_symbols db (valued_by by t)) × IsGoodAs db thm.at (logic_code db) (valued_by by t) × Contains seen g) a.hyps
+        (taken_of db thm.at a.frame.hyps (taken_by a.frame st))
     taken_are =
         let fault = no_fault l a.frame is_usable.frame no_float st next entries_ok applied in
         let entries' = zip a.frame.hyps (taken_by a.frame st) in

@@ -39,7 +39,8 @@ module _ (db : Database) (book : IsBook db) (place : ℕ) where
 
   const_leaf : (s : Sym) → db.is_constant_at s place ≡ true → declared_leaf db place s ≡ Some (leaf.Const s)
   const_leaf s c =
-      ap (λ (b : Bool). cond b (Some (leaf.Const s)) (cond (list_any (λ (v : Sym). v.0 == s.0) (db.active_at place).variables) (option_map (λ c. leaf.Var s c) (float_of s (db.active_at place).hyps)) None)) c
+      ap (λ (b : Bool). cond b (Some (leaf.Const s))
+          (cond (list_any (λ (v : Sym). v.0 == s.0) (db.active_at place).variables) (option_map (λ c. leaf.Var s c) (float_of s (db.active_at place).hyps)) None)) c
 
   told_leaf : (t : Tree) → IsGood db place t → (x : Leaf) → Contains (text db.rows t) x → IsTold x
   told_leaf t g (leaf.Const s) h = record {
@@ -101,7 +102,8 @@ module _ (db : Database) (book : IsBook db) (place : ℕ) where
   pub known_is_active : (p : Sym) → symbol_of db db.provable ≡ Some p → (g : List Sym) → is_provable db g ≡ true → IsKnownAt db place g → IsActiveFormula p g
   known_is_active p e [] i k = absurd cc
   known_is_active p e (c ∷ rest) i k =
-      let test : bytes_eq (symbol_name db c) db.provable ≡ true = elim (or_cases (bytes_eq (symbol_name db c) db.provable) (list_any (λ (s : Sym). bytes_eq (symbol_name db s) db.provable) []) i) [ inl d ↦ d | inr d ↦ absurd cc ] in
+      let test : bytes_eq (symbol_name db c) db.provable ≡ true = elim
+      (or_cases (bytes_eq (symbol_name db c) db.provable) (list_any (λ (s : Sym). bytes_eq (symbol_name db s) db.provable) []) i) [ inl d ↦ d | inr d ↦ absurd cc ] in
       let name : symbol_name db c ≡ db.provable = (bytes_eq-Decides (symbol_name db c) db.provable).0 test in
       let both : Some c ≡ Some p = sym (symbol_back db.symbols book.facts.symbols c.0 k.symbols.0) ∙ ap (symbol_of db) name ∙ e in
       let same : c ≡ p = cc in

@@ -226,7 +226,8 @@ module _ (db : Database) (book : IsBook db) (places : HasPlaces db) (thm : Theor
           record {
             fine = (p, tt);
             state = record {
-              stack = subst (AllByRecursion (Entry (top ∷ seen))) (sym (applied.stack ∙ ap (λ g. g ∷ drop (length a.frame.hyps) st.stack) is)) (entry, below_ok (top ∷ seen) (λ g e. entry_later db thm.at top seen g e) (length a.frame.hyps));
+              stack = subst (AllByRecursion (Entry (top ∷ seen))) (sym (applied.stack ∙ ap (λ g. g ∷ drop (length a.frame.hyps) st.stack) is))
+                  (entry, below_ok (top ∷ seen) (λ g e. entry_later db thm.at top seen g e) (length a.frame.hyps));
               kept = subst (AllByRecursion (Entry (top ∷ seen))) (sym applied.kept) (all_with (Entry seen) (Entry (top ∷ seen)) (λ g e. entry_later db thm.at top seen g e) st.kept state.kept);
             };
           }
@@ -255,7 +256,8 @@ module _ (db : Database) (book : IsBook db) (places : HasPlaces db) (thm : Theor
                 fine = tt;
                 state = record {
                   stack = subst (AllByRecursion (Entry seen)) (sym applied.stack)
-                      (other_entry db book thm same_hyps seen l frame before.1 no_float st mid state.stack applied o.code o.rest o.tree o.formula p o.own, below_ok seen (λ g i. i) (length frame.hyps));
+                      (other_entry db book thm same_hyps seen l frame before.1 no_float st mid state.stack applied o.code o.rest o.tree o.formula p o.own, below_ok seen (λ g i. i)
+                          (length frame.hyps));
                   kept = subst (AllByRecursion (Entry seen)) (sym applied.kept) state.kept;
                 };
               }

@@ -159,8 +159,10 @@ module _ (db : Database) (book : IsBook db) (thm : Theorem) where
           → ((s : List Formula) (e : List Tree) → AllZip IsTreeOfFormula s e → ((g : Formula) → Contains (p.formula ∷ seen) g → Contains s g) → list_any gives ps ≡ true
           → (us : List Tree) → AllZip HasTree (the_rest s ps) us → EachFits e (the_rest s ps) us)
           → (a || list_any gives ps) ≡ true → (us : List Tree)
-          → AllZip HasTree (cond a (push_step db steps (codes "qed") p ∷ []) (cond b (the_rest steps ps) (push_step db steps (number_name (length steps)) p ∷ the_rest (steps ++ p.formula ∷ []) ps))) us
-          → EachFits earlier (cond a (push_step db steps (codes "qed") p ∷ []) (cond b (the_rest steps ps) (push_step db steps (number_name (length steps)) p ∷ the_rest (steps ++ p.formula ∷ []) ps))) us
+          → AllZip HasTree (cond a (push_step db steps (codes "qed") p ∷ [])
+              (cond b (the_rest steps ps) (push_step db steps (number_name (length steps)) p ∷ the_rest (steps ++ p.formula ∷ []) ps))) us
+          → EachFits earlier (cond a (push_step db steps (codes "qed") p ∷ [])
+              (cond b (the_rest steps ps) (push_step db steps (number_name (length steps)) p ∷ the_rest (steps ++ p.formula ∷ []) ps))) us
       by true b i j rest o [] k = absurd k
       by true b i j rest o (u ∷ us) k = ((λ n. step_fits seen steps earlier (codes "qed") p u z inside fine.0 k.0), tt)
       by false true i j rest o us k =
@@ -171,7 +173,8 @@ module _ (db : Database) (book : IsBook db) (thm : Theorem) where
       by false false i j rest o (u ∷ us) k = (
         (λ n. step_fits seen steps earlier (number_name (length steps)) p u z inside fine.0 k.0),
         rest (steps ++ p.formula ∷ []) (earlier ++ u ∷ []) (zip_push IsTreeOfFormula steps earlier p.formula u z k.0)
-            (λ g c. elim (parted g p.formula seen c) [ inl e ↦ subst (Contains (steps ++ p.formula ∷ [])) e (stands_last p.formula steps) | inr l ↦ stands_later g p.formula steps (inside g l) ]) o us k.1,
+            (λ g c. elim (parted g p.formula seen c) [ inl e ↦ subst (Contains (steps ++ p.formula ∷ [])) e (stands_last p.formula steps) | inr l ↦ stands_later g p.formula steps
+                (inside g l) ]) o us k.1,
       )
 
   -- ---- and of the hypotheses before them
@@ -214,7 +217,8 @@ module _ (db : Database) (book : IsBook db) (thm : Theorem) where
   last_name count n e = sym (ap (λ (b : Bool). cond b (codes "qed") (decimal (suc n))) (eq-eqb (suc n) count (omega (arith, e))))
 
   inner_name : (count n : ℕ) → suc n < count → number_name n ≡ numbered_name count n
-  inner_name count n l = sym (ap (λ (b : Bool). cond b (codes "qed") (decimal (suc n))) (false_from_ne_true (suc n == count) (λ e. let same : suc n ≡ count = eqb-true (suc n) count e in omega (arith, same, l))))
+  inner_name count n l = sym (ap (λ (b : Bool). cond b (codes "qed") (decimal (suc n)))
+      (false_from_ne_true (suc n == count) (λ e. let same : suc n ≡ count = eqb-true (suc n) count e in omega (arith, same, l))))
 
   pub some_rest : (steps : List Formula) (ps : List Push) → 0 < length (the_rest steps ps)
   some_rest steps [] = omega arith
@@ -237,8 +241,10 @@ module _ (db : Database) (book : IsBook db) (thm : Theorem) where
     where
       by : (a b : Bool) → (length steps + length (the_rest steps ps) ≡ count → AreNamed (length steps) count (the_rest steps ps))
           → (length (steps ++ p.formula ∷ []) + length (the_rest (steps ++ p.formula ∷ []) ps) ≡ count → AreNamed (length (steps ++ p.formula ∷ [])) count (the_rest (steps ++ p.formula ∷ []) ps))
-          → length steps + length (cond a (push_step db steps (codes "qed") p ∷ []) (cond b (the_rest steps ps) (push_step db steps (number_name (length steps)) p ∷ the_rest (steps ++ p.formula ∷ []) ps))) ≡ count
-          → AreNamed (length steps) count (cond a (push_step db steps (codes "qed") p ∷ []) (cond b (the_rest steps ps) (push_step db steps (number_name (length steps)) p ∷ the_rest (steps ++ p.formula ∷ []) ps)))
+          → length steps + length (cond a (push_step db steps (codes "qed") p ∷ [])
+              (cond b (the_rest steps ps) (push_step db steps (number_name (length steps)) p ∷ the_rest (steps ++ p.formula ∷ []) ps))) ≡ count
+          → AreNamed (length steps) count (cond a (push_step db steps (codes "qed") p ∷ [])
+              (cond b (the_rest steps ps) (push_step db steps (number_name (length steps)) p ∷ the_rest (steps ++ p.formula ∷ []) ps)))
       by true b f g i = (last_name count (length steps) i, tt)
       by false true f g i = f i
       by false false f g i =
@@ -298,7 +304,8 @@ module _ (db : Database) (book : IsBook db) (thm : Theorem) where
   no_hyps (p ∷ ps) steps = by (gives p) (list_any (same_formula p.formula) steps) (no_hyps ps steps) (no_hyps ps (steps ++ p.formula ∷ []))
     where
       by : (a b : Bool) → filter (λ (s : SheetStep). s.hyp) (the_rest steps ps) ≡ [] → filter (λ (s : SheetStep). s.hyp) (the_rest (steps ++ p.formula ∷ []) ps) ≡ []
-          → filter (λ (s : SheetStep). s.hyp) (cond a (push_step db steps (codes "qed") p ∷ []) (cond b (the_rest steps ps) (push_step db steps (number_name (length steps)) p ∷ the_rest (steps ++ p.formula ∷ []) ps))) ≡ []
+          → filter (λ (s : SheetStep). s.hyp) (cond a (push_step db steps (codes "qed") p ∷ [])
+              (cond b (the_rest steps ps) (push_step db steps (number_name (length steps)) p ∷ the_rest (steps ++ p.formula ∷ []) ps))) ≡ []
       by true b f g = refl
       by false true f g = f
       by false false f g = g
@@ -330,7 +337,8 @@ module _ (db : Database) (book : IsBook db) (thm : Theorem) where
         by : (a b : Bool) → (list_any gives ps ≡ true → AllByRecursion IsActiveStep (the_rest steps ps))
               → (list_any gives ps ≡ true → AllByRecursion IsActiveStep (the_rest (steps ++ q.formula ∷ []) ps))
             → (a || list_any gives ps) ≡ true
-            → AllByRecursion IsActiveStep (cond a (push_step db steps (codes "qed") q ∷ []) (cond b (the_rest steps ps) (push_step db steps (number_name (length steps)) q ∷ the_rest (steps ++ q.formula ∷ []) ps)))
+            → AllByRecursion IsActiveStep (cond a (push_step db steps (codes "qed") q ∷ [])
+                (cond b (the_rest steps ps) (push_step db steps (number_name (length steps)) q ∷ the_rest (steps ++ q.formula ∷ []) ps)))
         by true b f g o = (record { said = q.formula; tokens = refl; active = push_active seen q fine.0 }, tt)
         by false true f g o = f o
         by false false f g o = (record { said = q.formula; tokens = refl; active = push_active seen q fine.0 }, g o)

@@ -209,7 +209,8 @@ module _ (kinds : Kinds) (text : List ℕ) (db : Database) (is : IsDatabaseOf ki
         one = symbol_name db (symbol_in names from.0.0);
         other = symbol_name db (symbol_in names from.0.1);
         names = refl;
-        differ = false_from_ne_true _ (λ e. q.differ (sym (back place from.0.0 (in_names place from.0.0 q.one)) ∙ same_names (symbol_name db (symbol_in names from.0.0)) (symbol_name db (symbol_in names from.0.1)) e ∙ back place from.0.1 (in_names place from.0.1 q.other)));
+        differ = false_from_ne_true _ (λ e. q.differ
+            (sym (back place from.0.0 (in_names place from.0.0 q.one)) ∙ same_names (symbol_name db (symbol_in names from.0.0)) (symbol_name db (symbol_in names from.0.1)) e ∙ back place from.0.1 (in_names place from.0.1 q.other)));
         active = and_from _ _ (is_active place from.0.0 q.one) (and_from _ _ (is_active place from.0.1 q.other) refl);
       })
     where

@@ -166,7 +166,8 @@ module _ (e : List Statement) (s : Statement) (checked : IsChecked e s) (float :
         (ap is_label_alone k.stands ∙ not_alone k.ls (k.us ++ k.tail) k.kw k.no_word_kw) no_proof_front there
       where
         go : (a b p : Bool) → a ≡ false → b ≡ false → p ≡ false
-            → cond a (is_one_of (codes "$c" ∷ codes "$v" ∷ codes "$d" ∷ codes "${" ∷ codes "$}" ∷ []) w) (cond b (is_one_of labelled w) (is (codes "$.") w || (is (codes "$=") w && p && not (in_proof front)))) ≡ true
+            → cond a (is_one_of (codes "$c" ∷ codes "$v" ∷ codes "$d" ∷ codes "${" ∷ codes "$}" ∷ []) w)
+                (cond b (is_one_of labelled w) (is (codes "$.") w || (is (codes "$=") w && p && not (in_proof front)))) ≡ true
             → is (codes "$.") w ≡ true
         go true b p i j l h = absurd cc
         go false true p i j l h = absurd cc
