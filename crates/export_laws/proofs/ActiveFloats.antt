@@ -128,7 +128,7 @@ module _ (names : List Name) where
 -- ---- a declared leaf
 
 leaf_is : (v : Sym) (c : Typecode) (a b : Bool) (o : Option Typecode) → a ≡ false → o ≡ Some c
-      → is_some (cond a (Some (leaf.Const v)) (cond b (option_map (λ (d : Typecode). leaf.Var v d) o) None)) ≡ true
+    → is_some (cond a (Some (leaf.Const v)) (cond b (option_map (λ (d : Typecode). leaf.Var v d) o) None)) ≡ true
     → cond a (Some (leaf.Const v)) (cond b (option_map (λ (d : Typecode). leaf.Var v d) o) None) ≡ Some (leaf.Var v c)
 leaf_is v c true b o i j k = absurd cc
 leaf_is v c false false o i j k = absurd cc

@@ -63,7 +63,7 @@ module _ (db : Database) (place : ℕ) where
   provable_seen seen g (of_step p c) q = c
 
   other_tree : (seen : List Formula) (g : Formula) (c v : Sym) → IsEntry seen g → is_provable db g ≡ false → take 1 g ≡ c ∷ []
-        → (t : Tree) × IsGoodAs db place (typecode c) t × (g ≡ c ∷ tree_symbols db t)
+      → (t : Tree) × IsGoodAs db place (typecode c) t × (g ≡ c ∷ tree_symbols db t)
   other_tree seen g c v (of_tree code t good e n) p s =
       let starts : code ∷ [] ≡ c ∷ [] = sym (ap (take 1) e) ∙ s in
       let same : code ≡ c = cc in
@@ -76,7 +76,7 @@ module _ (db : Database) (place : ℕ) where
       formulas_are (take 1 g) (take 1 h.formula) (not-false _ test)
 
   float_entry : (seen : List Formula) (h : Hyp) (g : Formula) → HasTwo h.formula → h.floating ≡ true → not (h.floating && is_provable db h.formula) ≡ true → differs_in_type (h, g) ≡ false
-        → IsEntry seen g
+      → IsEntry seen g
       → IsFloatEntry db place h g
   float_entry seen h g two f n d e =
       let starts = same_type h g d f in

@@ -125,7 +125,7 @@ module _ (db : Database) (book : IsBook db) (thm : Theorem) (same_hyps : thm.hyp
     Is c d t g = IsSubstituted db thm.at book frame apart differ gs has c d t g
 
     pub is_of : (g : Formula) (c : Sym) (rest : Formula) (d : Typecode) (t : Tree) → g ≡ c ∷ rest → db.is_constant_at c frame.at ≡ true → IsOwnFormula db frame g → IsOwnTree db thm.at frame g d t
-          → Is c d t g
+        → Is c d t g
     is_of g c rest d t = is_substituted db thm.at book frame apart differ gs has g c rest d t
 
     pub begins_by : (c : Sym) (rest : Formula) → frame.formula ≡ c ∷ rest → db.is_constant_at c frame.at ≡ true

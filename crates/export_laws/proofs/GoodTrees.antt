@@ -134,7 +134,7 @@ module _ (db : Database) (place : ℕ) where
     pub good_valued : (t : Tree) → Kept t
     good_valued = tree_ind Kept
         (λ s c v. typed_as _ _ _ _ (code-Var s c) (replace-Var (λ x d. value x) leaf_tree s c)
-            (v.vars s c (subst (λ xs. Contains xs (leaf.Var s c)) (sym (text-Var db.rows s c)) (here (leaf.Var s c)))))
+        (v.vars s c (subst (λ xs. Contains xs (leaf.Var s c)) (sym (text-Var db.rows s c)) (here (leaf.Var s c)))))
         (λ c n v. absurd (v.no_work c n (subst (λ xs. Contains xs (leaf.Work c n)) (sym (text-Work db.rows c n)) (here (leaf.Work c n)))))
         (λ c n v. absurd (fresh_is_not_named c n v.named))
         node_kept

@@ -94,7 +94,7 @@ no_pair test thm entries (q ∷ ps) p vw e c h =
     ]
 
 pair_stands : (thm : Theorem) (entries : List Entry) (p : Pair) (v w : Sym) → Contains (substitute entries p.a) v → is_variable thm v ≡ true → Contains (substitute entries p.b) w
-      → is_variable thm w ≡ true
+    → is_variable thm w ≡ true
     → Contains (variable_pairs thm entries p) (v, w)
 pair_stands thm entries p v w c i d j =
     in_pieces (λ (x : Sym). map (λ (y : Sym). let q : Sym × Sym = (x, y) in q) (filter (is_variable thm) (substitute entries p.b))) (filter (is_variable thm) (substitute entries p.a)) v (v, w)
@@ -141,7 +141,7 @@ module _ (db : Database) (book : IsBook db) (place : ℕ) where
       (d.0, text_child db book place l c ts k.0 k.1 (leaf.Var s d.0) typed k.2 d.1))
 
 declared_by : (s : Sym) (c : Typecode) (a b : Bool) (o : Option Typecode) → cond a (Some (leaf.Const s)) (cond b (option_map (λ (d : Typecode). leaf.Var s d) o) None) ≡ Some (leaf.Var s c)
-      → o ≡ Some c
+    → o ≡ Some c
 declared_by s c true b o e = absurd cc
 declared_by s c false true None e = absurd cc
 declared_by s c false true (Some d) e = let same : d ≡ c = cc in ap (λ x. Some x) same

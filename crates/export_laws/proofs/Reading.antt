@@ -40,7 +40,7 @@ module _ (db : Database) (book : IsBook db) (place : ℕ) where
   const_leaf : (s : Sym) → db.is_constant_at s place ≡ true → declared_leaf db place s ≡ Some (leaf.Const s)
   const_leaf s c =
       ap (λ (b : Bool). cond b (Some (leaf.Const s))
-          (cond (list_any (λ (v : Sym). v.0 == s.0) (db.active_at place).variables) (option_map (λ c. leaf.Var s c) (float_of s (db.active_at place).hyps)) None)) c
+      (cond (list_any (λ (v : Sym). v.0 == s.0) (db.active_at place).variables) (option_map (λ c. leaf.Var s c) (float_of s (db.active_at place).hyps)) None)) c
 
   told_leaf : (t : Tree) → IsGood db place t → (x : Leaf) → Contains (text db.rows t) x → IsTold x
   told_leaf t g (leaf.Const s) h = record {

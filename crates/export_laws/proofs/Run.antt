@@ -255,9 +255,11 @@ module _ (db : Database) (book : IsBook db) (places : HasPlaces db) (thm : Theor
               record {
                 fine = tt;
                 state = record {
-                  stack = subst (AllByRecursion (Entry seen)) (sym applied.stack)
-                      (other_entry db book thm same_hyps seen l frame before.1 no_float st mid state.stack applied o.code o.rest o.tree o.formula p o.own, below_ok seen (λ g i. i)
-                          (length frame.hyps));
+                  stack = subst (AllByRecursion (Entry seen)) (sym applied.stack) (
+                    other_entry db book thm same_hyps seen l frame before.1 no_float st mid state.stack applied o.code o.rest o.tree o.formula p o.own,
+                    below_ok seen (λ g i. i)
+                        (length frame.hyps),
+                  );
                   kept = subst (AllByRecursion (Entry seen)) (sym applied.kept) state.kept;
                 };
               }
@@ -274,7 +276,7 @@ module _ (db : Database) (book : IsBook db) (places : HasPlaces db) (thm : Theor
         by_frame none (Some frame) i k = by_place (nat_lt frame.at thm.at) refl k
           where
             by_place : (b : Bool) → nat_lt frame.at thm.at ≡ b → cond b (apply_frame thm frame st) (Err not_earlier) ≡ Ok mid
-                  → IsAfter db thm seen (push_of_frame db name st.stack mid.stack (Some frame)) mid
+                → IsAfter db thm seen (push_of_frame db name st.stack mid.stack (Some frame)) mid
             by_place true less j =
                 let l = and_then_some db.frame (label_of db name) frame i in
                 frame_step name l.0 frame (l.1, l.2, ltb-true frame.at thm.at less) fine none seen st mid state j
@@ -330,7 +332,7 @@ module _ (db : Database) (book : IsBook db) (places : HasPlaces db) (thm : Theor
           subst (λ (x : State). IsAfter db thm seen (push_of db thm labels s.what st.stack x.stack) x) same c
 
   pub all_fine : (labels : List Name) (ss : List Step) (seen : List Formula) → Base db thm seen → (st : State) → IsState db thm seen st
-        → AllByRecursion (λ (s : Step). StepIsFine db thm labels s.what) ss
+      → AllByRecursion (λ (s : Step). StepIsFine db thm labels s.what) ss
       → AreFine db thm seen (pushes_from db thm labels ss st)
   all_fine labels [] seen base st state fine = tt
   all_fine labels (s ∷ ss) seen base st state fine =

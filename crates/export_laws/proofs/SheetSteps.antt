@@ -63,7 +63,7 @@ module _ (db : Database) (book : IsBook db) (thm : Theorem) where
   EachFits earlier (s ∷ ss) (t ∷ ts) = (s.hyp ≡ false → Fits earlier s t) × EachFits (earlier ++ t ∷ []) ss ts
 
   pub fits_at : (earlier : List Tree) (ss : List SheetStep) (ts : List Tree) → EachFits earlier ss ts → (i : ℕ) (s : SheetStep) (t : Tree) → slice_get ss i ≡ Some s → slice_get ts i ≡ Some t
-        → s.hyp ≡ false
+      → s.hyp ≡ false
       → Fits (earlier ++ take i ts) s t
   fits_at earlier [] ts f i s t e h n = absurd cc
   fits_at earlier (x ∷ ss) [] f i s t e h n = absurd f
@@ -148,6 +148,12 @@ module _ (db : Database) (book : IsBook db) (thm : Theorem) where
   abbrev the_rest : List Formula → List Push → List SheetStep
   the_rest steps ps = push_steps db thm.formula steps ps
 
+  -- those of a push and of the ones behind it, by whether it gives the theorem's formula, and whether its formula was there
+  abbrev with_push : Bool → Bool → Push → List Formula → List Push → List SheetStep
+  with_push a b p steps ps =
+      cond a (push_step db steps (codes "qed") p ∷ [])
+      (cond b (the_rest steps ps) (push_step db steps (number_name (length steps)) p ∷ the_rest (steps ++ p.formula ∷ []) ps))
+
   pub pushes_fit : (ps : List Push) (seen steps : List Formula) (earlier : List Tree) → AllZip IsTreeOfFormula steps earlier → ((g : Formula) → Contains seen g → Contains steps g)
       → AreFine db thm seen ps → list_any gives ps ≡ true → (ts : List Tree) → AllZip HasTree (the_rest steps ps) ts → EachFits earlier (the_rest steps ps) ts
   pushes_fit [] seen steps earlier z inside fine some ts h = absurd cc
@@ -159,10 +165,8 @@ module _ (db : Database) (book : IsBook db) (thm : Theorem) where
           → ((s : List Formula) (e : List Tree) → AllZip IsTreeOfFormula s e → ((g : Formula) → Contains (p.formula ∷ seen) g → Contains s g) → list_any gives ps ≡ true
           → (us : List Tree) → AllZip HasTree (the_rest s ps) us → EachFits e (the_rest s ps) us)
           → (a || list_any gives ps) ≡ true → (us : List Tree)
-          → AllZip HasTree (cond a (push_step db steps (codes "qed") p ∷ [])
-              (cond b (the_rest steps ps) (push_step db steps (number_name (length steps)) p ∷ the_rest (steps ++ p.formula ∷ []) ps))) us
-          → EachFits earlier (cond a (push_step db steps (codes "qed") p ∷ [])
-              (cond b (the_rest steps ps) (push_step db steps (number_name (length steps)) p ∷ the_rest (steps ++ p.formula ∷ []) ps))) us
+          → AllZip HasTree (with_push a b p steps ps) us
+          → EachFits earlier (with_push a b p steps ps) us
       by true b i j rest o [] k = absurd k
       by true b i j rest o (u ∷ us) k = ((λ n. step_fits seen steps earlier (codes "qed") p u z inside fine.0 k.0), tt)
       by false true i j rest o us k =
@@ -173,8 +177,11 @@ module _ (db : Database) (book : IsBook db) (thm : Theorem) where
       by false false i j rest o (u ∷ us) k = (
         (λ n. step_fits seen steps earlier (number_name (length steps)) p u z inside fine.0 k.0),
         rest (steps ++ p.formula ∷ []) (earlier ++ u ∷ []) (zip_push IsTreeOfFormula steps earlier p.formula u z k.0)
-            (λ g c. elim (parted g p.formula seen c) [ inl e ↦ subst (Contains (steps ++ p.formula ∷ [])) e (stands_last p.formula steps) | inr l ↦ stands_later g p.formula steps
-                (inside g l) ]) o us k.1,
+            (λ g c. elim (parted g p.formula seen c) [
+              | inl e ↦ subst (Contains (steps ++ p.formula ∷ [])) e (stands_last p.formula steps)
+              | inr l ↦ stands_later g p.formula steps
+                  (inside g l)
+            ]) o us k.1,
       )
 
   -- ---- and of the hypotheses before them
@@ -225,7 +232,7 @@ module _ (db : Database) (book : IsBook db) (thm : Theorem) where
   some_rest steps (p ∷ ps) = by (gives p) (list_any (same_formula p.formula) steps) (some_rest steps ps)
     where
       by : (a b : Bool) → 0 < length (the_rest steps ps)
-          → 0 < length (cond a (push_step db steps (codes "qed") p ∷ []) (cond b (the_rest steps ps) (push_step db steps (number_name (length steps)) p ∷ the_rest (steps ++ p.formula ∷ []) ps)))
+          → 0 < length (with_push a b p steps ps)
       by true b l = omega arith
       by false true l = l
       by false false l = omega arith
@@ -241,10 +248,8 @@ module _ (db : Database) (book : IsBook db) (thm : Theorem) where
     where
       by : (a b : Bool) → (length steps + length (the_rest steps ps) ≡ count → AreNamed (length steps) count (the_rest steps ps))
           → (length (steps ++ p.formula ∷ []) + length (the_rest (steps ++ p.formula ∷ []) ps) ≡ count → AreNamed (length (steps ++ p.formula ∷ [])) count (the_rest (steps ++ p.formula ∷ []) ps))
-          → length steps + length (cond a (push_step db steps (codes "qed") p ∷ [])
-              (cond b (the_rest steps ps) (push_step db steps (number_name (length steps)) p ∷ the_rest (steps ++ p.formula ∷ []) ps))) ≡ count
-          → AreNamed (length steps) count (cond a (push_step db steps (codes "qed") p ∷ [])
-              (cond b (the_rest steps ps) (push_step db steps (number_name (length steps)) p ∷ the_rest (steps ++ p.formula ∷ []) ps)))
+          → length steps + length (with_push a b p steps ps) ≡ count
+          → AreNamed (length steps) count (with_push a b p steps ps)
       by true b f g i = (last_name count (length steps) i, tt)
       by false true f g i = f i
       by false false f g i =
@@ -282,7 +287,7 @@ module _ (db : Database) (book : IsBook db) (thm : Theorem) where
   last_push (p ∷ ps) steps = by (gives p) (list_any (same_formula p.formula) steps) refl (last_push ps steps) (last_push ps (steps ++ p.formula ∷ []))
     where
       by : (a b : Bool) → gives p ≡ a → HasQed (the_rest steps ps) → HasQed (the_rest (steps ++ p.formula ∷ []) ps)
-          → HasQed (cond a (push_step db steps (codes "qed") p ∷ []) (cond b (the_rest steps ps) (push_step db steps (number_name (length steps)) p ∷ the_rest (steps ++ p.formula ∷ []) ps)))
+          → HasQed (with_push a b p steps ps)
       by true b i f g = record {
         qed = push_step db steps (codes "qed") p;
         stands = λ o. refl;
@@ -304,8 +309,7 @@ module _ (db : Database) (book : IsBook db) (thm : Theorem) where
   no_hyps (p ∷ ps) steps = by (gives p) (list_any (same_formula p.formula) steps) (no_hyps ps steps) (no_hyps ps (steps ++ p.formula ∷ []))
     where
       by : (a b : Bool) → filter (λ (s : SheetStep). s.hyp) (the_rest steps ps) ≡ [] → filter (λ (s : SheetStep). s.hyp) (the_rest (steps ++ p.formula ∷ []) ps) ≡ []
-          → filter (λ (s : SheetStep). s.hyp) (cond a (push_step db steps (codes "qed") p ∷ [])
-              (cond b (the_rest steps ps) (push_step db steps (number_name (length steps)) p ∷ the_rest (steps ++ p.formula ∷ []) ps))) ≡ []
+          → filter (λ (s : SheetStep). s.hyp) (with_push a b p steps ps) ≡ []
       by true b f g = refl
       by false true f g = f
       by false false f g = g
@@ -335,16 +339,15 @@ module _ (db : Database) (book : IsBook db) (thm : Theorem) where
         by (gives q) (list_any (same_formula q.formula) steps) (pushes_active ps (q.formula ∷ seen) steps fine.1) (pushes_active ps (q.formula ∷ seen) (steps ++ q.formula ∷ []) fine.1) some
       where
         by : (a b : Bool) → (list_any gives ps ≡ true → AllByRecursion IsActiveStep (the_rest steps ps))
-              → (list_any gives ps ≡ true → AllByRecursion IsActiveStep (the_rest (steps ++ q.formula ∷ []) ps))
+            → (list_any gives ps ≡ true → AllByRecursion IsActiveStep (the_rest (steps ++ q.formula ∷ []) ps))
             → (a || list_any gives ps) ≡ true
-            → AllByRecursion IsActiveStep (cond a (push_step db steps (codes "qed") q ∷ [])
-                (cond b (the_rest steps ps) (push_step db steps (number_name (length steps)) q ∷ the_rest (steps ++ q.formula ∷ []) ps)))
+            → AllByRecursion IsActiveStep (with_push a b q steps ps)
         by true b f g o = (record { said = q.formula; tokens = refl; active = push_active seen q fine.0 }, tt)
         by false true f g o = f o
         by false false f g o = (record { said = q.formula; tokens = refl; active = push_active seen q fine.0 }, g o)
 
     pub hyps_active : (n : ℕ) (hs : List Hyp) (tail : List SheetStep) → AllByRecursion (λ (h : Hyp). (is_provable db h.formula ≡ true) × IsKnownAt db thm.at h.formula) hs
-          → AllByRecursion IsActiveStep tail
+        → AllByRecursion IsActiveStep tail
         → AllByRecursion IsActiveStep (hyp_steps db n hs ++ tail)
     hyps_active n [] tail a t = t
     hyps_active n (h ∷ hs) tail a t = (record { said = h.formula; tokens = refl; active = known_is_active db book thm.at p provable h.formula a.0.0 a.0.1 }, hyps_active (suc n) hs tail a.1 t)

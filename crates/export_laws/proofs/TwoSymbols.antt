@@ -55,7 +55,7 @@ keyword_of : (k : List ℕ) (s : Statement) (kw : Word) (more : List Word) → b
 keyword_of k s kw more e = ap (λ (ws : List Word). list_any (is k) (take 1 ws)) e
 
 symbols_of : (s : Statement) (kw : Word) (us tail : List Word) → body s ≡ kw ∷ (us ++ tail) → AllByRecursion (λ w. is_word w ≡ true) us → Stops is_word tail
-      → symbols_in s ≡ map (λ (w : Word). w.bytes) us
+    → symbols_in s ≡ map (λ (w : Word). w.bytes) us
 symbols_of s kw us tail e a stop =
     ap (λ (ws : List Word). map (λ (w : Word). w.bytes) (take_while is_word (drop 1 ws))) e ∙ ap (map (λ (w : Word). w.bytes)) (taken-front is_word us tail a stop)
 
@@ -167,7 +167,7 @@ module _ (e : List Statement) (s : Statement) (checked : IsChecked e s) (float :
       where
         go : (a b p : Bool) → a ≡ false → b ≡ false → p ≡ false
             → cond a (is_one_of (codes "$c" ∷ codes "$v" ∷ codes "$d" ∷ codes "${" ∷ codes "$}" ∷ []) w)
-                (cond b (is_one_of labelled w) (is (codes "$.") w || (is (codes "$=") w && p && not (in_proof front)))) ≡ true
+            (cond b (is_one_of labelled w) (is (codes "$.") w || (is (codes "$=") w && p && not (in_proof front)))) ≡ true
             → is (codes "$.") w ≡ true
         go true b p i j l h = absurd cc
         go false true p i j l h = absurd cc
