@@ -1,5 +1,5 @@
 -- A proof that is accepted and exportable, and one that is not exportable, as no assertion gives its formula.
-use Rattle.std.specs.Prelude.{◌≡◌, ◌<◌, ◌==◌, ℕ, zero, suc, true, false, List, [], ◌∷◌, ◌++◌, slice_index_or, Contains, Option, Some, None, if◌then◌else◌, codes, refl}
+use Rattle.std.specs.Prelude.{◌≡◌, ◌<◌, ◌==◌, ℕ, zero, suc, true, false, List, [], ◌∷◌, ◌++◌, slice_index_or, Contains, Some, None, if◌then◌else◌, codes, refl}
 use Rattle.std.specs.List.{list_any}
 use Rattle.std.proofs.Common.{sym as back, ap, subst, ◌∙◌, arith}
 use Rattle.mm_base.specs.declared.symbols.Label.{Label}
@@ -8,7 +8,7 @@ use Rattle.mm_model.specs.declared.frames.Frame.{Frame}
 use Rattle.mm_model.specs.Names.{Name, sym, label}
 use Rattle.mm_model.specs.Statements.{Statement, statements, labels, database_fault}
 use Rattle.mm_model.specs.Frames.{symbols, positions, end_of, frame_of, active_at, is_constant_at, place_after, float_codes}
-use Rattle.mm_model.specs.Book.{Assertion, Database}
+use Rattle.mm_model.specs.Book.{Database}
 use Rattle.proof_model.specs.declared.code.Code.{Code}
 use Rattle.proof_model.specs.declared.theorem.Theorem.{Theorem}
 use Rattle.proof_model.specs.Codes.{normal_code}
@@ -116,8 +116,11 @@ given_text = database_text ++ codes " ${ i.1 $e |- ph $. idi $p |- ph $= i.1 $. 
 abbrev given_db : Database
 given_db = record db { symbols = symbols (statements given_text); labels = labels (statements given_text); frame = frame_of (statements given_text) }
 
+abbrev i1 : Hyp
+i1 = record { name = codes "i.1"; floating = false; formula = sym 0 ∷ sym 2 ∷ [] }
+
 abbrev idi : Theorem
-idi = record { at = 7; formula = sym 0 ∷ sym 2 ∷ []; hyps = wph ∷ wps ∷ record { name = codes "i.1"; floating = false; formula = sym 0 ∷ sym 2 ∷ [] } ∷ []; mandatory = codes "wph" ∷ codes "i.1" ∷ []; pairs = [] }
+idi = record { at = 7; formula = sym 0 ∷ sym 2 ∷ []; hyps = wph ∷ wps ∷ i1 ∷ []; mandatory = codes "wph" ∷ codes "i.1" ∷ []; pairs = [] }
 
 abbrev idi_code : Code
 idi_code = normal_code (codes "wph" ∷ codes "i.1" ∷ []) (codes "i.1" ∷ [])
