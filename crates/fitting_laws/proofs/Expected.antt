@@ -27,7 +27,7 @@ module _ (db : Database) (place : ℕ) (pairs : List Pair) where
       by true e = (_, IsExpected.hyp e)
       by false e = (_, IsExpected.fits e (h e))
 
-  abbrev Fitting : (ℕ → List Tree) → List SheetStep → List Tree → Type 0
+  abbrev pub Fitting : (ℕ → List Tree) → List SheetStep → List Tree → Type 0
   Fitting earlier ss ts = (k : ℕ) (s : SheetStep) (t : Tree) → slice_get ss k ≡ Some s → slice_get ts k ≡ Some t → s.hyp ≡ false → FitsAsListed db place pairs (earlier k) s t
 
   -- a step with its tree, at a place of the written steps

@@ -1,5 +1,5 @@
 -- A worksheet that fits as it is written becomes finished, or has a fault of size.
-use Rattle.std.specs.Prelude.{◌≡◌, ◌<◌, ◌≤◌, ◌^◌, ◌⊎◌, ℕ, suc, Bool, true, false, List, [], ◌∷◌, ◌++◌, length, map, flat_map, filter_map, take, nat_lt, Contains, slice_get, is_some, Option, Some, None, refl}
+use Rattle.std.specs.Prelude.{◌≡◌, ◌<◌, ◌≤◌, ◌^◌, ◌⊎◌, ℕ, suc, Bool, true, false, List, [], ◌∷◌, ◌++◌, length, map, flat_map, filter_map, take, nat_lt, Contains, slice_get, is_some, Option, Some, None, codes, refl}
 use Rattle.std.specs.List.{AllByRecursion, AllZip, list_all}
 use Rattle.std.proofs.Common.{sym, ap, subst, ◌∙◌, cond, arith, inl, inr}
 use Rattle.std.proofs.lemmas.Bool.{and_parts, and_from, ltb-false}
@@ -30,7 +30,7 @@ use Rattle.sheet_text.specs.declared.sheet.Sheet.{Sheet}
 use Rattle.sheet_text.specs.declared.sheet.SheetItem.{SheetItem}
 use Rattle.sheet_text.specs.declared.sheet.SheetItem.TheVariants as item
 use Rattle.sheet_text.specs.declared.sheet.SheetStep.{SheetStep}
-use Rattle.sheet_text.specs.Layout.{layout, lines_of, header_line, item_lines, step_names, ended, step_of_item, steps}
+use Rattle.sheet_text.specs.Layout.{layout, lines_of, item_lines, pair_line, step_names, ended, step_of_item, steps}
 use Rattle.sheet_text.specs.Reads.{Reads, unnumbered}
 use Rattle.sheet_text.specs.Spellable.{IsSpellable}
 use Rattle.sheet_text.specs.TextFaults.{text_fault, line_fault}
@@ -101,16 +101,15 @@ items_long names (item.Step s ∷ items) = let rest = items_long names items in 
 
 steps_few : (s : Sheet) → length (steps s) ≤ length (layout s None)
 steps_few s =
+    let items = flat_map (item_lines (step_names s)) s.items in
+    let pairs = map pair_line s.pairs in
+    let foot : List (List ℕ) = codes "$)" ∷ [] in
     let some = items_long (step_names s) s.items in
     let lines = ended_long (lines_of s None) in
-    let a = length-append (flat_map (item_lines (step_names s)) s.items) (lines_behind s) in
-    omega (arith, some, lines, lines_are s, a)
-  where
-    lines_behind : Sheet → List (List ℕ)
-    lines_behind t = []
-
-    lines_are : (t : Sheet) → length (flat_map (item_lines (step_names t)) t.items) ≤ length (lines_of t None)
-    lines_are t = omega arith
+    let a = length-append items [] in
+    let b = length-append (items ++ []) pairs in
+    let c = length-append ((items ++ []) ++ pairs) foot in
+    omega (arith, some, lines, a, b, c)
 
 -- ---- a whole formula
 
