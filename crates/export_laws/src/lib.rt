@@ -2,8 +2,9 @@
 //! nothing.
 #![tactic(auto)]
 
-ghost use Rattle.export_laws.specs.ExportLaw.{ExportedFits};
+ghost use Rattle.export_laws.specs.ExportLaw.{ExportedFits, LawOfExport};
 
+use fitting_laws::fitting_becomes_finished;
 use model_laws::databases_have_places;
 
 /// The worksheet of an accepted proof that is exportable fits as it is written: each step but the hypotheses rests on an
@@ -12,4 +13,13 @@ pub fn exported_sheet_fits()
     ensures { ExportedFits }
 {
     databases_have_places();
+}
+
+/// An accepted proof that is exportable becomes a worksheet in which each step fits as it is given and none has a clash, and
+/// which is finished, or has a fault of size.
+pub fn export_is_finished()
+    ensures { LawOfExport }
+{
+    exported_sheet_fits();
+    fitting_becomes_finished();
 }
