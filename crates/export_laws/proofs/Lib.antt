@@ -1,0 +1,13 @@
+mod GoodTrees
+mod FrameTrees
+mod FloatValues
+mod PushPairs
+mod Entries
+mod FramePush
+mod Run
+mod Reading
+mod SheetSteps
+mod TwoSymbols
+mod ActiveFloats
+mod TheoremFacts
+mod ExportedFits

@@ -1,0 +1,4 @@
+pub mod Accepted
+pub mod Exportable
+pub mod ExportableExamples
+pub mod ExportLaw

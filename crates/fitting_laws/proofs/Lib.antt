@@ -1,0 +1,13 @@
+mod BindsAsIs
+mod Ends
+mod Expected
+mod FilledAsIs
+mod FrameHyps
+mod Judging
+mod NamedAsIs
+mod Numbered
+mod Scenes
+mod Spells
+mod Stated
+mod Values
+mod Joined

@@ -1,0 +1,2 @@
+pub mod FitsAsWritten
+pub mod FittingBecomesFinished
