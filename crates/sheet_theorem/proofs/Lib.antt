@@ -1,4 +1,3 @@
 mod ListLaws
 mod OutcomeLaws
-mod PlaceLaws
 mod TheoremLaws

@@ -15,6 +15,7 @@ use crate::parts::{hyps_past, last_formula, pairs_of};
 use install_model::NewTheorem;
 use mm_base::{Bytes, List, Memory};
 use mm_database::Database;
+use model_laws::frames_have_own_expressions;
 use sheet_text::Sheet;
 use sheet_unify::Outcome;
 use std::alloc::Global;
@@ -63,7 +64,9 @@ pub fn new_theorem(alloc: Global, db: &Database, outcome: &Outcome) -> Result<Ne
         → IsWritten (database_of options.kinds text db.now.rows db.now.parsed) options w outcome.now
         → IfOk result (λ theorem. theorem ≡ new_theorem (database_of options.kinds text db.now.rows db.now.parsed) options w) }
 {
-    match outer_hyps(db.frames(), outcome.place) {
+    frames_have_own_expressions();
+    let frames = db.frames();
+    match outer_hyps(frames, outcome.place) {
         Err(_) => Err(Memory),
         Ok(outer) => theorem_in(alloc, outer, &outcome.sheet, &outcome.proof),
     }
