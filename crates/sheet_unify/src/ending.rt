@@ -228,9 +228,10 @@ fn outcome_with(
     ensures fault { ForTexts options.now.kinds db.now sheet.now bound.now (λ d text. IfErr result (IsFaultOf d text options.now)) }
 {
     answer_is_fixed();
-    match report_on(alloc, db, bound, options, items.as_slice()) {
+    let steps = items.as_slice();
+    match report_on(alloc, db, bound, options, steps) {
         Err(_) => Err(UnifyFault::Memory),
-        Ok((report, finished)) => match sheet_of(alloc, db, sheet, bound, options, items.as_slice()) {
+        Ok((report, finished)) => match sheet_of(alloc, db, sheet, bound, options, steps) {
             Err(_) => Err(UnifyFault::Memory),
             Ok(written) => match printed(alloc, db, options, written, items, finished) {
                 Ok(printed) => Ok(outcome_from(bound, printed, report, finished)),
