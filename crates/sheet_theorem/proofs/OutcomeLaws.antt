@@ -1,34 +1,15 @@
 -- The place of what came of a worksheet is one of the database.
-use Rattle.std.specs.Prelude.{◌≡◌, ◌≤◌, ℕ, List, length, min}
-use Rattle.std.proofs.Common.{arith, sym, ap, ◌∙◌, subst}
-use Rattle.mm_base.specs.declared.kinds.Kinds.{Kinds}
+use Rattle.std.specs.Prelude.{◌≡◌, ◌≤◌, ℕ, List, length}
+use Rattle.std.proofs.Common.{sym, ◌∙◌, subst}
 use Rattle.mm_model.specs.Book.{Database}
 use Rattle.mm_database.specs.Books.{database_of}
-use Rattle.mm_database.specs.Opened.{Opened, IsOpened}
+use Rattle.mm_database.specs.Opened.{Opened}
 use Rattle.model_laws.specs.FrameLaws.{FramesHaveOwnExpressions}
-use Rattle.sheet_bind.proofs.PlaceLaws.{place_within}
-use Rattle.sheet_bind.proofs.ShownLaws.{shown_is, facts_of}
-use Rattle.sheet_bind.specs.Places.{place_number}
-use Rattle.sheet_bind.specs.Seen.{existing_in}
-use Rattle.sheet_bind.specs.Shown.{shown}
-use Rattle.sheet_text.specs.declared.sheet.Sheet.{Sheet}
-use Rattle.solve_model.specs.Binding.{place_of}
 use Rattle.sheet_unify.specs.declared.outcome.Outcome.{Outcome}
 use Rattle.written_model.specs.declared.options.Options.{Options}
 use Rattle.written_model.specs.Written.{Writing, Writes, Answers, wrote, written}
 use Rattle.sheet_theorem.specs.Outcomes.{IsOutcomeOver}
-
-at_most : (x n : ℕ) → min x n ≡ x → x ≤ n
-at_most x n e = omega (arith, e)
-
-module _ (kinds : Kinds) (text : List ℕ) (d : Opened) (opened : IsOpened kinds text d) (own : FramesHaveOwnExpressions) where
-  sheet_within : (s : Sheet) → place_of (shown kinds (facts_of text) d) s ≤ length d.contents.entries
-  sheet_within s =
-      at_most (place_number text d.contents (existing_in d.contents s.theorem) s.loc) (length d.contents.entries)
-      (place_within kinds text d.contents opened.contents opened.no_fault own s.theorem s.loc)
-
-  bound_within : (s : Sheet) → place_of (database_of kinds text d.rows d.parsed) s ≤ length d.contents.entries
-  bound_within s = subst (λ (db : Database). place_of db s ≤ length d.contents.entries) (shown_is kinds text d opened) (sheet_within s)
+use Rattle.sheet_theorem.proofs.PlaceLaws.{bound_within}
 
 writes_of : (db : Database) (text : List ℕ) (options : Options) (w : Writing) → Answers db text options (wrote w) → Writes db text options w
 writes_of db text options w (written e writes late) = writes
