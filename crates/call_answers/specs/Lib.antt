@@ -2,8 +2,10 @@ pub mod CallAnswers
 pub mod CommandLine
 pub mod CommandLineExamples
 pub mod Endings
+pub mod Exports
 pub mod Given
 pub mod GivenExamples
+pub mod PutsIn
 pub mod Trial
 pub mod TrialAnswerExamples
 pub mod Verified
