@@ -43,6 +43,7 @@ unanswered end h = nothing _ _ end h
 
 pub trial_alone : (count : ℕ) (end : Ending) → CallAnswer no_files (Some (trial count)) end → IsTried count end
 trial_alone count end (bad_database named e r) = cc
+trial_alone count end (bad_worksheet named e given f r) = cc
 trial_alone count end (tried is) = is
 
 -- ---- a database in which `wff` is declared twice
