@@ -29,8 +29,8 @@ options_shown c = record {
 
 -- the options that a command knows, by whether it takes `--in-place`
 abbrev pub known_by : Bool → Name → Bool
-known_by true word = words.is_known_by_unify word
-known_by false word = words.is_known word
+known_by true = words.is_known_by_unify
+known_by false = words.is_known
 
 -- two names
 abbrev pub names_in : List Name → Option (Name × Name)
