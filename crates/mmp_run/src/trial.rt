@@ -134,7 +134,7 @@ fn try_over(alloc: Global, db: &Database, options: &Options, blocks: u32) -> Res
     let text = sheet(alloc, blocks)?;
     match unify_sheet(alloc, db, text.as_slice(), options) {
         Ok(outcome) => end_outcome(alloc, &outcome),
-        Err(fault) => end_fault(alloc, fault),
+        Err(fault) => end_fault(alloc, Status::Sheet, fault),
     }
 }
 
