@@ -14,8 +14,8 @@ use crate::both::{OpenedBoth, open_both};
 use crate::command::{Command, read_words};
 use crate::deliver::deliver;
 use crate::endings::refuse;
-use crate::export::end_export;
-use crate::install::end_install;
+use crate::export::end_proof;
+use crate::install::end_put_in;
 use crate::opening::{Opened, open};
 use crate::options::{Choice, make_options};
 use crate::trial::end_trial;
@@ -48,7 +48,7 @@ fn install_both(alloc: Global, opened: OpenedBoth, options: &Options) -> Result<
 {
     match opened {
         OpenedBoth::Both(text, frames, sheet) => {
-            end_install(alloc, text.as_slice(), frames, &sheet, options)
+            end_put_in(alloc, text.as_slice(), frames, &sheet, options)
         }
         OpenedBoth::Refused(end) => Ok(end),
     }
@@ -74,7 +74,7 @@ fn end_unify<S: Store>(
 }
 
 // Puts the theorem of the worksheet of a file into the database of another.
-fn end_install_files<S: Store>(
+fn end_install<S: Store>(
     alloc: Global,
     store: &mut S,
     choice: Choice<'_>,
@@ -110,7 +110,7 @@ fn end_verify<S: Store>(
 }
 
 // Exports the proof of a theorem of the database of a file.
-fn end_export_file<S: Store>(
+fn end_export<S: Store>(
     alloc: Global,
     store: &mut S,
     choice: Choice<'_>,
@@ -124,7 +124,7 @@ fn end_export_file<S: Store>(
     let options = make_options(alloc, choice)?;
     match open(alloc, store, database)? {
         Opened::Database(text, frames) => {
-            end_export(alloc, text.as_slice(), frames, &options, theorem)
+            end_proof(alloc, text.as_slice(), frames, &options, theorem)
         }
         Opened::Refused(end) => Ok(end),
     }
@@ -153,12 +153,12 @@ fn end_command<S: Store>(
             choice,
             database,
             theorem,
-        } => end_export_file(alloc, store, choice, database, theorem),
+        } => end_export(alloc, store, choice, database, theorem),
         Command::Install {
             choice,
             database,
             sheet,
-        } => end_install_files(alloc, store, choice, database, sheet),
+        } => end_install(alloc, store, choice, database, sheet),
     }
 }
 
@@ -220,10 +220,11 @@ fn place_of<'a>(command: Option<Command<'a>>, status: Status) -> Option<&'a str>
 /// one line in `log`. For `trial` `Finished` and `Unfinished`: four lines are in `out`. For `export` `Finished`: the worksheet is
 /// in `out`, and the report in `log`; `Proof`: as for `verify`, or the proof gives no finished worksheet, by one line in `log`.
 /// For `install` `Finished`: the text of the database with the theorem in it is in `out`, and the report in `log`; `Unfinished`:
-/// the report is in `log`, and nothing in `out`. `Database` and `Sheet`: the file is refused, by one line in `log`; for `install`
-/// `Sheet` is also that of a theorem that is in the database, and of a text that would be too large. `Words`: the words fit no command, and `log` has the usage line. `Read`: a file could not be
-/// read, and `log` names it. `Write`: a sink failed, or the store where the worksheet was to be put, and two texts are cut short;
-/// over told files, and for `trial` and words that fit no command over every store, they are those of one of the other statuses.
+/// the report is in `log`, and nothing in `out`. `Database` and `Sheet`: the file is refused, by one line in `log`; `Sheet` is also
+/// that of an `install` whose theorem is one of the database, or whose text would be too large. `Words`: the words fit no command,
+/// and `log` has the usage line. `Read`: a file could not be read, and `log` names it. `Write`: a sink failed, or the store where
+/// the worksheet was to be put, and two texts are cut short; over told files, and for `trial` and words that fit no command over
+/// every store, they are those of one of the other statuses.
 /// Nothing is in `log` unless the first text is whole. `Memory`: memory ran out, and nothing was written.
 pub fn run<S: Store, O: Sink, L: Sink>(
     alloc: Global,

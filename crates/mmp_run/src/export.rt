@@ -115,7 +115,7 @@ fn end_accepted(
 }
 
 /// Exports the proof of a theorem of a database without a fault, from the statements that it has.
-pub fn end_export(
+pub fn end_proof(
     alloc: Global,
     text: &[u8],
     frames: Frames,

@@ -148,7 +148,7 @@ fn end_opened(
 }
 
 /// Opens the database of a text without a fault, from the statements that it has, and puts the theorem of a worksheet into it.
-pub fn end_install(
+pub fn end_put_in(
     alloc: Global,
     text: &[u8],
     frames: Frames,
