@@ -18,7 +18,7 @@ ghost use Rattle.trial_texts.specs.TrialTexts.{trial_database};
 use crate::options::{Choice, make_options};
 use crate::unify::{end_fault, status_of};
 use call_answers::Ending;
-use mm_base::{Bytes, List, Memory};
+use mm_base::{Bytes, List, Memory, Status};
 use mm_database::{Database, DbFault, open_frames, read_frames};
 use mm_frames::Frames;
 use sheet_gen::{database, sheet};
