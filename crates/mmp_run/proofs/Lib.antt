@@ -1,5 +1,6 @@
 mod Blocks
 mod Delivered
+mod Exported
 mod Letters
 mod MayEnd
 mod OptionWords
