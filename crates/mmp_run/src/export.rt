@@ -127,9 +127,8 @@ pub fn end_proof(
     ensures answer { IfOk result (IsExported options.now text.now name.now) }
     ensures ending { IfOk result IsTextEnding }
 {
-    match judge(alloc, text, &frames, name.as_bytes()) {
-        Ok(Verdict::Accepted(proof)) => end_accepted(alloc, text, frames, options, name, &proof),
-        Ok(Verdict::Refused(refusal)) => end_refusal(alloc, name, refusal),
-        Err(_) => Err(Memory),
+    match judge(alloc, text, &frames, name.as_bytes())? {
+        Verdict::Accepted(proof) => end_accepted(alloc, text, frames, options, name, &proof),
+        Verdict::Refused(refusal) => end_refusal(alloc, name, refusal),
     }
 }
