@@ -2,8 +2,8 @@
 use Rattle.std.proofs.Common.{◌≡◌, ◌≢◌, ℕ, List, [], Bool, true, false, Option, Some, None, Result, Ok, Err, IfOk, IfSome, IsSome, ◌∙◌, sym, ap, subst, refl, slice_index_or}
 use Rattle.std.proofs.lemmas.Option.{get_or_from_slice_get}
 use Rattle.call_answers.specs.declared.ending.Ending.{Ending}
-use Rattle.call_answers.specs.Endings.{Refuses, Shows}
-use Rattle.call_answers.specs.Exports.{IsAccepted, GivesExport, ShowsFinished, no_worksheet_line}
+use Rattle.call_answers.specs.Endings.{Shows}
+use Rattle.call_answers.specs.Exports.{IsAccepted, GivesExport, ShowsFinished}
 use Rattle.call_answers.specs.Verified as said
 use Rattle.export_model.specs.Exported.{export_text}
 use Rattle.fault_lines.specs.FaultLines.{refusal_line}
@@ -21,10 +21,8 @@ use Rattle.mmp_run.specs.declared.verify.Refusal as refusals
 use Rattle.mmp_run.specs.declared.verify.Refusal.TheVariants as refusal_of_proof
 use Rattle.mmp_run.specs.Exported.{IsExported, exported, refused as not_exported}
 use Rattle.mmp_run.specs.Refusals.{refusal}
-use Rattle.mmp_run.specs.Refused.{IsTextEnding}
 use Rattle.mmp_run.specs.Verdicts.{IsAcceptedProof, told_refusal}
 use Rattle.mmp_run.specs.Verify.{ending_of}
-use Rattle.mmp_run.proofs.MayEnd.{verdict_ending}
 use Rattle.mmp_run.proofs.Refusals.{refuses}
 use Rattle.mmp_run.proofs.Theorems.{named_by}
 use Rattle.mmp_run.proofs.Unified.{book}
@@ -105,12 +103,6 @@ pub shows_finished : (db : Database) (options : Options) (name : Name) (w : Writ
 shows_finished db options name w b (Err e) is done shows = tt
 shows_finished db options name w b (Ok end) is done shows = subst (λ (f : Bool). ShowsFinished db options name w f end) (sym done ∙ is) shows
 
-pub shows_none : (db : Database) (options : Options) (name : Name) (w : Writing) (b : Bool) (end : Result Ending memory.Memory) → b ≡ w.finished → b ≡ false
-    → IfOk end (λ e. e ≡ refusal status.Proof (no_worksheet_line name)) → IfOk end (ShowsFinished db options name w w.finished)
-shows_none db options name w b (Err e) is done says = tt
-shows_none db options name w b (Ok end) is done says =
-    subst (λ (f : Bool). ShowsFinished db options name w f end) (sym done ∙ is) (refuses end status.Proof (no_worksheet_line name) says)
-
 -- ---- a proof that is not accepted
 
 not_accepted : (r : refusals.Refusal) → told_refusal r ≢ said.accepted
@@ -122,7 +114,3 @@ pub refusal_exports : (options : Options) (text name : List ℕ) (r : refusals.R
     → IfOk end (λ e. e ≡ ending_of name (told_refusal r)) → IfOk end (IsExported options text name)
 refusal_exports options text name r (Err e) is says = tt
 refusal_exports options text name r (Ok end) is says = not_exported (told_refusal r) is (not_accepted r) says
-
-pub refusal_ending : (name : List ℕ) (r : refusals.Refusal) (end : Result Ending memory.Memory) → IfOk end (λ e. e ≡ ending_of name (told_refusal r)) → IfOk end IsTextEnding
-refusal_ending name r (Err e) says = tt
-refusal_ending name r (Ok end) says = subst IsTextEnding (sym says) (verdict_ending name (told_refusal r))

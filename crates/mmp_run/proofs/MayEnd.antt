@@ -121,6 +121,13 @@ may_refuse command told before now name end named read (inr is) = may_not_read c
 has_sheet : (command : Command) (files : Files) (name text : Name) → sheet_of command ≡ Some name → files name ≡ Some text → HasSheet files command text
 has_sheet command files name text named e = ap (option_and_then files) named ∙ e
 
+-- the file of the worksheet is refused, behind a database without a fault
+pub refused_behind : (told : Option Files) (before mid now : Name → ℕ) (database file : Name) (text : List ℕ) (end : Ending) → IsOpen told database text → NoneFell before mid
+    → IsSheetRefused told file end ⊎ IsUnread mid now file end → IsRefusedFile told before now database file end
+refused_behind told before mid now database file text end opened fell (inl is) = both.bad_sheet {text = text} opened (inl is)
+refused_behind told before mid now database file text end opened fell (inr is) =
+    both.bad_sheet {text = text} opened (inr (record { rose = rose_since (before file) (mid file) (now file) (fell file) is.rose; says = is.says }))
+
 -- a command that reads these two files
 pub record ReadsBoth (command : Command) (database sheet : Name) : Type 0 where
   pub database_is : database_of command ≡ Some database
@@ -199,7 +206,7 @@ module _ (command : SheetCommand) (database : List ℕ) where
 written_otherwise : true ≡ false → ⊥
 written_otherwise e = cc
 
-pub verdict_ending : (theorem : Name) (v : said.Verdict) → IsTextEnding (ending_of theorem v)
+verdict_ending : (theorem : Name) (v : said.Verdict) → IsTextEnding (ending_of theorem v)
 verdict_ending theorem said.no_theorem = record { status = tt; silent = λ _. refl }
 verdict_ending theorem said.accepted = record { status = tt; silent = λ e. absurd (written_otherwise e) }
 verdict_ending theorem (said.bad_code f) = record { status = tt; silent = λ _. refl }

@@ -17,8 +17,8 @@ returns-in-Ok-clause-answer c = λ text opened p.
     outcome_exports c.answer_is_exported.ensures options text name d label code opened p c.as_slice.result.now sheet_is c.in-Ok.outcome c.end_worksheet.result
     (c.in-Ok.ensures.outcome text opened) (λ w is. c.end_worksheet.ensures.written options text w opened is)
 
-pub returns-in-Err-clause-answer : goal.returns-in-Err-clause-answer
-returns-in-Err-clause-answer c = λ text opened p.
+pub returns-clause-answer : goal.returns-clause-answer
+returns-clause-answer c = λ text opened p.
     let options = c.args.options.now in
     let name = c.args.name.now in
     let d = c.args.db.now in
@@ -29,6 +29,3 @@ returns-in-Err-clause-answer c = λ text opened p.
         ∙ ap (λ (n : List ℕ). export_text (book options text d) (theorem_at text name label code p) n code) (name_at options text name d label code opened p) in
     fault_exports c.answer_is_exported.ensures options text name d label code opened p c.as_slice.result.now sheet_is c.in-Err.fault c.end_fault.result
     (c.in-Err.ensures.fault text opened) c.end_fault.ensures.told c.end_fault.ensures.line
-
-pub unify_sheet-requires : goal.unify_sheet-requires
-unify_sheet-requires c = record { opened = record { database = c.requires.text; opened = c.requires.opened } }
