@@ -1,5 +1,5 @@
 -- From what came of a worksheet to the ending of `install`.
-use Rattle.std.proofs.Common.{◌≡◌, ℕ, List, length, Bool, true, false, not, Option, Some, None, Result, Ok, Err, IfOk, IfSome, IsSome, ◌∙◌, sym, refl}
+use Rattle.std.proofs.Common.{◌≡◌, ℕ, List, length, Bool, true, false, Option, Some, None, Result, Ok, Err, IfOk, IfSome, IsSome, ◌∙◌, sym, refl}
 use Rattle.call_answers.specs.declared.ending.Ending.{Ending}
 use Rattle.call_answers.specs.PutsIn.{PutsIn, ShowsReport}
 use Rattle.fault_lines.specs.FaultLines.{refusal_line}
@@ -22,16 +22,12 @@ use Rattle.sheet_unify.specs.declared.outcome.Outcome.{Outcome}
 use Rattle.written_model.specs.declared.options.Options.{Options}
 use Rattle.written_model.specs.Written.{Answers, Writing, wrote, refused}
 
-not_true : (b : Bool) → not b ≡ true → b ≡ false
-not_true false e = refl
-not_true true e = let clash : false ≡ true = e in absurd (cc)
-
 -- a worksheet that is not finished
 pub tells_open : (db : Database) (options : Options) (w : Writing) (text : List ℕ) (outcome : Outcome) (end : Result Ending memory.Memory) → IsWritten db options w outcome
-    → outcome.existing ≡ false → not outcome.finished ≡ true → IfOk end (ShowsReport db options w) → IfOk end (TellsInstall db options w text)
+    → outcome.existing ≡ false → outcome.finished ≡ false → IfOk end (ShowsReport db options w) → IfOk end (TellsInstall db options w text)
 tells_open db options w text outcome (Err e) is new not_done shows = tt
 tells_open db options w text outcome (Ok end) is new not_done shows =
-    made.is_open (sym is.existing ∙ new) (sym is.finished ∙ not_true outcome.finished not_done) shows
+    made.is_open (sym is.existing ∙ new) (sym is.finished ∙ not_done) shows
 
 puts_text : (db : Database) (options : Options) (text sheet : List ℕ) (w : Writing) (end : Ending) → Answers db sheet options (wrote w) → w.bound.existing ≡ false → w.finished ≡ true
     → TellsText db options w text end → PutsIn db options text sheet end

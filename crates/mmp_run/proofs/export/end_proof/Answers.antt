@@ -7,5 +7,5 @@ use Rattle.mmp_run.proofs.export.end_proof.Goals as goal
 pub returns-in-Refused-clause-answer : goal.returns-in-Refused-clause-answer
 returns-in-Refused-clause-answer c =
     refusal_exports c.args.options.now c.args.text.now c.args.name.now c.in-Refused.refusal c.end_refusal.result
-    (subst (λ (n : List ℕ). IsVerdict c.args.text.now n (told_refusal c.in-Refused.refusal)) c.as_bytes.ensures (rw c.in-Refused.is at c.in_ok-proof.ensures.verdict))
+    (subst (λ (n : List ℕ). IsVerdict c.args.text.now n (told_refusal c.in-Refused.refusal)) c.as_bytes.ensures.value (rw c.in-Refused.is at c.in_ok-proof.ensures.verdict))
     c.end_refusal.ensures
