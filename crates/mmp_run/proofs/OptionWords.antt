@@ -1,10 +1,10 @@
 -- The words of a command line, from the words as they are kept.
-use Rattle.std.proofs.Common.{◌≡◌, ◌<◌, ◌≤◌, ℕ, suc, ◌+◌, Bool, true, false, cond, List, [], ◌∷◌, length, take, drop, get_or, map, Option, Some, None}
-use Rattle.std.proofs.Common.{refl, sym, ◌∙◌, ap, subst, arith, add-one, drop-cons}
+use Rattle.std.proofs.Common.{◌≡◌, ◌<◌, ℕ, ◌+◌, Bool, true, false, cond, List, [], ◌∷◌, length, take, drop, get_or, map, Option, Some, None}
+use Rattle.std.proofs.Common.{refl, sym, ◌∙◌, ap, arith, add-one, drop-cons}
 use Rattle.std.specs.List.{prefix_len}
 use Rattle.std.specs.Option.{option_and_then}
 use Rattle.std.proofs.lemmas.List.{take-map, drop-map}
-use Rattle.call_answers.specs.CommandLine.{Command, command_of, of_word, is_option, in_place, leading, behind, unify_of, unify_options, options_of}
+use Rattle.call_answers.specs.CommandLine.{Command, command_of, of_word, is_option, in_place, leading, behind, unify_of, unify_options}
 use Rattle.mm_model.specs.Names.{Name, contains}
 use Rattle.written_model.specs.declared.options.Options.{Options}
 

@@ -1,5 +1,5 @@
 -- From the outcome of unifying to the ending of the call.
-use Rattle.std.proofs.Common.{◌≡◌, ℕ, List, Bool, Option, Some, None, Result, Ok, Err, IfOk, IfSome, IsSome, ◌∙◌, sym, ap, refl, true, false}
+use Rattle.std.proofs.Common.{◌≡◌, ℕ, List, Option, Some, None, Result, Ok, Err, IfOk, IfSome, IsSome, ◌∙◌, ap, true, false}
 use Rattle.std.specs.List.{flat_map}
 use Rattle.call_answers.specs.declared.ending.Ending.{Ending}
 use Rattle.call_answers.specs.Endings.{Shows, status_of}
@@ -7,7 +7,6 @@ use Rattle.fault_lines.specs.FaultLines.{refusal_line}
 use Rattle.fault_lines.specs.Refusals.{Refusal}
 use Rattle.headline_laws.specs.Unified.{AnswerIsUnified}
 use Rattle.mm_base.specs.declared.errors.Memory as memory
-use Rattle.mm_base.specs.declared.status.Status.{Status}
 use Rattle.mm_base.specs.declared.status.Status.TheVariants as status
 use Rattle.mm_database.specs.Books.{database_of}
 use Rattle.mm_database.specs.Opened as opened

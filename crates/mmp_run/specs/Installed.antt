@@ -1,6 +1,6 @@
 -- What the texts of a database and of a worksheet give where its theorem is to be put in. This is part of the proof, and not of
 -- the claim.
-use Rattle.std.specs.Prelude.{◌≡◌, ◌<◌, ◌≤◌, ℕ, Bool, true, false, List, length}
+use Rattle.std.specs.Prelude.{◌≡◌, ◌<◌, ◌≤◌, ℕ, true, false, List, length}
 use Rattle.call_answers.specs.declared.ending.Ending.{Ending}
 use Rattle.call_answers.specs.PutsIn.{PutsIn, ShowsReport, ShowsText}
 use Rattle.install_model.specs.InstallAnswers.{theorem_there_line, database_too_large_line}

@@ -5,7 +5,6 @@ use Rattle.fault_lines.specs.FaultLines.{code_faults, proof_faults}
 use Rattle.fault_lines.specs.NamedFaults.{told, IsNamed}
 use Rattle.mm_base.specs.declared.symbols.Label.{Label}
 use Rattle.mm_model.specs.Statements.{statements}
-use Rattle.mmp_run.specs.declared.verify.Proof.{Proof}
 use Rattle.mmp_run.specs.declared.verify.Refusal.{Refusal}
 use Rattle.mmp_run.specs.declared.verify.Refusal.TheVariants as refusal
 use Rattle.mmp_run.specs.declared.verify.Verdict.{Verdict}

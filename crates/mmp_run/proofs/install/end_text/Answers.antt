@@ -1,4 +1,4 @@
-use Rattle.std.proofs.Common.{refl, ◌∙◌}
+use Rattle.std.proofs.Common.{refl}
 use Rattle.mm_database.specs.Books.{database_of}
 use Rattle.mmp_run.proofs.Unified.{log_of}
 use Rattle.mmp_run.proofs.install.end_text.Goals as goal
