@@ -33,7 +33,8 @@ use Rattle.sheet_unify.specs.declared.faults.UnifyFault.{UnifyFault}
 use Rattle.sheet_unify.specs.declared.faults.UnifyFault.TheVariants as faults
 use Rattle.sheet_unify.specs.Answered.{refusal_of}
 use Rattle.sheet_unify.specs.Ended.{NoAmbiguous, HasSoundSteps, IsText, IsMade, ForMade, IsMadeOf, ForMadeOf, IsSmall, IsStepFault, IsSizeFault}
-use Rattle.sheet_unify.specs.Ended.{IsProof, ForBooks, IsProofFault, IsLaidOut, IsLargeText, IsLargeFault, IsTextIn, EndFault, IsEndFault}
+use Rattle.sheet_unify.specs.declared.printed.Printed.{Printed}
+use Rattle.sheet_unify.specs.Ended.{IsProof, ForBooks, IsProofFault, IsLaidOut, IsPrintedWith, IsLargeText, IsLargeFault, IsTextIn, IsPrintedIn, IsPrinted, EndFault, IsEndFault}
 use Rattle.sheet_unify.specs.Ended.{IsTextFault, of_proof}
 use Rattle.sheet_unify.proofs.AnswerLaws.{ambiguous_late, much_late, proof_late, large_late}
 
@@ -134,14 +135,21 @@ pub fits_out : (sheet : Sheet) (proof : Option (List ℕ)) (n : ℕ) (t : List �
 fits_out sheet proof n t e low is = record { text = is; not_large = λ h. not_over (length (layout sheet proof)) n most_sheet_bytes (omega arith) e low h }
 
 module _ (d : Opened) (options : Options) (sheet : Sheet) (es : List WrittenStep) (finished : Bool) where
-  pub text_fits : (proof : Option (List ℕ)) (t : List ℕ) → ForBooks d options (λ db. IsProof db options sheet es finished proof) → IsLaidOut sheet proof t
-      → ForBooks d options (λ db. IsTextIn db options sheet es finished t)
-  text_fits proof t is out database opened =
-      let p = is database opened in
+  text_fits : (db : Database) (proof : Option (List ℕ)) (t : List ℕ) → IsProof db options sheet es finished proof → IsLaidOut sheet proof t → IsTextIn db options sheet es finished t
+  text_fits db proof t is out = record {
+    text = out.text ∙ ap (λ o. layout sheet o) is.proof_is;
+    no_long_proof = is.no_long_proof;
+    not_large = subst (λ o. most_sheet_bytes < length (layout sheet o) → ⊥) is.proof_is out.not_large;
+  }
+
+  pub printed_fits : (proof : Option (List ℕ)) (p : Printed) → ForBooks d options (λ db. IsProof db options sheet es finished proof) → IsPrintedWith sheet proof p
+      → ForBooks d options (λ db. IsPrintedIn db options sheet es finished p)
+  printed_fits proof p is out database opened =
+      let q = is database opened in
       record {
-        text = out.text ∙ ap (λ o. layout sheet o) p.proof_is;
-        no_long_proof = p.no_long_proof;
-        not_large = subst (λ o. most_sheet_bytes < length (layout sheet o) → ⊥) p.proof_is out.not_large;
+        sheet_is = out.sheet_is;
+        proof_is = out.proof_is ∙ q.proof_is;
+        text_in = text_fits (book options.kinds database d) proof p.text q out.laid_out;
       }
 
   large_one : (db : Database) (proof : Option (List ℕ)) (r : Refusal) → IsProof db options sheet es finished proof → IsLargeText sheet proof r → EndFault db options sheet es finished r
@@ -173,6 +181,9 @@ module _ (db : Database) (options : Options) (w : Writing) where
   own_text : (t : List ℕ) → IsTextIn db options (written_sheet db options w) (steps_in w.items) w.finished t → IsText db options w t
   own_text t h = record { text = h.text; no_long_proof = h.no_long_proof; not_large = h.not_large }
 
+  own_printed : (p : Printed) → IsPrintedIn db options (written_sheet db options w) (steps_in w.items) w.finished p → IsPrinted db options w p
+  own_printed p h = record { sheet = h.sheet_is; proof = h.proof_is; text_is = own_text p.text h.text_in }
+
   own_fault : (r : Refusal) → EndFault db options (written_sheet db options w) (steps_in w.items) w.finished r → HasSoundSteps db options w → IsLate db options w r
   own_fault r (EndFault.proof h) s = proof_late db options w s.no_long s.no_ambiguous s.not_much h
   own_fault r (EndFault.large n h) s = large_late db options w s.no_long s.no_ambiguous s.not_much n h
@@ -182,12 +193,12 @@ module _ (d : Opened) (options : Options) (sheet : Sheet) (bound : Bound) (items
   abbrev es : List WrittenStep
   es = steps_in (items_in d items)
 
-  pub text_made : (t : List ℕ) → ForBooks d options (λ db. IsTextIn db options written es finished t)
-      → ForMadeOf d options sheet bound items (λ db w. w.finished ≡ finished → IsText db options w t)
-  text_made t h database text w of e =
+  pub printed_made : (p : Printed) → ForBooks d options (λ db. IsPrintedIn db options written es finished p)
+      → ForMadeOf d options sheet bound items (λ db w. w.finished ≡ finished → IsPrinted db options w p)
+  printed_made p h database text w of e =
       let db : Database = book options.kinds database d in
-      own_text db options w t
-      (own db options w (λ s xs f. IsTextIn db options s xs f t) written es finished (is database text w of) (ap steps_in (sym of.made.items_are)) (sym e) (h database of.made.opened))
+      own_printed db options w p
+      (own db options w (λ s xs f. IsPrintedIn db options s xs f p) written es finished (is database text w of) (ap steps_in (sym of.made.items_are)) (sym e) (h database of.made.opened))
 
   fault_made : (r : Refusal) → ForBooks d options (λ db. EndFault db options written es finished r)
       → ForMadeOf d options sheet bound items (λ db w. w.finished ≡ finished → HasSoundSteps db options w → IsLate db options w r)

@@ -27,7 +27,8 @@ use Rattle.written_steps.specs.Drafts.{book, items_in}
 use Rattle.sheet_unify.specs.declared.faults.UnifyFault.{UnifyFault}
 use Rattle.sheet_unify.specs.Answered.{IsOutcome, IsFaultOf, refusal_of}
 use Rattle.sheet_unify.specs.Made.{IsBoundSheet, IsDraft, made_of}
-use Rattle.sheet_unify.specs.Ended.{HasSoundSteps, IsText, IsMadeOf, AreChecked, IsStepFault, ForMadeOf, IsTextFault, IsReported}
+use Rattle.sheet_unify.specs.Ended.{HasSoundSteps, IsPrinted, IsMadeOf, AreChecked, IsStepFault, ForMadeOf, IsTextFault, IsReported, outcome_from}
+use Rattle.sheet_unify.specs.declared.printed.Printed.{Printed}
 use Rattle.sheet_unify.proofs.AnswerLaws.{none_late}
 
 module _ (d : Opened) (options : Options) (sheet : Sheet) (bound : Bound) (items : List DraftItem) (database text : List ℕ) (opened : IsOpened options.kinds database d)
@@ -114,16 +115,25 @@ module _ (d : Opened) (options : Options) (sheet : Sheet) (bound : Bound) (items
     fault_answered f checked h =
         IfSome_then (refusal_of f) h (λ r k. late_answer finished ends r (k database text (whole finished) made refl (sound_steps checked)))
 
-    pub outcome_answered : ((w : Writing) → AnswerIsFixed db text options w) → (t : List ℕ) → AreChecked d bound.place items
-        → ForMadeOf d options sheet bound items (λ db' w. w.finished ≡ finished → IsText db' options w t)
-        → IsOutcome db text options (record { text = t; report = report; finished = finished })
-    outcome_answered fixed t checked h =
+    pub outcome_answered : ((w : Writing) → AnswerIsFixed db text options w) → (p : Printed) → AreChecked d bound.place items
+        → ForMadeOf d options sheet bound items (λ db' w. w.finished ≡ finished → IsPrinted db' options w p)
+        → IsOutcome db text options (outcome_from bound p report finished)
+    outcome_answered fixed p checked h =
         let told = h database text (whole finished) made refl in
+        let t = told.text_is in
         let s = sound_steps checked in
-        let none : HasNoLateFault db options (whole finished) = none_late db options (whole finished) s.no_long s.no_ambiguous s.not_much told.no_long_proof told.not_large in
+        let none : HasNoLateFault db options (whole finished) = none_late db options (whole finished) s.no_long s.no_ambiguous s.not_much t.no_long_proof t.not_large in
         record {
           writing = whole finished;
           answers = Answers.written bound_sheet.says.sound (draft.writes finished ends) none;
-          written = record { text = told.text; report = reported.report_is database opened; finished = refl };
-          again = subst (λ (x : List ℕ). IsFixed db options x finished) (sym told.text) (fixed (whole finished) is_opened (draft.writes finished ends) none);
+          written = record {
+            place = refl;
+            existing = refl;
+            sheet = told.sheet;
+            proof = told.proof;
+            text = t.text;
+            report = reported.report_is database opened;
+            finished = refl;
+          };
+          again = subst (λ (x : List ℕ). IsFixed db options x finished) (sym t.text) (fixed (whole finished) is_opened (draft.writes finished ends) none);
         }

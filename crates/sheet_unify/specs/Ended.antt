@@ -18,13 +18,15 @@ use Rattle.written_model.specs.declared.report.ReportLine.{ReportLine}
 use Rattle.written_model.specs.WrittenSteps.{WrittenStep, steps_in}
 use Rattle.written_model.specs.ProofTrees.{Finished}
 use Rattle.written_model.specs.Report.{report_of}
-use Rattle.written_model.specs.Written.{Writing, Writes, IsTooLong, IsAmbiguous, IsLate, written_bound, written_text, label_count, proof_text, qed_proof}
+use Rattle.written_model.specs.Written.{Writing, Writes, IsTooLong, IsAmbiguous, IsLate, written_bound, written_sheet, written_proof, written_text, label_count, proof_text, qed_proof}
 use Rattle.writing_laws.specs.HasEnd.{PlacesAreEarlier}
 use Rattle.again_laws.specs.Second.{NumbersFit}
 use Rattle.written_steps.specs.declared.draft.DraftItem.{DraftItem}
 use Rattle.written_steps.specs.Drafts.{book, items_in}
 use Rattle.sheet_unify.specs.declared.faults.UnifyFault.{UnifyFault}
 use Rattle.sheet_unify.specs.declared.faults.UnifyFault.TheVariants as faults
+use Rattle.sheet_unify.specs.declared.outcome.Outcome.{Outcome}
+use Rattle.sheet_unify.specs.declared.printed.Printed.{Printed}
 use Rattle.sheet_unify.specs.Answered.{refusal_of}
 
 -- ---- the faults, each by its test
@@ -59,6 +61,12 @@ module _ (db : Database) (options : Options) (w : Writing) where
     pub text : t ≡ written_text db options w
     pub no_long_proof : HasLongProof → ⊥
     pub not_large : IsLarge → ⊥
+
+  -- this is the sheet, its proof and its text, within the limits
+  pub record IsPrinted (p : Printed) : Type 0 where
+    pub sheet : p.sheet ≡ written_sheet db options w
+    pub proof : p.proof ≡ written_proof db options w
+    pub text_is : IsText p.text
 
 -- ---- what is written of a draft
 
@@ -140,6 +148,12 @@ pub record IsLaidOut (sheet : Sheet) (proof : Option (List ℕ)) (t : List ℕ) 
   pub text : t ≡ layout sheet proof
   pub not_large : most_sheet_bytes < length (layout sheet proof) → ⊥
 
+-- this is the worksheet with its proof as it is printed
+pub record IsPrintedWith (sheet : Sheet) (proof : Option (List ℕ)) (p : Printed) : Type 0 where
+  pub sheet_is : p.sheet ≡ sheet
+  pub proof_is : p.proof ≡ proof
+  pub laid_out : IsLaidOut sheet proof p.text
+
 -- the text is too large
 pub record IsLargeText (sheet : Sheet) (proof : Option (List ℕ)) (r : Refusal) : Type 0 where
   pub is_large : most_sheet_bytes < length (layout sheet proof)
@@ -160,6 +174,12 @@ module _ (db : Database) (options : Options) (sheet : Sheet) (es : List WrittenS
     pub no_long_proof : HasLongProofIn db options sheet es finished → ⊥
     pub not_large : most_sheet_bytes < length whole_text → ⊥
 
+  -- this is the worksheet with its proof as it is printed, within the limits
+  pub record IsPrintedIn (p : Printed) : Type 0 where
+    pub sheet_is : p.sheet ≡ sheet
+    pub proof_is : p.proof ≡ proof_in db options sheet es finished
+    pub text_in : IsTextIn p.text
+
   -- its proof is too long; or else its text is
   pub data EndFault : Refusal → Type 0 where
     proof : HasLongProofIn db options sheet es finished → EndFault (proof_too_long (told_number (count_in db options sheet es)))
@@ -179,6 +199,19 @@ IsTextFault d options sheet bound items finished f =
 pub record IsReported (d : Opened) (options : Options) (bound : Bound) (items : List DraftItem) (report : List ReportLine) (finished : Bool) : Type 0 where
   pub report_is : ForBooks d options (λ _. report ≡ map (report_of options.dv bound.pairs) (steps_in (items_in d items)))
   pub ends : ForBooks d options (λ _. PlacesAreEarlier (steps_in (items_in d items)) → (IsTrue finished ↔ Finished options.dv bound.pairs (steps_in (items_in d items))))
+
+-- ---- what came of the worksheet
+
+abbrev pub outcome_from : Bound → Printed → List ReportLine → Bool → Outcome
+outcome_from bound p report finished = record {
+  place = bound.place;
+  existing = bound.existing;
+  sheet = p.sheet;
+  proof = p.proof;
+  text = p.text;
+  report = report;
+  finished = finished;
+}
 
 -- ---- what is told of the fault of a proof
 

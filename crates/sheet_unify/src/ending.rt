@@ -2,7 +2,7 @@ ghost use Rattle.std.specs.Prelude.{◌≡◌, true, IfOk, IfErr};
 ghost use Rattle.std.specs.Option.{option_copied};
 ghost use Rattle.sheet_proof.specs.Provable.{IsProvable};
 ghost use Rattle.sheet_unify.specs.Answered.{IsOutcome, IsFaultOf};
-ghost use Rattle.sheet_unify.specs.Ended.{AreChecked, ForBooks, IsEndFault, ForMadeOf, IsLaidOut, IsLargeFault, IsProof, IsProofFault, IsReported, IsSizeFault, IsSmall, IsStepFault, IsText, IsTextFault, IsTextIn};
+ghost use Rattle.sheet_unify.specs.Ended.{AreChecked, ForBooks, IsEndFault, ForMadeOf, IsLaidOut, IsLargeFault, IsPrintedIn, IsPrintedWith, IsProof, IsProofFault, IsReported, IsSizeFault, IsSmall, IsStepFault, IsTextFault, outcome_from};
 ghost use Rattle.sheet_unify.specs.Made.{HasTexts, ForTexts, IsDraft, IsDraftSound};
 ghost use Rattle.step_naming.specs.Named.{AreWrittenShort};
 ghost use Rattle.written_model.specs.Written.{written_sheet as sheet_of_writing};
@@ -11,6 +11,7 @@ ghost use Rattle.written_steps.specs.Drafts.{AreSound, items_in};
 
 use crate::faults::UnifyFault;
 use crate::outcome::Outcome;
+use crate::printed::Printed;
 use answer_laws::answer_is_fixed;
 use mm_base::{Bytes, List, MOST_SHEET_BYTES, MOST_WORK_SIZE, Memory};
 use mm_database::Database;
@@ -143,44 +144,34 @@ fn sheet_of(
     written_sheet(alloc, db, provable, sheet, items, pairs.as_slice())
 }
 
-/// The text of the worksheet that is written, with its proof where it is finished.
-fn text_with_proof(
-    alloc: Global,
-    db: &Database,
-    options: &Options,
-    written: &Sheet,
-    items: List<DraftItem>,
-    finished: bool,
-) -> Result<Bytes, UnifyFault>
-    requires sound { AreSound db.now items }
-    requires provable { finished ≡ true → IsProvable db.now (steps_in (items_in db.now items)) }
-    ensures text { IfOk result (λ t. ForBooks db.now options.now (λ d. IsTextIn d options.now written.now (steps_in (items_in db.now items)) finished t)) }
-    ensures fault { IfErr result (IsEndFault db.now options.now written.now (steps_in (items_in db.now items)) finished) }
+/// A written worksheet with its proof and its text.
+fn with_text(alloc: Global, sheet: Sheet, proof: Option<Bytes>) -> Result<Printed, UnifyFault>
+    ensures text { IfOk result (IsPrintedWith sheet proof) }
+    ensures fault { IfErr result (IsLargeFault sheet proof) }
 {
-    match proof_of(alloc, db, options, written, items, finished) {
-        Ok(proof) => laid_out(alloc, written, bytes_of(&proof)),
+    match laid_out(alloc, &sheet, bytes_of(&proof)) {
+        Ok(text) => Ok(Printed { sheet, proof, text }),
         Err(fault) => Err(fault),
     }
 }
 
-/// The text that a worksheet with these steps is written as.
-fn text_of(
+/// A written worksheet with these steps as it is printed, with its proof where it is finished.
+fn printed(
     alloc: Global,
     db: &Database,
-    sheet: &Sheet,
-    bound: &Bound,
     options: &Options,
+    written: Sheet,
     items: List<DraftItem>,
     finished: bool,
-) -> Result<Bytes, UnifyFault>
+) -> Result<Printed, UnifyFault>
     requires sound { AreSound db.now items }
     requires provable { finished ≡ true → IsProvable db.now (steps_in (items_in db.now items)) }
-    ensures text { IfOk result (λ t. ForMadeOf db.now options.now sheet.now bound.now items (λ d w. w.finished ≡ finished → IsText d options.now w t)) }
-    ensures fault { IfErr result (IsTextFault db.now options.now sheet.now bound.now items finished) }
+    ensures printed { IfOk result (λ p. ForBooks db.now options.now (λ d. IsPrintedIn d options.now written (steps_in (items_in db.now items)) finished p)) }
+    ensures fault { IfErr result (IsEndFault db.now options.now written (steps_in (items_in db.now items)) finished) }
 {
-    match sheet_of(alloc, db, sheet, bound, options, items.as_slice()) {
-        Ok(written) => text_with_proof(alloc, db, options, &written, items, finished),
-        Err(_) => Err(UnifyFault::Memory),
+    match proof_of(alloc, db, options, &written, items, finished) {
+        Ok(proof) => with_text(alloc, written, proof),
+        Err(fault) => Err(fault),
     }
 }
 
@@ -200,6 +191,26 @@ fn report_on(
     Ok((report, finished))
 }
 
+fn outcome_from(
+    bound: &Bound,
+    printed: Printed,
+    report: List<ReportLine>,
+    finished: bool,
+) -> Outcome
+    ensures { result ≡ outcome_from bound.now printed report finished }
+{
+    let Printed { sheet, proof, text } = printed;
+    Outcome {
+        place: bound.place,
+        existing: bound.existing,
+        sheet,
+        proof,
+        text,
+        report,
+        finished,
+    }
+}
+
 /// What comes of a worksheet that becomes these steps, where these have no fault.
 fn outcome_with(
     alloc: Global,
@@ -217,15 +228,15 @@ fn outcome_with(
     ensures fault { ForTexts options.now.kinds db.now sheet.now bound.now (λ d text. IfErr result (IsFaultOf d text options.now)) }
 {
     answer_is_fixed();
-    match report_on(alloc, db, bound, options, items.as_slice()) {
+    let steps = items.as_slice();
+    match report_on(alloc, db, bound, options, steps) {
         Err(_) => Err(UnifyFault::Memory),
-        Ok((report, finished)) => match text_of(alloc, db, sheet, bound, options, items, finished) {
-            Ok(text) => Ok(Outcome {
-                text,
-                report,
-                finished,
-            }),
-            Err(fault) => Err(fault),
+        Ok((report, finished)) => match sheet_of(alloc, db, sheet, bound, options, steps) {
+            Err(_) => Err(UnifyFault::Memory),
+            Ok(written) => match printed(alloc, db, options, written, items, finished) {
+                Ok(printed) => Ok(outcome_from(bound, printed, report, finished)),
+                Err(fault) => Err(fault),
+            },
         },
     }
 }

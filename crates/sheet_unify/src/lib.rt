@@ -7,6 +7,7 @@ mod faults;
 mod judging;
 mod lines;
 mod outcome;
+mod printed;
 mod refusal_line;
 mod unify;
 mod words;

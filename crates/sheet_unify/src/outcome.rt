@@ -1,10 +1,20 @@
 use mm_base::{Bytes, List};
+use sheet_text::Sheet;
 use written_model::ReportLine;
 
 /// What came of a worksheet.
 #[derive(Debug, Drop)]
 pub struct Outcome {
-    /// The written worksheet, with its proof where it is finished.
+    /// The place of its theorem: how many statements of the database are before it.
+    pub place: u32,
+    /// Whether its theorem is one of the database.
+    pub existing: bool,
+    /// The written worksheet. Its line numbers are 0.
+    pub sheet: Sheet,
+    /// What stands between the `$=` and the `$.` of the written worksheet, without white space at its ends; none where it is
+    /// not finished.
+    pub proof: Option<Bytes>,
+    /// The text of the written worksheet, with its proof where it is finished.
     pub text: Bytes,
     /// One line for each written step, in order.
     pub report: List<ReportLine>,

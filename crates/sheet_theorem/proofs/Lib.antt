@@ -1,0 +1,4 @@
+mod ListLaws
+mod OutcomeLaws
+mod PlaceLaws
+mod TheoremLaws
