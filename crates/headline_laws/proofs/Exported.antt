@@ -12,11 +12,11 @@ use Rattle.headline_laws.proofs.Unified.{IsSound, sound_of}
 use Rattle.written_model.specs.declared.options.Options.{Options}
 use Rattle.call_answers.specs.declared.ending.Ending.{Ending}
 use Rattle.call_answers.specs.Endings.{Shows}
-use Rattle.call_answers.specs.Exports.{Exports, ShowsFinished}
+use Rattle.call_answers.specs.Exports.{ShowsFinished}
 use Rattle.export_model.specs.Exported.{export_text}
 use Rattle.written_model.specs.ProvesItself.{IsFixed, ProvesItself}
 use Rattle.written_model.specs.Opened.{IsOpened}
-use Rattle.written_model.specs.Written.{Answer, Answers, Writing, refused, wrote}
+use Rattle.written_model.specs.Written.{Answer, Writing, refused, wrote}
 
 -- a refusal of a proof is no end of a finished worksheet
 not_finished : status.Proof ≡ status.Finished → ⊥

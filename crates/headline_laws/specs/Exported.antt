@@ -1,5 +1,4 @@
 -- The answer to the worksheet of an accepted proof says all that is said of `export`.
-use Rattle.std.specs.Prelude.{ℕ, List}
 use Rattle.call_answers.specs.declared.ending.Ending.{Ending}
 use Rattle.call_answers.specs.Exports.{Exports, GivesExport}
 use Rattle.export_model.specs.Exported.{export_text}
