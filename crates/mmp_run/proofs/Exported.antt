@@ -59,10 +59,17 @@ is_accepted options text name d l code p = record {
 named_at : (names : List Name) (name : Name) (l : Label) → label_named names name ≡ Some l → slice_index_or names l.0 [] ≡ name
 named_at names name l e = get_or_from_slice_get names l.0 name [] (label_stands_at names name l e)
 
-pub name_at : (options : Options) (text name : List ℕ) (d : Opened) (l : Label) (code : Code) → IsOpened options.kinds text d → IsAcceptedProof text name l code
+name_at : (options : Options) (text name : List ℕ) (d : Opened) (l : Label) (code : Code) → IsOpened options.kinds text d → IsAcceptedProof text name l code
     → slice_index_or d.contents.labels l.0 [] ≡ name
 name_at options text name d l code is p =
     ap (λ (c : Contents). slice_index_or c.labels l.0 []) is.contents ∙ named_at (labels (statements text)) name l p.theorem.label_is
+
+-- the worksheet, by the theorem's name
+pub sheet_at : (options : Options) (text name : List ℕ) (d : Opened) (l : Label) (code : Code) → IsOpened options.kinds text d → (p : IsAcceptedProof text name l code) → (sheet : List ℕ)
+    → sheet ≡ export_text (book options text d) (theorem_at text name l code p) (slice_index_or d.contents.labels l.0 []) code
+    → sheet ≡ export_text (book options text d) (theorem_at text name l code p) name code
+sheet_at options text name d l code is p sheet e =
+    e ∙ ap (λ (n : List ℕ). export_text (book options text d) (theorem_at text name l code p) n code) (name_at options text name d l code is p)
 
 -- ---- what came of it
 
