@@ -67,12 +67,7 @@ fn end_unfinished(alloc: Global, db: &Database, outcome: &Outcome) -> Result<End
 }
 
 // The ending that writes the text with the theorem of a worksheet.
-fn end_text(
-    alloc: Global,
-    db: &Database,
-    outcome: &Outcome,
-    text: Bytes,
-) -> Result<Ending, Memory>
+fn end_text(alloc: Global, db: &Database, outcome: &Outcome, text: Bytes) -> Result<Ending, Memory>
     ensures written { (options : Options) (database : List ℕ) (w : Writing) → IsOpened options.kinds database db.now
         → IsWritten (database_of options.kinds database db.now.rows db.now.parsed) options w outcome.now
         → IfOk result (ShowsText (database_of options.kinds database db.now.rows db.now.parsed) options w text) }
