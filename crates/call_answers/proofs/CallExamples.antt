@@ -5,10 +5,11 @@ use Rattle.std.specs.Fmt.{digits}
 use Rattle.std.specs.Str.{bytes_eq}
 use Rattle.std.proofs.Common.{sym, ap}
 use Rattle.call_answers.specs.declared.ending.Ending.{Ending}
-use Rattle.call_answers.specs.CallAnswers.{CallAnswer, bad_words, bad_database, bad_worksheet, unified, tried, no_files, IsAnswer}
+use Rattle.call_answers.specs.CallAnswers.{CallAnswer, bad_words, bad_database, bad_worksheet, unified, tried, not_exported, no_files, IsAnswer}
 use Rattle.call_answers.specs.CommandLine.{SheetCommand, unify, trial, usage_line}
 use Rattle.call_answers.specs.Endings.{Unifies}
 use Rattle.call_answers.specs.Trial.{IsTried}
+use Rattle.call_answers.specs.Verified.{no_theorem}
 use Rattle.fault_lines.specs.FaultLines.{database_line, refusal_line}
 use Rattle.fault_lines.specs.Refusals.{at_line}
 use Rattle.mm_base.specs.Outside.{Files}
@@ -43,6 +44,7 @@ unanswered end h = nothing _ _ end h
 
 pub trial_alone : (count : ℕ) (end : Ending) → CallAnswer no_files (Some (trial count)) end → IsTried count end
 trial_alone count end (bad_database named e r) = cc
+trial_alone count end (bad_worksheet named e given f r) = cc
 trial_alone count end (tried is) = is
 
 -- ---- a database in which `wff` is declared twice
@@ -115,3 +117,8 @@ unifies = record {
 
 pub finished : IsAnswer whole_files (words (codes "t.mmp")) ending
 finished = unified {database = database_text} {sheet = read_text} refl sound refl is_database unifies
+
+-- ---- the label of an axiom has no proof that could be exported
+
+pub exports_no_axiom : IsAnswer whole_files (codes "export" ∷ codes "a.mm" ∷ codes "any" ∷ []) (record { out = []; log = text (codes "no theorem any" ∷ []); status = status.Proof })
+exports_no_axiom = not_exported {database = database_text} no_theorem refl sound refl (λ e. cc) (record { out = refl; log = refl; status = refl })

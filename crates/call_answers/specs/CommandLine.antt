@@ -11,7 +11,7 @@ use Rattle.written_model.specs.declared.options.Options.{Options}
 use Rattle.written_model.specs.declared.options.ProofStyle.TheVariants as style
 
 abbrev pub usage_line : List ℕ
-usage_line = codes "usage: mmp unify [--proof=normal|compressed] [--in-place] [--dv=add|given] [--provable=T] [--logic=T] DB SHEET | mmp verify DB LABEL | mmp trial N"
+usage_line = codes "usage: mmp unify [--proof=normal|compressed] [--in-place] [--dv=add|given] [--provable=T] [--logic=T] DB SHEET | mmp verify DB LABEL | mmp trial N | mmp export [options] DB LABEL | mmp install [options] DB SHEET"
 
 -- ---- options
 
@@ -26,16 +26,18 @@ option_value word = drop (suc (length (option_name word))) word
 abbrev pub value_or : Name → Name → List Name → Name
 value_or default name words = option_map_or option_value (find (λ word. bytes_eq (option_name word) name) words) default
 
-abbrev pub in_place : Name
-in_place = codes "--in-place"
-
 -- the options that are listed whole, and those whose value is any name of a typecode
 abbrev pub listed_options : List Name
-listed_options = codes "--proof=normal" ∷ codes "--proof=compressed" ∷ codes "--dv=add" ∷ codes "--dv=given" ∷ in_place ∷ []
+listed_options = codes "--proof=normal" ∷ codes "--proof=compressed" ∷ codes "--dv=add" ∷ codes "--dv=given" ∷ []
 
 abbrev pub typecode_options : List Name
 typecode_options = codes "--provable" ∷ codes "--logic" ∷ []
 
+-- the option that `unify` has beside those of `export` and `install`
+abbrev pub in_place : Name
+in_place = codes "--in-place"
+
+-- an option of each command that has options
 abbrev pub is_known : Name → Bool
 is_known word = contains listed_options word || (contains typecode_options (option_name word) && not (length (option_value word) == 0))
 
@@ -50,9 +52,20 @@ options_in words = record {
 abbrev pub has_one_typecode : Options → Bool
 has_one_typecode options = bytes_eq options.kinds.provable options.kinds.logic
 
--- known options, in any order, each name at most once, and two typecodes
+-- options that pass a test, in any order, each name at most once, and two typecodes
+abbrev pub options_where : (Name → Bool) → List Name → Option Options
+options_where test words =
+    if list_all test words && not (has_twice (map option_name words)) && not (has_one_typecode (options_in words)) then Some (options_in words) else None
+
+-- the options of `export` and `install`, and those of `unify`
 abbrev pub options_of : List Name → Option Options
-options_of words = if list_all is_known words && not (has_twice (map option_name words)) && not (has_one_typecode (options_in words)) then Some (options_in words) else None
+options_of words = options_where is_known words
+
+abbrev pub is_known_by_unify : Name → Bool
+is_known_by_unify word = is_known word || bytes_eq word in_place
+
+abbrev pub unify_options : List Name → Option Options
+unify_options words = options_where is_known_by_unify words
 
 -- ---- commands
 
@@ -74,6 +87,16 @@ pub data Command : Type 0 where
   verify : TheoremCommand → Command
   -- to try the program by itself, with so many blocks
   trial : ℕ → Command
+  -- to print an accepted proof as a finished worksheet
+  export : Options → TheoremCommand → Command
+  -- to print the database with the theorem of a worksheet in it
+  install : SheetCommand → Command
+
+abbrev pub sheet_command : Options → Name → Name → SheetCommand
+sheet_command options database sheet = record { options = options; database = database; sheet = sheet }
+
+abbrev pub theorem_command : Name → Name → TheoremCommand
+theorem_command database theorem = record { database = database; theorem = theorem }
 
 abbrev pub is_option : Name → Bool
 is_option word = starts_with nat_eq word (codes "--")
@@ -94,12 +117,20 @@ if_names words command = if list_all is_name words then Some command else None
 
 -- two names, and nothing behind them
 abbrev pub unify_of : Bool → List Name → Options → Option Command
-unify_of is_in_place (database ∷ sheet ∷ []) options = if_names (database ∷ sheet ∷ []) (unify (record { options = options; database = database; sheet = sheet }) is_in_place)
+unify_of is_in_place (database ∷ sheet ∷ []) options = if_names (database ∷ sheet ∷ []) (unify (sheet_command options database sheet) is_in_place)
 unify_of is_in_place words options = None
 
 abbrev pub verify_of : List Name → Option Command
-verify_of (database ∷ theorem ∷ []) = if_names (database ∷ theorem ∷ []) (verify (record { database = database; theorem = theorem }))
+verify_of (database ∷ theorem ∷ []) = if_names (database ∷ theorem ∷ []) (verify (theorem_command database theorem))
 verify_of words = None
+
+abbrev pub export_of : List Name → Options → Option Command
+export_of (database ∷ theorem ∷ []) options = if_names (database ∷ theorem ∷ []) (export options (theorem_command database theorem))
+export_of words options = None
+
+abbrev pub install_of : List Name → Options → Option Command
+install_of (database ∷ sheet ∷ []) options = if_names (database ∷ sheet ∷ []) (install (sheet_command options database sheet))
+install_of words options = None
 
 -- a number from 1, in decimal
 unfoldable pub trial_number : Name → Option ℕ
@@ -109,13 +140,19 @@ abbrev pub trial_of : List Name → Option Command
 trial_of (word ∷ []) = option_map trial (trial_number word)
 trial_of words = None
 
+-- options, and what stands behind them
+abbrev pub with_options : (List Name → Options → Option Command) → List Name → Option Command
+with_options rest words = option_and_then (rest (behind words)) (options_of (leading words))
+
 -- a command by its first word
 abbrev pub of_word : Name → List Name → Option Command
 of_word word words =
-    if bytes_eq word (codes "unify") then option_and_then (unify_of (contains (leading words) in_place) (behind words)) (options_of (leading words))
+    if bytes_eq word (codes "unify") then option_and_then (unify_of (contains (leading words) in_place) (behind words)) (unify_options (leading words))
     else (if bytes_eq word (codes "verify") then verify_of words
     else (if bytes_eq word (codes "trial") then trial_of words
-    else None))
+    else (if bytes_eq word (codes "export") then with_options export_of words
+    else (if bytes_eq word (codes "install") then with_options install_of words
+    else None))))
 
 abbrev pub command_of : List Name → Option Command
 command_of [] = None

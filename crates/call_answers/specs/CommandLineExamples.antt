@@ -5,7 +5,7 @@ use Rattle.proof_model.specs.ExampleFrames.{split}
 use Rattle.written_model.specs.declared.options.DvMode.TheVariants as dv
 use Rattle.written_model.specs.declared.options.Options.{Options}
 use Rattle.written_model.specs.declared.options.ProofStyle.TheVariants as style
-use Rattle.call_answers.specs.CommandLine.{Command, unify, verify, trial, trial_number, command_of}
+use Rattle.call_answers.specs.CommandLine.{Command, unify, verify, trial, export, install, sheet_command, theorem_command, trial_number, command_of}
 
 abbrev command : List ℕ → Option Command
 command line = command_of (split line)
@@ -17,7 +17,7 @@ abbrev changed : Options
 changed = record { style = style.Normal; kinds = record { provable = codes "T"; logic = codes "form" }; dv = dv.Given }
 
 abbrev over : Options → Bool → Command
-over options is_in_place = unify (record { options = options; database = codes "P.mm"; sheet = codes "r.mmp" }) is_in_place
+over options is_in_place = unify (sheet_command options (codes "P.mm") (codes "r.mmp")) is_in_place
 
 pub plain : command (codes "unify P.mm r.mmp") ≡ Some (over compressed false)
 plain = refl
@@ -30,8 +30,17 @@ in_any_order = refl
 pub value_with_sign : command (codes "unify --provable=a=b P.mm r.mmp") ≡ Some (over (record compressed { kinds = record { provable = codes "a=b"; logic = codes "wff" } }) false)
 value_with_sign = refl
 
-pub verified : command (codes "verify V.mm good") ≡ Some (verify (record { database = codes "V.mm"; theorem = codes "good" }))
+pub verified : command (codes "verify V.mm good") ≡ Some (verify (theorem_command (codes "V.mm") (codes "good")))
 verified = refl
+
+pub exported : command (codes "export --dv=given V.mm good") ≡ Some (export (record compressed { dv = dv.Given }) (theorem_command (codes "V.mm") (codes "good")))
+exported = refl
+
+pub exported_in_any_order : command (codes "export --logic=form --dv=given --provable=T --proof=normal V.mm good") ≡ Some (export changed (theorem_command (codes "V.mm") (codes "good")))
+exported_in_any_order = refl
+
+pub installed : command (codes "install P.mm r.mmp") ≡ Some (install (sheet_command compressed (codes "P.mm") (codes "r.mmp")))
+installed = refl
 
 pub tried : command (codes "trial 12") ≡ Some (trial 12)
 unfolding digits trial_number
@@ -46,6 +55,12 @@ pub no_options : map is_command (codes "unify --proof=normal --proof=compressed 
     ∷ codes "unify --provable=wff P.mm r.mmp" ∷ codes "unify --logic=|- P.mm r.mmp" ∷ codes "unify --provable=T --logic=T P.mm r.mmp" ∷ [])
     ≡ false ∷ false ∷ false ∷ false ∷ false ∷ false ∷ false ∷ false ∷ false ∷ false ∷ []
 no_options = refl
+
+-- `--in-place` of another command than `unify`; an option twice; names too few or too many
+pub no_further_command : map is_command (codes "export --in-place V.mm good" ∷ codes "install --in-place P.mm r.mmp" ∷ codes "export --dv=add --dv=given V.mm good"
+    ∷ codes "install --provable=wff P.mm r.mmp" ∷ codes "export V.mm" ∷ codes "export V.mm good bad" ∷ codes "export V.mm --good" ∷ codes "install P.mm" ∷ codes "install P.mm r.mmp s" ∷ [])
+    ≡ false ∷ false ∷ false ∷ false ∷ false ∷ false ∷ false ∷ false ∷ false ∷ []
+no_further_command = refl
 
 -- options of `verify` and `trial`; a name too few or too many; another command; an empty one
 pub no_command : map is_command (codes "verify --proof=normal V.mm good" ∷ codes "trial --proof=normal 1" ∷ codes "unify P.mm" ∷ codes "unify P.mm r.mmp s"

@@ -2,9 +2,11 @@ pub mod CallAnswers
 pub mod CommandLine
 pub mod CommandLineExamples
 pub mod Endings
+pub mod Exports
 pub mod Given
 pub mod GivenExamples
 pub mod Kept
+pub mod PutsIn
 pub mod Trial
 pub mod TrialAnswerExamples
 pub mod Verified

@@ -1,1 +1,2 @@
+mod Exported
 mod Unified

@@ -28,11 +28,11 @@ is_false false e = refl
 is_false true e = let clash : status.Finished ≡ status.Unfinished = e in absurd cc
 
 -- a worksheet is written only where it has no fault
-record IsSound (db : Database) (text : List ℕ) (options : Options) (w : Writing) : Type 0 where
-  writes : Writes db text options w
-  late : HasNoLateFault db options w
+pub record IsSound (db : Database) (text : List ℕ) (options : Options) (w : Writing) : Type 0 where
+  pub writes : Writes db text options w
+  pub late : HasNoLateFault db options w
 
-sound_of : (db : Database) (text : List ℕ) (options : Options) (w : Writing) → Answers db text options (wrote w) → IsSound db text options w
+pub sound_of : (db : Database) (text : List ℕ) (options : Options) (w : Writing) → Answers db text options (wrote w) → IsSound db text options w
 sound_of db text options w (written e writes late) = record { writes = writes; late = late }
 
 refused_is_other : {r : _} {w : Writing} → refused r ≡ wrote w → ⊥

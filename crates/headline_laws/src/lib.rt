@@ -3,9 +3,13 @@
 
 ghost use Rattle.std.specs.Prelude.{ℕ, List};
 ghost use Rattle.mm_model.specs.Book.{Database};
+ghost use Rattle.mm_model.specs.Names.{Name};
+ghost use Rattle.proof_model.specs.declared.code.Code.{Code};
+ghost use Rattle.proof_model.specs.declared.theorem.Theorem.{Theorem};
 ghost use Rattle.written_model.specs.declared.options.Options.{Options};
 ghost use Rattle.call_answers.specs.declared.ending.Ending.{Ending};
 ghost use Rattle.written_model.specs.Written.{Answer};
+ghost use Rattle.headline_laws.specs.Exported.{AnswerIsExported};
 ghost use Rattle.headline_laws.specs.Unified.{AnswerIsUnified};
 
 use answer_laws::answer_is_fixed;
@@ -18,5 +22,15 @@ pub fn answer_is_unified()
 {
     written_proof_is_accepted();
     written_without_proof();
+    answer_is_fixed();
+}
+
+/// A call that gives the answer to the worksheet of an accepted proof says all that is said of `export`: what is printed carries
+/// a proof that is accepted, and unifying it writes it again.
+pub fn answer_is_exported()
+    ensures { (db : Database) (options : Options) (name : Name) (theorem : Theorem) (code : Code) (answer : Answer) (end : Ending)
+        → AnswerIsExported db options name theorem code answer end }
+{
+    written_proof_is_accepted();
     answer_is_fixed();
 }

@@ -1,8 +1,7 @@
 -- The tokens of a proof's line, one after another.
-use Rattle.std.proofs.Common.{◌≡◌, ◌<◌, ℕ, suc, ◌+◌, Bool, true, false, cond, List, [], ◌∷◌, ◌++◌, length, take, drop, get_or, map, refl, sym, ◌∙◌, ap, arith, add-one, drop-cons}
+use Rattle.std.proofs.Common.{◌≡◌, ◌<◌, ℕ, suc, ◌+◌, Bool, true, false, List, ◌∷◌, length, drop, get_or, refl, sym, ◌∙◌, ap, arith, add-one, drop-cons}
 use Rattle.std.specs.Borrow.{Bor}
-use Rattle.std.specs.List.{after_first, flat_map, position_or_len}
-use Rattle.std.proofs.lemmas.List.{drop_all, map_more}
+use Rattle.std.specs.List.{after_first, position_or_len}
 use Rattle.mm_model.specs.Names.{Name}
 use Rattle.mmp_run.specs.Tried.{is_bracket, tokens_shown}
 

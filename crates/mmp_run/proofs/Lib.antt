@@ -1,5 +1,7 @@
 mod Blocks
 mod Delivered
+mod Exported
+mod Installed
 mod Letters
 mod MayEnd
 mod OptionWords

@@ -3,8 +3,8 @@ use Rattle.std.proofs.Common.{◌≡◌, ◌≢◌, ◌⊎◌, ◌≤◌, ℕ, B
 use Rattle.std.proofs.Common.{refl, sym, ◌∙◌, ap, subst, inl, inr, arith}
 use Rattle.std.specs.Option.{option_and_then}
 use Rattle.call_answers.specs.declared.ending.Ending.{Ending}
-use Rattle.call_answers.specs.CallAnswers.{CallAnswer, bad_database, bad_worksheet, unified, verdict, tried, HasDatabase, database_of, no_files}
-use Rattle.call_answers.specs.CommandLine.{Command, SheetCommand, TheoremCommand, unify, verify, trial}
+use Rattle.call_answers.specs.CallAnswers.{CallAnswer, bad_database, bad_worksheet, unified, verdict, tried, not_exported, exported, installed, HasDatabase, HasSheet, database_of, sheet_of, no_files}
+use Rattle.call_answers.specs.CommandLine.{Command, SheetCommand, TheoremCommand, unify, verify, trial, export, install}
 use Rattle.call_answers.specs.Endings.{Tells}
 use Rattle.call_answers.specs.Given.{ReadsFile, HasSoundDatabase, read_fault}
 use Rattle.call_answers.specs.Trial.{IsTried}
@@ -16,13 +16,19 @@ use Rattle.mm_base.specs.declared.status.Status.{Status}
 use Rattle.mm_base.specs.declared.status.Status.TheVariants.{Words, Read, Write, Memory, Proof}
 use Rattle.mm_model.specs.Names.{Name}
 use Rattle.mmp_run.specs.Answers.{MayEnd}
+use Rattle.mmp_run.specs.Exported as made
+use Rattle.mmp_run.specs.Exported.{IsExported}
+use Rattle.mmp_run.specs.Installed.{IsInstalled}
 use Rattle.mmp_run.specs.Opened.{Has, IsRefused, IsUnread, IsOpen}
+use Rattle.mmp_run.specs.OpenedBoth.{IsRefusedFile}
+use Rattle.mmp_run.specs.OpenedBoth as both
 use Rattle.mmp_run.specs.OpenedSheet.{IsSheetRefused, IsOpenSheet}
 use Rattle.mmp_run.specs.Refused.{IsDatabaseRefusal, IsSheetRefusal, IsUnified, IsTextStatus, IsTextEnding}
 use Rattle.mmp_run.specs.Verify.{IsVerified, ending_of}
 use Rattle.mmp_run.proofs.Refusals.{refuses}
 use Rattle.sheet_text.specs.declared.sheet.Sheet as sheets
 use Rattle.sheet_unify.specs.Answered.{SaysSheet}
+use Rattle.written_model.specs.declared.options.Options.{Options}
 
 -- ---- statuses
 
@@ -51,6 +57,8 @@ reads_none : (command : Command) (name : Name) → ReadsFile command name → Is
 reads_none (unify command is_in_place) name read none = some_not_none command.database none
 reads_none (verify command) name read none = some_not_none command.database none
 reads_none (trial count) name read none = read
+reads_none (export options command) name read none = some_not_none command.database none
+reads_none (install command) name read none = some_not_none command.database none
 
 module _ (command : Command) (told : Option Files) (before now : Name → ℕ) where
   may_from_due : (end : Ending) → IsTextEnding end → IfSome told (λ files. CallAnswer files (Some command) end)
@@ -110,46 +118,87 @@ may_refuse command told before now name end named read (inr is) = may_not_read c
 
 -- ---- worksheets
 
-module _ (command : SheetCommand) (is_in_place : Bool) (database : List ℕ) where
-  due_bad_sheet : (files : Files) (end : Ending) (file : Option (List ℕ)) → files command.sheet ≡ file → IsOpen (Some files) command.database database
-      → IsSomeAnd file (λ text. IsSheetRefusal text end) → CallAnswer files (Some (unify command is_in_place)) end
-  due_bad_sheet files end None e opened h = absurd h
-  due_bad_sheet files end (Some text) e opened h = bad_worksheet {database = database} {sheet = text} {f = h.fault} opened.has opened.accepted.no_fault e h.stands h.refuses
+has_sheet : (command : Command) (files : Files) (name text : Name) → sheet_of command ≡ Some name → files name ≡ Some text → HasSheet files command text
+has_sheet command files name text named e = ap (option_and_then files) named ∙ e
 
-  due_sheet_refused : (told : Option Files) (end : Ending) → IsOpen told command.database database → IfSome told (λ files. IsSomeAnd (files command.sheet) (λ text. IsSheetRefusal text end))
-      → IfSome told (λ files. CallAnswer files (Some (unify command is_in_place)) end)
-  due_sheet_refused None end opened h = tt
-  due_sheet_refused (Some files) end opened h = due_bad_sheet files end (files command.sheet) refl opened h
+-- the file of the worksheet is refused, behind a database without a fault
+pub refused_behind : (told : Option Files) (before mid now : Name → ℕ) (database file : Name) (text : List ℕ) (end : Ending) → IsOpen told database text → NoneFell before mid
+    → IsSheetRefused told file end ⊎ IsUnread mid now file end → IsRefusedFile told before now database file end
+refused_behind told before mid now database file text end opened fell (inl is) = both.bad_sheet {text = text} opened (inl is)
+refused_behind told before mid now database file text end opened fell (inr is) =
+    both.bad_sheet {text = text} opened (inr (record { rose = rose_since (before file) (mid file) (now file) (fell file) is.rose; says = is.says }))
+
+-- a command that reads these two files
+pub record ReadsBoth (command : Command) (database sheet : Name) : Type 0 where
+  pub database_is : database_of command ≡ Some database
+  pub sheet_is : sheet_of command ≡ Some sheet
+  pub reads_database : ReadsFile command database
+  pub reads_sheet : ReadsFile command sheet
+
+pub unify_reads : (command : SheetCommand) (is_in_place : Bool) → ReadsBoth (unify command is_in_place) command.database command.sheet
+unify_reads command is_in_place = record { database_is = refl; sheet_is = refl; reads_database = inl refl; reads_sheet = inr refl }
+
+pub install_reads : (command : SheetCommand) → ReadsBoth (install command) command.database command.sheet
+install_reads command = record { database_is = refl; sheet_is = refl; reads_database = inl refl; reads_sheet = inr refl }
+
+module _ (command : Command) (name file : Name) (reads : ReadsBoth command name file) where
+  due_bad_sheet : (files : Files) (end : Ending) (database : List ℕ) (found : Option (List ℕ)) → files file ≡ found → IsOpen (Some files) name database
+      → IsSomeAnd found (λ text. IsSheetRefusal text end) → CallAnswer files (Some command) end
+  due_bad_sheet files end database None e opened h = absurd h
+  due_bad_sheet files end database (Some text) e opened h =
+      bad_worksheet {database = database} {sheet = text} {f = h.fault} (has_database command files name database reads.database_is opened.has) opened.accepted.no_fault
+      (has_sheet command files file text reads.sheet_is e) h.stands h.refuses
+
+  due_sheet_refused : (told : Option Files) (end : Ending) (database : List ℕ) → IsOpen told name database → IfSome told (λ files. IsSomeAnd (files file) (λ text. IsSheetRefusal text end))
+      → IfSome told (λ files. CallAnswer files (Some command) end)
+  due_sheet_refused None end database opened h = tt
+  due_sheet_refused (Some files) end database opened h = due_bad_sheet files end database (files file) refl opened h
 
   -- the database has no fault
-  sound : (told : Option Files) → IsOpen told command.database database → IfSome told (HasSoundDatabase (unify command is_in_place))
-  sound None opened = tt
-  sound (Some files) opened = record { text = database; has = opened.has; no_fault = opened.accepted.no_fault }
+  sound : (told : Option Files) (database : List ℕ) → IsOpen told name database → IfSome told (HasSoundDatabase command)
+  sound None database opened = tt
+  sound (Some files) database opened = record { text = database; has = has_database command files name database reads.database_is opened.has; no_fault = opened.accepted.no_fault }
 
-  -- the file of the worksheet is refused, behind a database without a fault
-  pub may_refuse_sheet : (told : Option Files) (before mid now : Name → ℕ) (end : Ending) → IsOpen told command.database database → NoneFell before mid
-      → IsSheetRefused told command.sheet end ⊎ IsUnread mid now command.sheet end → MayEnd (unify command is_in_place) told before now end
-  may_refuse_sheet told before mid now end opened fell (inl is) =
-      may_from_due (unify command is_in_place) told before now end (record { status = subst IsTextStatus (sym is.status) tt; silent = λ _. is.out }) (due_sheet_refused told end opened is.due)
-      (λ none. absurd (some_not_none command.database none))
-  may_refuse_sheet told before mid now end opened fell (inr is) =
-      may_not_read (unify command is_in_place) told before now command.sheet end (inr refl) (inr (sound told opened))
-      (rose_since (before command.sheet) (mid command.sheet) (now command.sheet) (fell command.sheet) is.rose) is.says
+  -- one of the files is refused
+  pub may_refuse_file : (told : Option Files) (before now : Name → ℕ) (end : Ending) → IsRefusedFile told before now name file end → MayEnd command told before now end
+  may_refuse_file told before now end (both.bad_database h) = may_refuse command told before now name end reads.database_is reads.reads_database h
+  may_refuse_file told before now end (both.bad_sheet {text = database} opened (inl is)) =
+      may_from_due command told before now end (record { status = subst IsTextStatus (sym is.status) tt; silent = λ _. is.out }) (due_sheet_refused told end database opened is.due)
+      (λ none. absurd (reads_some command name reads.database_is none))
+  may_refuse_file told before now end (both.bad_sheet {text = database} opened (inr is)) =
+      may_not_read command told before now file end reads.reads_sheet (inr (sound told database opened)) is.rose is.says
 
-  due_unified : (told : Option Files) (text : List ℕ) (end : Ending) → IsOpen told command.database database → Has told command.sheet text → IsUnified command.options database text end
-      → IfSome told (λ files. CallAnswer files (Some (unify command is_in_place)) end)
-  due_unified None text end opened has is = tt
-  due_unified (Some files) text end opened has is = unified {database = database} {sheet = text} {db = is.db} opened.has opened.accepted.no_fault has is.is_database is.unifies
+module _ (command : SheetCommand) (database : List ℕ) where
+  due_unified : (is_in_place : Bool) (told : Option Files) (text : List ℕ) (end : Ending) → IsOpen told command.database database → Has told command.sheet text
+      → IsUnified command.options database text end → IfSome told (λ files. CallAnswer files (Some (unify command is_in_place)) end)
+  due_unified is_in_place None text end opened has is = tt
+  due_unified is_in_place (Some files) text end opened has is = unified {database = database} {sheet = text} {db = is.db} opened.has opened.accepted.no_fault has is.is_database is.unifies
+
+  due_installed : (told : Option Files) (text : List ℕ) (end : Ending) → IsOpen told command.database database → Has told command.sheet text
+      → IsInstalled command.options database text end → IfSome told (λ files. CallAnswer files (Some (install command)) end)
+  due_installed None text end opened has is = tt
+  due_installed (Some files) text end opened has is = installed {database = database} {sheet = text} {db = is.db} opened.has opened.accepted.no_fault has is.is_database is.puts_in
 
   -- the worksheet is unified
-  pub may_unify : (told : Option Files) (before now : Name → ℕ) (sheet : sheets.Sheet) (end : Result Ending memory.Memory)
+  pub may_unify : (is_in_place : Bool) (told : Option Files) (before now : Name → ℕ) (sheet : sheets.Sheet) (end : Result Ending memory.Memory)
       → IsOpen told command.database database → IsOpenSheet told command.sheet sheet
       → ((text : List ℕ) → SaysSheet text sheet → IfOk end (IsUnified command.options database text)) → IfOk end IsTextEnding
       → IfOk end (MayEnd (unify command is_in_place) told before now)
-  may_unify told before now sheet (Err e) opened read is st = tt
-  may_unify told before now sheet (Ok end) opened read is st =
+  may_unify is_in_place told before now sheet (Err e) opened read is st = tt
+  may_unify is_in_place told before now sheet (Ok end) opened read is st =
       may_from_due (unify command is_in_place) told before now end st
-      (due_unified told read.text end opened read.has (is read.text (record { sound = read.readable.no_fault; reads = read.reads })))
+      (due_unified is_in_place told read.text end opened read.has (is read.text (record { sound = read.readable.no_fault; reads = read.reads })))
+      (λ none. absurd (some_not_none command.database none))
+
+  -- its theorem is put into the database
+  pub may_install : (told : Option Files) (before now : Name → ℕ) (sheet : sheets.Sheet) (end : Result Ending memory.Memory)
+      → IsOpen told command.database database → IsOpenSheet told command.sheet sheet
+      → ((text : List ℕ) → SaysSheet text sheet → IfOk end (IsInstalled command.options database text)) → IfOk end IsTextEnding
+      → IfOk end (MayEnd (install command) told before now)
+  may_install told before now sheet (Err e) opened read is st = tt
+  may_install told before now sheet (Ok end) opened read is st =
+      may_from_due (install command) told before now end st
+      (due_installed told read.text end opened read.has (is read.text (record { sound = read.readable.no_fault; reads = read.reads })))
       (λ none. absurd (some_not_none command.database none))
 
 -- ---- theorems
@@ -181,6 +230,27 @@ may_verify command told before now database (Err e) opened is = tt
 may_verify command told before now database (Ok end) opened is =
     may_from_due (verify command) told before now end (subst IsTextEnding (sym is.says) (verdict_ending command.theorem is.verdict))
     (due_theorem command told database end opened is)
+    (λ none. absurd (some_not_none command.database none))
+
+due_proof : (options : Options) (command : TheoremCommand) (files : Files) (database : List ℕ) (end : Ending) → IsOpen (Some files) command.database database
+    → IsExported options database command.theorem end → CallAnswer files (Some (export options command)) end
+due_proof options command files database end opened (made.refused v is other says) =
+    not_exported {database = database} v opened.has opened.accepted.no_fault is other (tells command.theorem v end says)
+due_proof options command files database end opened (made.exported {db = db} {t = t} {code = code} is accepts exports) =
+    exported {database = database} {db = db} {theorem = t} {code = code} opened.has opened.accepted.no_fault is accepts exports
+
+due_exported : (options : Options) (command : TheoremCommand) (told : Option Files) (database : List ℕ) (end : Ending) → IsOpen told command.database database
+    → IsExported options database command.theorem end → IfSome told (λ files. CallAnswer files (Some (export options command)) end)
+due_exported options command None database end opened is = tt
+due_exported options command (Some files) database end opened is = due_proof options command files database end opened is
+
+-- the proof of a theorem is exported
+pub may_export : (options : Options) (command : TheoremCommand) (told : Option Files) (before now : Name → ℕ) (database : List ℕ) (end : Result Ending memory.Memory)
+    → IsOpen told command.database database → IfOk end (IsExported options database command.theorem) → IfOk end IsTextEnding
+    → IfOk end (MayEnd (export options command) told before now)
+may_export options command told before now database (Err e) opened is st = tt
+may_export options command told before now database (Ok end) opened is st =
+    may_from_due (export options command) told before now end st (due_exported options command told database end opened is)
     (λ none. absurd (some_not_none command.database none))
 
 -- ---- trials

@@ -1,12 +1,12 @@
 -- Refusals of the files that a command names, from what was found under their names.
-use Rattle.std.proofs.Common.{◌≡◌, ◌≢◌, ◌⊎◌, ◌≤◌, ◌<◌, ◌^◌, ℕ, List, length, nat_lt, Option, Some, None, option_map, Result, Ok, Err, IfSome}
-use Rattle.std.proofs.Common.{IsSomeAnd, IfOk, true, false, refl, sym, ◌∙◌, ap, subst, inl, inr, arith}
+use Rattle.std.proofs.Common.{◌≡◌, ◌≤◌, ◌<◌, ◌^◌, ℕ, List, length, nat_lt, Option, Some, None, option_map, Result, Ok, Err, IfSome}
+use Rattle.std.proofs.Common.{IsSomeAnd, IfOk, true, false, refl, sym, ◌∙◌, ap, arith}
 use Rattle.std.proofs.lemmas.Bool.Decides.{nat_tests}
 use Rattle.std.proofs.lemmas.Option.{none-some, same_Some}
 use Rattle.call_answers.specs.declared.ending.Ending.{Ending}
 use Rattle.call_answers.specs.Endings.{Refuses}
 use Rattle.fault_lines.specs.FaultLines.{database_line, refusal_line}
-use Rattle.fault_lines.specs.Refusals.{Refusal, at_line}
+use Rattle.fault_lines.specs.Refusals.{at_line}
 use Rattle.mm_base.specs.Outside.{Files}
 use Rattle.mm_base.specs.declared.errors.Memory as memory
 use Rattle.mm_base.specs.declared.status.Status.{Status}
@@ -14,12 +14,12 @@ use Rattle.mm_base.specs.declared.status.Status.TheVariants.{Database, Sheet}
 use Rattle.mm_frames.specs.Contents.{Contents, contents_of}
 use Rattle.mm_model.specs.Faults.{Fault, fault}
 use Rattle.mm_model.specs.Statements.{database_fault}
-use Rattle.mmp_run.specs.Opened.{Has, IsRefused, IsOpen, IsListedText}
+use Rattle.mmp_run.specs.Opened.{Has, IsRefused, IsListedText}
 use Rattle.mmp_run.specs.OpenedSheet.{IsSheetRefused, IsOpenSheet, IsOpenedSheet, SaysWhatIsSaid}
 use Rattle.mmp_run.specs.declared.sheet.OpenedSheet.{OpenedSheet}
 use Rattle.mmp_run.specs.declared.sheet.OpenedSheet.TheVariants as opened
 use Rattle.mmp_run.specs.Refusals.{refusal}
-use Rattle.mmp_run.specs.Refused.{IsAccepted, IsDatabaseRefusal, IsReadable, IsSheetRefusal}
+use Rattle.mmp_run.specs.Refused.{IsDatabaseRefusal, IsSheetRefusal}
 use Rattle.sheet_text.specs.declared.sheet.Sheet as sheets
 use Rattle.sheet_text.specs.Reads as reading
 use Rattle.sheet_text.specs.TextFaults.{text_fault, line_fault}

@@ -1,5 +1,5 @@
 -- What a trial tells, from the outcome of unifying its worksheet over its database.
-use Rattle.std.proofs.Common.{◌≡◌, ◌<◌, ◌≤◌, ◌^◌, ℕ, ◌+◌, Bool, cond, List, [], ◌∷◌, length, map, Option, Some, None, IsSome, Result, Ok, Err, IfOk}
+use Rattle.std.proofs.Common.{◌≡◌, ◌≤◌, ◌^◌, ℕ, ◌+◌, Bool, cond, List, [], ◌∷◌, length, map, Option, Some, None, IsSome, Result, Ok, Err, IfOk}
 use Rattle.std.proofs.Common.{refl, sym, ◌∙◌, ap, subst, arith, inl, inr, false, true}
 use Rattle.std.specs.Prelude.{count_by, flat_map}
 use Rattle.std.specs.List.{fold}
@@ -26,7 +26,7 @@ use Rattle.trial_texts.specs.TrialTexts.{trial_database, trial_sheet}
 use Rattle.written_model.specs.declared.options.Options.{Options}
 use Rattle.written_model.specs.declared.report.ReportLine.{ReportLine}
 use Rattle.written_model.specs.Written.{Writing, Answers, wrote, written, HasNoLateFault, LateFault, written_text, written_report}
-use Rattle.written_model.specs.WrittenSteps.{WrittenStep, steps_in}
+use Rattle.written_model.specs.WrittenSteps.{steps_in}
 
 -- ---- the database
 

@@ -1,5 +1,5 @@
 -- From the outcome of unifying to the ending of the call.
-use Rattle.std.proofs.Common.{◌≡◌, ℕ, List, Bool, Option, Some, None, Result, Ok, Err, IfOk, IfSome, IsSome, ◌∙◌, sym, ap, refl, true, false}
+use Rattle.std.proofs.Common.{◌≡◌, ℕ, List, Option, Some, None, Result, Ok, Err, IfOk, IfSome, IsSome, ◌∙◌, ap, true, false}
 use Rattle.std.specs.List.{flat_map}
 use Rattle.call_answers.specs.declared.ending.Ending.{Ending}
 use Rattle.call_answers.specs.Endings.{Shows, status_of}
@@ -7,7 +7,6 @@ use Rattle.fault_lines.specs.FaultLines.{refusal_line}
 use Rattle.fault_lines.specs.Refusals.{Refusal}
 use Rattle.headline_laws.specs.Unified.{AnswerIsUnified}
 use Rattle.mm_base.specs.declared.errors.Memory as memory
-use Rattle.mm_base.specs.declared.status.Status.{Status}
 use Rattle.mm_base.specs.declared.status.Status.TheVariants as status
 use Rattle.mm_database.specs.Books.{database_of}
 use Rattle.mm_database.specs.Opened as opened
@@ -22,14 +21,19 @@ use Rattle.sheet_unify.specs.declared.outcome.Outcome.{Outcome}
 use Rattle.written_model.specs.declared.options.Options.{Options}
 use Rattle.written_model.specs.declared.report.ReportLine.{ReportLine}
 use Rattle.written_model.specs.Report.{report_lines}
-use Rattle.written_model.specs.Written.{Answer, Answers, Writing, wrote, refused}
+use Rattle.written_model.specs.Written.{Answer, Answers, Writing, wrote, refused, written_log, written_report}
 
--- the lines of the report, by what was written
-pub shown : (db : Database) (options : Options) (w : Writing) (outcome : Outcome) (end : Ending) (lines : List (List ℕ)) → IsWritten db options w outcome
-    → lines ≡ report_lines db outcome.report outcome.finished → end.out ≡ outcome.text → end.log ≡ flat_map ended lines → end.status ≡ status_of outcome.finished → Shows db options w end
-shown db options w outcome end lines is lines_are out log st = record {
+-- the report, by what was written
+pub log_of : (db : Database) (options : Options) (w : Writing) (outcome : Outcome) (log : List ℕ) → IsWritten db options w outcome
+    → log ≡ flat_map ended (report_lines db outcome.report outcome.finished) → log ≡ flat_map ended (written_log db options w)
+log_of db options w outcome log is e =
+    e ∙ ap (flat_map ended) (ap (λ (r : List ReportLine). report_lines db r outcome.finished) is.report ∙ ap (report_lines db (written_report db options w)) is.finished)
+
+pub shown : (db : Database) (options : Options) (w : Writing) (outcome : Outcome) (end : Ending) → IsWritten db options w outcome → end.out ≡ outcome.text
+    → end.log ≡ flat_map ended (report_lines db outcome.report outcome.finished) → end.status ≡ status_of outcome.finished → Shows db options w end
+shown db options w outcome end is out log st = record {
   out = out ∙ is.text;
-  log = log ∙ ap (flat_map ended) (lines_are ∙ ap (λ (r : List ReportLine). report_lines db r outcome.finished) is.report ∙ ap (report_lines db _) is.finished);
+  log = log_of db options w outcome end.log is log;
   status = st ∙ ap status_of is.finished;
 }
 
@@ -37,7 +41,7 @@ shown db options w outcome end lines is lines_are out log st = record {
 abbrev pub AllUnify : Type 0
 AllUnify = (db : Database) (text : List ℕ) (options : Options) (answer : Answer) (end : Ending) → AnswerIsUnified db text options answer end
 
-abbrev book : Options → List ℕ → opened.Opened → Database
+abbrev pub book : Options → List ℕ → opened.Opened → Database
 book options database d = database_of options.kinds database d.rows d.parsed
 
 pub outcome_unifies : AllUnify → (options : Options) (database text : List ℕ) (d : opened.Opened) (outcome : Outcome) (end : Result Ending memory.Memory) → opened.IsOpened options.kinds database d

@@ -21,6 +21,7 @@ use Rattle.proof_model.specs.Machine.{Accepts, proof_fault}
 use Rattle.call_answers.specs.Verified.{Verdict, no_theorem, accepted, bad_code, verdict_of, theorem_named, IsProofVerdict, IsVerdict}
 use Rattle.theorem_laws.specs.ProofPlaces.{ProofsStand}
 use Rattle.mmp_run.specs.Theorems.{IsTheorem}
+use Rattle.mmp_run.specs.Verdicts.{IsAcceptedProof}
 use Rattle.mmp_run.proofs.Theorems.{named_by}
 
 pub said_none : (text name : List ℕ) → theorem_named (statements text) name ≡ None → IsVerdict text name no_theorem
@@ -82,6 +83,13 @@ pub said_accepted : (text name : List ℕ) (l : Label) (t : IsTheorem (statement
     → Accepts (frames_of_database (statements text)) theorem code → IsVerdict text name accepted
 said_accepted text name l t theorem code e sound is accepts =
     said_machine text name l t theorem code accepted e sound is (ap verdict_of accepts)
+
+-- and its code is that of an accepted proof
+pub accepted_proof : (text name : List ℕ) (l : Label) (t : IsTheorem (statements text) name l) (theorem : Theorem) (code : Code) → theorem ≡ theorem_of_frame (statements text) t.frame
+    → proof_code_fault (labels_of_hyps t.frame.hyps) t.words ≡ None → IsCodeOf (labels_of_hyps t.frame.hyps) t.words code
+    → Accepts (frames_of_database (statements text)) theorem code → IsAcceptedProof text name l code
+accepted_proof text name l t theorem code e sound is accepts =
+    record { theorem = t; sound = sound; is_code = is; accepts = subst (λ (h : Theorem). Accepts (frames_of_database (statements text)) h code) e accepts }
 
 -- ---- faults of codes
 

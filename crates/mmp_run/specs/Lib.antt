@@ -1,6 +1,9 @@
 pub mod Answers
+pub mod Exported
 pub mod Found
+pub mod Installed
 pub mod Opened
+pub mod OpenedBoth
 pub mod OpenedSheet
 pub mod Refusals
 pub mod Refused

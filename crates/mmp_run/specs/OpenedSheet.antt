@@ -1,5 +1,5 @@
 -- What came of opening the file of a worksheet. This is part of the proof, and not of the claim.
-use Rattle.std.specs.Prelude.{◌≡◌, ◌⊎◌, ℕ, List, [], Option, Some, IfSome, IsSomeAnd}
+use Rattle.std.specs.Prelude.{◌≡◌, ◌⊎◌, ℕ, List, [], Option, IfSome, IsSomeAnd}
 use Rattle.call_answers.specs.declared.ending.Ending.{Ending}
 use Rattle.mm_base.specs.Outside.{Files}
 use Rattle.mm_base.specs.declared.status.Status.TheVariants as statuses

@@ -1,5 +1,5 @@
 -- What the options and a command of the program stand for. This is part of the proof, and not of the claim.
-use Rattle.std.specs.Prelude.{◌==◌, ℕ, List, [], ◌∷◌, find, if◌then◌else◌, Option, Some, None, option_map, unwrap_or, codes}
+use Rattle.std.specs.Prelude.{ℕ, Bool, true, false, List, [], ◌∷◌, find, if◌then◌else◌, Option, Some, None, option_map, unwrap_or, codes}
 use Rattle.std.specs.Borrow.{Bor}
 use Rattle.std.specs.List.{list_all}
 use Rattle.std.specs.Option.{option_copied}
@@ -27,6 +27,11 @@ options_shown c = record {
   dv = c.dv;
 }
 
+-- the options that a command knows, by whether it takes `--in-place`
+abbrev pub known_by : Bool → Name → Bool
+known_by true = words.is_known_by_unify
+known_by false = words.is_known
+
 -- two names
 abbrev pub names_in : List Name → Option (Name × Name)
 names_in (first ∷ second ∷ []) = if list_all words.is_name (first ∷ second ∷ []) then Some (first, second) else None
@@ -36,12 +41,20 @@ abbrev pub names_shown : Bor Name × Bor Name → Name × Name
 names_shown p = (p.0.now, p.1.now)
 
 abbrev pub unify_command : Choice → List ℕ → List ℕ → words.Command
-unify_command choice database sheet = words.unify (record { options = options_shown choice; database = database; sheet = sheet }) choice.in_place
+unify_command choice database sheet = words.unify (words.sheet_command (options_shown choice) database sheet) choice.in_place
 
 abbrev pub verify_command : List ℕ → List ℕ → words.Command
-verify_command database theorem = words.verify (record { database = database; theorem = theorem })
+verify_command database theorem = words.verify (words.theorem_command database theorem)
+
+abbrev pub export_command : Choice → List ℕ → List ℕ → words.Command
+export_command choice database theorem = words.export (options_shown choice) (words.theorem_command database theorem)
+
+abbrev pub install_command : Choice → List ℕ → List ℕ → words.Command
+install_command choice database sheet = words.install (words.sheet_command (options_shown choice) database sheet)
 
 abbrev pub shown : Command → words.Command
 shown (command.Unify choice database sheet) = unify_command choice database.now sheet.now
 shown (command.Verify database theorem) = verify_command database.now theorem.now
 shown (command.Trial blocks) = words.trial blocks
+shown (command.Export choice database theorem) = export_command choice database.now theorem.now
+shown (command.Install choice database sheet) = install_command choice database.now sheet.now

@@ -6,94 +6,56 @@ ghost use Rattle.call_answers.specs.CallAnswers.{ReadsNothing, no_files};
 ghost use Rattle.call_answers.specs.CommandLine.{command_of};
 ghost use Rattle.call_answers.specs.Given.{told, target, in_place_of, IsSettled, IsGiven, NoReadFault, SaysReadFault, IsCutShort, is_written};
 ghost use Rattle.mm_base.specs.Outside.{Files, NoneFell, Rose};
-ghost use Rattle.mm_frames.specs.Contents.{contents_of};
-ghost use Rattle.mm_model.specs.Statements.{database_fault};
 ghost use Rattle.mmp_run.specs.Answers.{MayEnd, MayEndFor};
-ghost use Rattle.mmp_run.specs.Opened.{IsOpen};
-ghost use Rattle.mmp_run.specs.OpenedSheet.{IsOpenedSheet, SaysWhatIsSaid};
-ghost use Rattle.mmp_run.specs.Shown.{shown, options_shown, unify_command, verify_command};
-ghost use Rattle.written_model.specs.declared.options.Options.{Options};
+ghost use Rattle.mmp_run.specs.OpenedBoth.{HasTexts, IsOpenedBoth};
+ghost use Rattle.mmp_run.specs.Shown.{shown, options_shown, unify_command, verify_command, export_command, install_command};
 
+use crate::both::{OpenedBoth, open_both};
 use crate::command::{Command, read_words};
 use crate::deliver::deliver;
 use crate::endings::refuse;
+use crate::export::end_proof;
+use crate::install::end_put_in;
 use crate::opening::{Opened, open};
 use crate::options::{Choice, make_options};
-use crate::sheet::{OpenedSheet, open_sheet};
 use crate::trial::end_trial;
 use crate::unify::end_sheet;
 use crate::verify::end_theorem;
 use call_answers::Ending;
 use mm_base::{Memory, Sink, Status, Store};
-use mm_frames::Frames;
 use std::alloc::Global;
 use written_model::Options;
 
-// Unifies a worksheet that was opened over the text of a database without a fault, which has these statements.
-fn end_opened_sheet(
-    alloc: Global,
-    text: &[u8],
-    frames: Frames,
-    opened: OpenedSheet,
-    options: &Options,
-) -> Result<Ending, Memory>
-    requires contents { frames ≡ contents_of text.now }
-    requires no_fault { database_fault text.now ≡ None }
-    requires said { SaysWhatIsSaid opened }
-    ensures { (told : Option Files) (before mid now : List ℕ → ℕ) (choice : Choice) (name file : List ℕ) → options_shown choice ≡ options.now → IsOpen told name text.now → NoneFell before mid
-        → IsOpenedSheet told mid now file opened → IfOk result (MayEnd (unify_command choice name file) told before now) }
+// Unifies the worksheet of two files that were opened.
+fn unify_both(alloc: Global, opened: OpenedBoth, options: &Options) -> Result<Ending, Memory>
+    requires { HasTexts opened }
+    ensures { (told : Option Files) (before now : List ℕ → ℕ) (choice : Choice) (database sheet : List ℕ) → options_shown choice ≡ options.now
+        → IsOpenedBoth told before now database sheet opened → IfOk result (MayEnd (unify_command choice database sheet) told before now) }
 {
     match opened {
-        OpenedSheet::Sheet(sheet) => end_sheet(alloc, text, frames, &sheet, options),
-        OpenedSheet::Refused(end) => Ok(end),
-    }
-}
-
-// Unifies the worksheet of a file over the text of a database without a fault, which has these statements.
-fn end_over<S: Store>(
-    alloc: Global,
-    store: &mut S,
-    options: &Options,
-    text: &[u8],
-    frames: Frames,
-    sheet: &str,
-) -> Result<Ending, Memory>
-    requires contents { frames ≡ contents_of text.now }
-    requires no_fault { database_fault text.now ≡ None }
-    ensures answer { (before : List ℕ → ℕ) (choice : Choice) (name : List ℕ) → options_shown choice ≡ options.now → IsOpen (S.told store.old) name text.now → NoneFell before (S.read_faults store.old)
-        → IfOk result (MayEnd (unify_command choice name sheet.now) (S.told store.old) before (S.read_faults store.new)) }
-    ensures same_files { S.told store.new ≡ S.told store.old }
-    ensures replace_faults { NoneFell (S.replace_faults store.old) (S.replace_faults store.new) }
-{
-    match open_sheet(alloc, store, sheet) {
-        Ok(opened) => end_opened_sheet(alloc, text, frames, opened, options),
-        Err(_) => Err(Memory),
-    }
-}
-
-// Unifies the worksheet of a file over the database of another.
-fn end_unify<S: Store>(
-    alloc: Global,
-    store: &mut S,
-    options: &Options,
-    database: &str,
-    sheet: &str,
-) -> Result<Ending, Memory>
-    ensures answer { (choice : Choice) → options_shown choice ≡ options.now
-        → IfOk result (MayEnd (unify_command choice database.now sheet.now) (S.told store.old) (S.read_faults store.old) (S.read_faults store.new)) }
-    ensures same_files { S.told store.new ≡ S.told store.old }
-    ensures replace_faults { NoneFell (S.replace_faults store.old) (S.replace_faults store.new) }
-{
-    match open(alloc, store, database)? {
-        Opened::Database(text, frames) => {
-            end_over(alloc, store, options, text.as_slice(), frames, sheet)
+        OpenedBoth::Both(text, frames, sheet) => {
+            end_sheet(alloc, text.as_slice(), frames, &sheet, options)
         }
-        Opened::Refused(end) => Ok(end),
+        OpenedBoth::Refused(end) => Ok(end),
     }
 }
 
-// The same with what the options ask for.
-fn end_chosen<S: Store>(
+// Puts the theorem of the worksheet of two files that were opened into the text of the database.
+fn install_both(alloc: Global, opened: OpenedBoth, options: &Options) -> Result<Ending, Memory>
+    requires { HasTexts opened }
+    ensures { (told : Option Files) (before now : List ℕ → ℕ) (choice : Choice) (database sheet : List ℕ) → options_shown choice ≡ options.now
+        → IsOpenedBoth told before now database sheet opened → IfOk result (MayEnd (install_command choice database sheet) told before now) }
+{
+    match opened {
+        OpenedBoth::Both(text, frames, sheet) => {
+            end_put_in(alloc, text.as_slice(), frames, &sheet, options)
+        }
+        OpenedBoth::Refused(end) => Ok(end),
+    }
+}
+
+// Unifies the worksheet of a file over the database of another, with what the options ask for.
+fn end_unify<S: Store>(
     alloc: Global,
     store: &mut S,
     choice: Choice<'_>,
@@ -104,8 +66,28 @@ fn end_chosen<S: Store>(
     ensures same_files { S.told store.new ≡ S.told store.old }
     ensures replace_faults { NoneFell (S.replace_faults store.old) (S.replace_faults store.new) }
 {
-    match make_options(alloc, choice) {
-        Ok(options) => end_unify(alloc, store, &options, database, sheet),
+    let options = make_options(alloc, choice)?;
+    match open_both(alloc, store, database, sheet) {
+        Ok(opened) => unify_both(alloc, opened, &options),
+        Err(_) => Err(Memory),
+    }
+}
+
+// Puts the theorem of the worksheet of a file into the database of another.
+fn end_install<S: Store>(
+    alloc: Global,
+    store: &mut S,
+    choice: Choice<'_>,
+    database: &str,
+    sheet: &str,
+) -> Result<Ending, Memory>
+    ensures answer { IfOk result (MayEnd (install_command choice.entry database.now sheet.now) (S.told store.old) (S.read_faults store.old) (S.read_faults store.new)) }
+    ensures same_files { S.told store.new ≡ S.told store.old }
+    ensures replace_faults { NoneFell (S.replace_faults store.old) (S.replace_faults store.new) }
+{
+    let options = make_options(alloc, choice)?;
+    match open_both(alloc, store, database, sheet) {
+        Ok(opened) => install_both(alloc, opened, &options),
         Err(_) => Err(Memory),
     }
 }
@@ -127,6 +109,27 @@ fn end_verify<S: Store>(
     }
 }
 
+// Exports the proof of a theorem of the database of a file.
+fn end_export<S: Store>(
+    alloc: Global,
+    store: &mut S,
+    choice: Choice<'_>,
+    database: &str,
+    theorem: &str,
+) -> Result<Ending, Memory>
+    ensures answer { IfOk result (MayEnd (export_command choice.entry database.now theorem.now) (S.told store.old) (S.read_faults store.old) (S.read_faults store.new)) }
+    ensures same_files { S.told store.new ≡ S.told store.old }
+    ensures replace_faults { NoneFell (S.replace_faults store.old) (S.replace_faults store.new) }
+{
+    let options = make_options(alloc, choice)?;
+    match open(alloc, store, database)? {
+        Opened::Database(text, frames) => {
+            end_proof(alloc, text.as_slice(), frames, &options, theorem)
+        }
+        Opened::Refused(end) => Ok(end),
+    }
+}
+
 // Reads the files that a command names, and gives its ending.
 fn end_command<S: Store>(
     alloc: Global,
@@ -143,9 +146,19 @@ fn end_command<S: Store>(
             choice,
             database,
             sheet,
-        } => end_chosen(alloc, store, choice, database, sheet),
+        } => end_unify(alloc, store, choice, database, sheet),
         Command::Verify { database, theorem } => end_verify(alloc, store, database, theorem),
         Command::Trial(blocks) => end_trial(alloc, blocks),
+        Command::Export {
+            choice,
+            database,
+            theorem,
+        } => end_export(alloc, store, choice, database, theorem),
+        Command::Install {
+            choice,
+            database,
+            sheet,
+        } => end_install(alloc, store, choice, database, sheet),
     }
 }
 
@@ -165,7 +178,7 @@ fn end_words<S: Store>(
         None => refuse(
             alloc,
             Status::Words,
-            "usage: mmp unify [--proof=normal|compressed] [--in-place] [--dv=add|given] [--provable=T] [--logic=T] DB SHEET | mmp verify DB LABEL | mmp trial N",
+            "usage: mmp unify [--proof=normal|compressed] [--in-place] [--dv=add|given] [--provable=T] [--logic=T] DB SHEET | mmp verify DB LABEL | mmp trial N | mmp export [options] DB LABEL | mmp install [options] DB SHEET",
         ),
     }
 }
@@ -204,10 +217,14 @@ fn place_of<'a>(command: Option<Command<'a>>, status: Status) -> Option<&'a str>
 /// # Statuses
 /// For `unify` `Finished` and `Unfinished`: the worksheet is in `out`, or in its file, and the report in `log`. For `verify`
 /// `Finished`: the proof is accepted, as one line in `out` says; `Proof`: there is no such theorem or its proof is refused, by
-/// one line in `log`. For `trial` `Finished` and `Unfinished`: four lines are in `out`. `Database` and `Sheet`: the file is
-/// refused, by one line in `log`. `Words`: the words fit no command, and `log` has the usage line. `Read`: a file could not be
-/// read, and `log` names it. `Write`: a sink failed, or the store where the worksheet was to be put, and two texts are cut short;
-/// over told files, and for `trial` and words that fit no command over every store, they are those of one of the other statuses.
+/// one line in `log`. For `trial` `Finished` and `Unfinished`: four lines are in `out`. For `export` `Finished`: the worksheet is
+/// in `out`, and the report in `log`; `Proof`: as for `verify`, or the proof gives no finished worksheet, by one line in `log`.
+/// For `install` `Finished`: the text of the database with the theorem in it is in `out`, and the report in `log`; `Unfinished`:
+/// the report is in `log`, and nothing in `out`. `Database` and `Sheet`: the file is refused, by one line in `log`; `Sheet` is also
+/// that of an `install` whose theorem is one of the database, or whose text would be too large. `Words`: the words fit no command,
+/// and `log` has the usage line. `Read`: a file could not be read, and `log` names it. `Write`: a sink failed, or the store where
+/// the worksheet was to be put, and two texts are cut short; over told files, and for `trial` and words that fit no command over
+/// every store, they are those of one of the other statuses.
 /// Nothing is in `log` unless the first text is whole. `Memory`: memory ran out, and nothing was written.
 pub fn run<S: Store, O: Sink, L: Sink>(
     alloc: Global,

@@ -28,6 +28,18 @@ pub enum Command<'a> {
     },
     /// To try the program by itself, with so many blocks.
     Trial(u32),
+    /// To print an accepted proof of a database as a finished worksheet.
+    Export {
+        choice: Choice<'a>,
+        database: &'a str,
+        theorem: &'a str,
+    },
+    /// To print a database with the theorem of a worksheet in it.
+    Install {
+        choice: Choice<'a>,
+        database: &'a str,
+        sheet: &'a str,
+    },
 }
 
 // A word that may name a file or a label.
@@ -100,10 +112,10 @@ fn read_files<'a>(choice: Choice<'a>, words: &'a [String]) -> Option<Command<'a>
 // The command `unify` with these words behind it.
 fn read_unify(words: &[String]) -> Option<Command<'_>>
     ensures { let all = map string_bytes words.now in
-        option_map shown result ≡ option_and_then (line.unify_of (contains (leading all) line.in_place) (behind all)) (line.options_of (leading all)) }
+        option_map shown result ≡ option_and_then (line.unify_of (contains (leading all) line.in_place) (behind all)) (line.unify_options (leading all)) }
 {
     let (options, files) = words.split_at(count_options(words));
-    match choose(options) {
+    match choose(true, options) {
         None => None,
         Some(choice) => read_files(choice, files),
     }
@@ -132,6 +144,56 @@ fn read_trial(words: &[String]) -> Option<Command<'_>>
     }
 }
 
+// The theorem that is to be exported, by the words behind the options.
+fn read_theorem<'a>(choice: Choice<'a>, words: &'a [String]) -> Option<Command<'a>>
+    ensures { option_map shown result ≡ line.export_of (map string_bytes words.entry.now) (options_shown choice.entry) }
+{
+    match two_names(words) {
+        None => None,
+        Some((database, theorem)) => Some(Command::Export {
+            choice,
+            database,
+            theorem,
+        }),
+    }
+}
+
+// The command `export` with these words behind it.
+fn read_export(words: &[String]) -> Option<Command<'_>>
+    ensures { option_map shown result ≡ line.with_options line.export_of (map string_bytes words.now) }
+{
+    let (options, names) = words.split_at(count_options(words));
+    match choose(false, options) {
+        None => None,
+        Some(choice) => read_theorem(choice, names),
+    }
+}
+
+// The worksheet whose theorem is to be put in, by the words behind the options.
+fn read_sheet<'a>(choice: Choice<'a>, words: &'a [String]) -> Option<Command<'a>>
+    ensures { option_map shown result ≡ line.install_of (map string_bytes words.entry.now) (options_shown choice.entry) }
+{
+    match two_names(words) {
+        None => None,
+        Some((database, sheet)) => Some(Command::Install {
+            choice,
+            database,
+            sheet,
+        }),
+    }
+}
+
+// The command `install` with these words behind it.
+fn read_install(words: &[String]) -> Option<Command<'_>>
+    ensures { option_map shown result ≡ line.with_options line.install_of (map string_bytes words.now) }
+{
+    let (options, names) = words.split_at(count_options(words));
+    match choose(false, options) {
+        None => None,
+        Some(choice) => read_sheet(choice, names),
+    }
+}
+
 // The command of that name with these words behind it.
 fn read_by_name<'a>(word: &str, words: &'a [String]) -> Option<Command<'a>>
     ensures { option_map shown result ≡ line.of_word word.now (map string_bytes words.entry.now) }
@@ -142,6 +204,10 @@ fn read_by_name<'a>(word: &str, words: &'a [String]) -> Option<Command<'a>>
         read_verify(words)
     } else if word == "trial" {
         read_trial(words)
+    } else if word == "export" {
+        read_export(words)
+    } else if word == "install" {
+        read_install(words)
     } else {
         None
     }

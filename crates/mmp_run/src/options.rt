@@ -5,9 +5,9 @@ ghost use Rattle.std.specs.List.{prefix_len, list_all};
 ghost use Rattle.std.specs.Option.{option_copied};
 ghost use Rattle.std.specs.Str.{bytes_eq};
 ghost use Rattle.call_answers.specs.CommandLine as line;
-ghost use Rattle.call_answers.specs.CommandLine.{option_name, option_value, options_of};
+ghost use Rattle.call_answers.specs.CommandLine.{option_name, option_value, options_where};
 ghost use Rattle.mm_model.specs.Names.{contains, has_twice};
-ghost use Rattle.mmp_run.specs.Shown.{options_shown, value_in, chosen};
+ghost use Rattle.mmp_run.specs.Shown.{options_shown, value_in, chosen, known_by};
 
 use mm_base::{Kinds, List, Memory};
 use std::alloc::Global;
@@ -72,7 +72,6 @@ fn is_listed(word: &[u8]) -> bool
         || word == b"--proof=compressed".as_slice()
         || word == b"--dv=add".as_slice()
         || word == b"--dv=given".as_slice()
-        || word == b"--in-place".as_slice()
 }
 
 // Whether a name is that of an option whose value is a typecode.
@@ -88,11 +87,22 @@ fn is_known(word: &[u8]) -> bool
     is_listed(word) || (names_typecode(name_of(word)) && !value_of(word).is_empty())
 }
 
-fn are_known(options: &[String]) -> bool
-    ensures { result ≡ list_all line.is_known (map string_bytes options.now) }
+// Whether an option is known to a command, which may take `--in-place`.
+fn is_known_by(takes_in_place: bool, word: &[u8]) -> bool
+    ensures { result ≡ known_by takes_in_place word.now }
+{
+    if takes_in_place {
+        is_known(word) || word == b"--in-place".as_slice()
+    } else {
+        is_known(word)
+    }
+}
+
+fn are_known(takes_in_place: bool, options: &[String]) -> bool
+    ensures { result ≡ list_all (known_by takes_in_place) (map string_bytes options.now) }
 {
     for option in options {
-        if !is_known(option.as_bytes()) {
+        if !is_known_by(takes_in_place, option.as_bytes()) {
             return false;
         }
     }
@@ -198,12 +208,13 @@ fn has_one_typecode(choice: Choice<'_>) -> bool
     named_or(choice.provable, b"|-") == named_or(choice.logic, b"wff")
 }
 
-/// What the options ask for: each is known, no two have one name, and the two typecodes differ.
-pub fn choose(options: &[String]) -> Option<Choice<'_>>
-    ensures options { option_map options_shown result ≡ options_of (map string_bytes options.now) }
+/// What the options of a command ask for, which may take `--in-place`: each is known, no two have one name, and the two
+/// typecodes differ.
+pub fn choose(takes_in_place: bool, options: &[String]) -> Option<Choice<'_>>
+    ensures options { option_map options_shown result ≡ options_where (known_by takes_in_place) (map string_bytes options.now) }
     ensures in_place { IfSome result (λ choice. choice.in_place ≡ contains (map string_bytes options.now) line.in_place) }
 {
-    if !are_known(options) || has_name_twice(options) {
+    if !are_known(takes_in_place, options) || has_name_twice(options) {
         return None;
     }
     let choice = choice_of(options);

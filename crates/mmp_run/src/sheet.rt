@@ -27,13 +27,13 @@ pub enum OpenedSheet {
     Refused(Ending),
 }
 
-/// The ending that tells a fault of a worksheet, other than want of memory.
-pub fn refuse_sheet(alloc: Global, fault: &UnifyFault) -> Result<Ending, Memory>
+/// The ending with this status that tells a fault of a worksheet, other than want of memory.
+pub fn refuse_sheet(alloc: Global, status: Status, fault: &UnifyFault) -> Result<Ending, Memory>
     requires { IsSome (refusal_of fault.now) }
-    ensures { IfOk result (λ end. IfSome (refusal_of fault.now) (λ r. end ≡ refusal Status.Sheet (refusal_line r))) }
+    ensures { IfOk result (λ end. IfSome (refusal_of fault.now) (λ r. end ≡ refusal status (refusal_line r))) }
 {
     let line = fault_line(alloc, fault)?;
-    refuse_line(alloc, Status::Sheet, line)
+    refuse_line(alloc, status, line)
 }
 
 // The ending that tells that the file of a worksheet is too big.
@@ -41,7 +41,7 @@ fn open_big(alloc: Global) -> Result<OpenedSheet, Memory>
     ensures { IfOk result (λ opened. (told : Option Files) (before now : List ℕ → ℕ) (name : List ℕ)
         → IfSome told (λ files. IsSomeAnd (files name) (λ text. most_sheet_bytes < length text)) → IsOpenedSheet told before now name opened) }
 {
-    let end = refuse_sheet(alloc, &UnifyFault::TooBig)?;
+    let end = refuse_sheet(alloc, Status::Sheet, &UnifyFault::TooBig)?;
     Ok(OpenedSheet::Refused(end))
 }
 
@@ -62,7 +62,7 @@ fn open_fault(alloc: Global, text: &[u8], code: SheetCode, line: u32) -> Result<
         → Has told name text.now → IsOpenedSheet told before now name opened) }
 {
     let _ = text;
-    let end = refuse_sheet(alloc, &UnifyFault::Sheet(code, line))?;
+    let end = refuse_sheet(alloc, Status::Sheet, &UnifyFault::Sheet(code, line))?;
     Ok(OpenedSheet::Refused(end))
 }
 

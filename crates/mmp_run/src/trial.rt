@@ -18,7 +18,7 @@ ghost use Rattle.trial_texts.specs.TrialTexts.{trial_database};
 use crate::options::{Choice, make_options};
 use crate::unify::{end_fault, status_of};
 use call_answers::Ending;
-use mm_base::{Bytes, List, Memory};
+use mm_base::{Bytes, List, Memory, Status};
 use mm_database::{Database, DbFault, open_frames, read_frames};
 use mm_frames::Frames;
 use sheet_gen::{database, sheet};
@@ -134,7 +134,7 @@ fn try_over(alloc: Global, db: &Database, options: &Options, blocks: u32) -> Res
     let text = sheet(alloc, blocks)?;
     match unify_sheet(alloc, db, text.as_slice(), options) {
         Ok(outcome) => end_outcome(alloc, &outcome),
-        Err(fault) => end_fault(alloc, fault),
+        Err(fault) => end_fault(alloc, Status::Sheet, fault),
     }
 }
 

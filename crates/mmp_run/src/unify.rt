@@ -3,6 +3,7 @@
 ghost use Rattle.std.specs.Prelude.{◌≡◌, ℕ, List, None, IfOk, IfSome, IsSome};
 ghost use Rattle.std.specs.List.{flat_map};
 ghost use Rattle.call_answers.specs.Endings.{Shows, status_of as status_of_end};
+ghost use Rattle.mm_base.specs.declared.kinds.Kinds.{Kinds};
 ghost use Rattle.mm_database.specs.Books.{database_of};
 ghost use Rattle.mm_database.specs.Opened.{IsOpened};
 ghost use Rattle.mm_frames.specs.Contents.{contents_of};
@@ -14,6 +15,7 @@ ghost use Rattle.sheet_text.specs.Layout.{ended};
 ghost use Rattle.sheet_unify.specs.Answered.{IsWritten, SaysSheet, refusal_of};
 ghost use Rattle.sheet_unify.specs.Made.{HasText, IsSaid};
 ghost use Rattle.written_model.specs.declared.options.Options.{Options};
+ghost use Rattle.written_model.specs.Report.{report_lines};
 ghost use Rattle.written_model.specs.Written.{Writing};
 
 use crate::sheet::refuse_sheet;
@@ -50,30 +52,38 @@ pub fn status_of(finished: bool) -> Status
     }
 }
 
-// The ending that writes an outcome over this database.
-fn end_outcome(alloc: Global, db: &Database, outcome: Outcome) -> Result<Ending, Memory>
+/// The report on an outcome over this database, as it goes to the log.
+pub fn report_log(alloc: Global, db: &Database, outcome: &Outcome) -> Result<Bytes, Memory>
+    ensures { (kinds : Kinds) (text : List ℕ) → IsOpened kinds text db.now
+        → IfOk result (λ log. log ≡ flat_map ended (report_lines (database_of kinds text db.now.rows db.now.parsed) outcome.now.report outcome.now.finished)) }
+{
+    let lines = report_lines(alloc, db, &outcome.report, outcome.finished)?;
+    let text = report_text(alloc, lines.as_slice())?;
+    Ok(List::from_vec(text))
+}
+
+/// The ending that writes an outcome over this database.
+pub fn end_outcome(alloc: Global, db: &Database, outcome: Outcome) -> Result<Ending, Memory>
     ensures written { (options : Options) (text : List ℕ) (w : Writing) → IsOpened options.kinds text db.now
         → IsWritten (database_of options.kinds text db.now.rows db.now.parsed) options w outcome
         → IfOk result (Shows (database_of options.kinds text db.now.rows db.now.parsed) options w) }
     ensures ending { IfOk result IsTextEnding }
 {
-    let lines = report_lines(alloc, db, &outcome.report, outcome.finished)?;
-    let log = report_text(alloc, lines.as_slice())?;
     Ok(Ending {
+        log: report_log(alloc, db, &outcome)?,
         out: outcome.text,
-        log: List::from_vec(log),
         status: status_of(outcome.finished),
     })
 }
 
-/// The ending that tells why a worksheet is not written, unless memory ran out.
-pub fn end_fault(alloc: Global, fault: UnifyFault) -> Result<Ending, Memory>
+/// The ending with this status that tells why a worksheet is not written, unless memory ran out.
+pub fn end_fault(alloc: Global, status: Status, fault: UnifyFault) -> Result<Ending, Memory>
     ensures told { IfOk result (λ end. IsSome (refusal_of fault)) }
-    ensures line { IfOk result (λ end. IfSome (refusal_of fault) (λ r. end ≡ refusal Status.Sheet (refusal_line r))) }
+    ensures line { IfOk result (λ end. IfSome (refusal_of fault) (λ r. end ≡ refusal status (refusal_line r))) }
 {
     match fault {
         UnifyFault::Memory => Err(Memory),
-        _ => refuse_sheet(alloc, &fault),
+        _ => refuse_sheet(alloc, status, &fault),
     }
 }
 
@@ -93,7 +103,7 @@ fn end_opened(
     answer_is_unified();
     match unify_read(alloc, database, sheet, options) {
         Ok(outcome) => end_outcome(alloc, database, outcome),
-        Err(fault) => end_fault(alloc, fault),
+        Err(fault) => end_fault(alloc, Status::Sheet, fault),
     }
 }
 

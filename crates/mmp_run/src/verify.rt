@@ -12,7 +12,7 @@ ghost use Rattle.fault_lines.specs.FaultLines.{code_faults, proof_faults};
 ghost use Rattle.fault_lines.specs.NamedFaults.{told, IsNamed};
 ghost use Rattle.call_answers.specs.Verified.{verdict_of, refused, accepted, no_theorem, theorem_named, IsVerdict};
 ghost use Rattle.mmp_run.specs.Theorems.{IsTheorem};
-ghost use Rattle.mmp_run.specs.Verdicts.{told_verdict, IsNamedVerdict};
+ghost use Rattle.mmp_run.specs.Verdicts.{told_refusal, told_verdict, IsNamedRefusal, IsNamedVerdict, IsProvedBy};
 ghost use Rattle.mmp_run.specs.Verify.{IsVerified, ending_of};
 
 use crate::endings::{make_line, refuse};
@@ -21,17 +21,31 @@ use compressed_proof::CodeFault;
 use fault_lines::{NamedFault, code_line, proof_line};
 use mm_base::{Label, List, Memory, Status};
 use mm_frames::Frames;
+use proof_model::Code;
 use stack_verify::{ProofFault, proof_code, theorem_of, verify};
 use std::alloc::Global;
 use theorem_laws::proofs_stand;
 
-/// What is said of the proof of a theorem.
+/// Why a proof is not accepted.
 #[derive(Clone, Copy)]
-pub enum Verdict {
+pub enum Refusal {
     NoTheorem,
     BadCode(NamedFault),
-    Refused(NamedFault),
-    Accepted,
+    BadProof(NamedFault),
+}
+
+/// The label of a theorem, and the code of its proof.
+#[derive(Drop)]
+pub struct Proof {
+    pub label: Label,
+    pub code: Code,
+}
+
+/// What is said of the proof of a theorem.
+#[derive(Drop)]
+pub enum Verdict {
+    Refused(Refusal),
+    Accepted(Proof),
 }
 
 // A fault of a proof's code, unless memory ran out.
@@ -88,15 +102,16 @@ fn find_theorem(frames: &Frames, name: &[u8]) -> Option<Label>
     }
 }
 
-// What is said of the proof of a theorem of a database without a fault.
-fn judge(alloc: Global, text: &[u8], frames: &Frames, name: &[u8]) -> Result<Verdict, Memory>
+/// What is said of the proof of a theorem of a database without a fault.
+pub fn judge(alloc: Global, text: &[u8], frames: &Frames, name: &[u8]) -> Result<Verdict, Memory>
     requires contents { frames.now ≡ contents_of text.now }
     requires no_fault { database_fault text.now ≡ None }
     ensures verdict { IfOk result (λ v. IsVerdict text.now name.now (told_verdict v)) }
     ensures named { IfOk result IsNamedVerdict }
+    ensures proof { IfOk result (IsProvedBy text.now name.now) }
 {
     let Some(label) = find_theorem(frames, name) else {
-        return Ok(Verdict::NoTheorem);
+        return Ok(Verdict::Refused(Refusal::NoTheorem));
     };
     proofs_stand();
     let theorem = theorem_of(alloc, frames, label)?;
@@ -104,14 +119,14 @@ fn judge(alloc: Global, text: &[u8], frames: &Frames, name: &[u8]) -> Result<Ver
         Ok(code) => code,
         Err(fault) => {
             let fault = told_code(&fault)?;
-            return Ok(Verdict::BadCode(fault));
+            return Ok(Verdict::Refused(Refusal::BadCode(fault)));
         }
     };
     match verify(alloc, frames, &theorem, &code) {
-        Ok(()) => Ok(Verdict::Accepted),
+        Ok(()) => Ok(Verdict::Accepted(Proof { label, code })),
         Err(fault) => {
             let fault = told_proof(&fault)?;
-            Ok(Verdict::Refused(fault))
+            Ok(Verdict::Refused(Refusal::BadProof(fault)))
         }
     }
 }
@@ -140,22 +155,32 @@ fn refuse_name(alloc: Global, name: &str) -> Result<Ending, Memory>
     refuse(alloc, Status::Proof, text.as_str())
 }
 
+/// The ending that tells why a proof is not accepted.
+pub fn end_refusal(alloc: Global, name: &str, refusal: Refusal) -> Result<Ending, Memory>
+    requires { IsNamedRefusal refusal }
+    ensures { IfOk result (λ end. end ≡ ending_of name.now (told_refusal refusal)) }
+{
+    match refusal {
+        Refusal::NoTheorem => refuse_name(alloc, name),
+        Refusal::BadCode(fault) => {
+            let line = code_line(alloc, fault)?;
+            refuse(alloc, Status::Proof, line.as_str())
+        }
+        Refusal::BadProof(fault) => {
+            let line = proof_line(alloc, fault)?;
+            refuse(alloc, Status::Proof, line.as_str())
+        }
+    }
+}
+
 // The ending for a verdict.
 fn end_verdict(alloc: Global, name: &str, verdict: Verdict) -> Result<Ending, Memory>
     requires { IsNamedVerdict verdict }
     ensures { IfOk result (λ end. end ≡ ending_of name.now (told_verdict verdict)) }
 {
     match verdict {
-        Verdict::NoTheorem => refuse_name(alloc, name),
-        Verdict::BadCode(fault) => {
-            let line = code_line(alloc, fault)?;
-            refuse(alloc, Status::Proof, line.as_str())
-        }
-        Verdict::Refused(fault) => {
-            let line = proof_line(alloc, fault)?;
-            refuse(alloc, Status::Proof, line.as_str())
-        }
-        Verdict::Accepted => accept(alloc, name),
+        Verdict::Refused(refusal) => end_refusal(alloc, name, refusal),
+        Verdict::Accepted(_) => accept(alloc, name),
     }
 }
 

@@ -1,4 +1,4 @@
-use Rattle.std.proofs.Common.{◌∙◌, sym, ap, cond, Some}
+use Rattle.std.proofs.Common.{◌∙◌, sym}
 use Rattle.mmp_run.proofs.Blocks.{from_one, found_here, not_here, none_left}
 use Rattle.mmp_run.proofs.command.read_blocks.Goals as goal
 

@@ -1,8 +1,8 @@
-use Rattle.std.proofs.Common.{◌≡◌, ◌∙◌, ℕ, List, subst, sym, IfOk}
+use Rattle.std.proofs.Common.{◌∙◌, ℕ, List, subst, sym}
 use Rattle.mm_database.specs.Books.{database_of}
 use Rattle.mm_database.specs.Opened.{IsOpened}
 use Rattle.sheet_unify.specs.Answered.{IsOutcome}
-use Rattle.trial_texts.specs.TrialTexts.{trial_database, trial_sheet}
+use Rattle.trial_texts.specs.TrialTexts.{trial_database}
 use Rattle.written_model.specs.declared.options.Options.{Options}
 use Rattle.mmp_run.proofs.Trials.{short_text, tried_ok}
 use Rattle.mmp_run.proofs.trial.try_over.Goals as goal
