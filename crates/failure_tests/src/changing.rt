@@ -1,7 +1,7 @@
 //! Files that vanish or change between two calls of the store, and calls that want memory.
 
 use crate::calls::{Device, Want, call, compare, text_of};
-use crate::given::{IN_PLACE, PROP, REPORT, SHEET, TO_OUTPUT, WRITTEN};
+use crate::given::{DATABASE_WITH_IT, IN_PLACE, INTO_DATABASE, PROP, REPORT, SHEET, TO_OUTPUT, WRITTEN};
 use crate::scripted::{Answer, ScriptedStore};
 use mm_base::Status;
 use std::alloc::Global;
@@ -120,6 +120,23 @@ const WANTING: &[Row] = &[
         log: "",
         ..NOTHING
     },
+    Row {
+        name: "no memory for the database of an export",
+        words: &["export", "P.mm", "th"],
+        finds: &[Answer::NoMemory],
+        status: Status::Memory,
+        log: "",
+        ..NOTHING
+    },
+    Row {
+        name: "no memory for a worksheet that is to be put in",
+        words: INTO_DATABASE,
+        finds: &[Answer::Text(PROP), Answer::NoMemory],
+        status: Status::Memory,
+        log: "",
+        asked: BOTH_READ,
+        ..NOTHING
+    },
 ];
 
 const CHANGING: &[Row] = &[
@@ -156,6 +173,15 @@ const CHANGING: &[Row] = &[
         log: "sheet error 66 UnknownSymbol at line 2\n",
         asked: BOTH_READ,
         ..NOTHING
+    },
+    Row {
+        name: "all is gone once it is read, and the database is written with the theorem",
+        words: INTO_DATABASE,
+        finds: &[Answer::Text(PROP), Answer::Text(SHEET)],
+        out: DATABASE_WITH_IT,
+        asked: BOTH_READ,
+        put: "",
+        ..REPLACED
     },
     Row {
         name: "the worksheet is written before it is read",

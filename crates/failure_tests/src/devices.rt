@@ -1,7 +1,7 @@
 //! A worksheet over devices of which each call fails in turn.
 
 use crate::calls::{Device, Want, call, compare, store_of, text_of};
-use crate::given::{IN_PLACE, PROP, REPORT, SHEET, TO_OUTPUT, WRITTEN};
+use crate::given::{DATABASE_WITH_IT, IN_PLACE, INTO_DATABASE, PROP, REPORT, SHEET, TO_OUTPUT, WRITTEN};
 use mm_base::{MemStore, Status};
 use std::alloc::Global;
 use std::process::Abort;
@@ -176,6 +176,60 @@ const PLACE_ROWS: &[Row] = &[
     },
 ];
 
+// The database is written with the theorem of the worksheet.
+const INSTALLED: Row = Row {
+    written: DATABASE_WITH_IT,
+    ..OUTPUT
+};
+
+const INSTALLED_ROWS: &[Row] = &[
+    INSTALLED,
+    Row {
+        name: "the read of the database",
+        store: Device::Fails(1),
+        status: Status::Read,
+        written: "",
+        told: "read fault P.mm\n",
+        ..INSTALLED
+    },
+    Row {
+        name: "the read of the worksheet",
+        store: Device::Fails(2),
+        status: Status::Read,
+        written: "",
+        told: "read fault r.mmp\n",
+        ..INSTALLED
+    },
+    Row {
+        name: "a call of the store that does not come",
+        store: Device::Fails(3),
+        ..INSTALLED
+    },
+    Row {
+        name: "the write to the output",
+        out: Device::Fails(1),
+        status: Status::Write,
+        written: "",
+        told: "",
+        ..INSTALLED
+    },
+    Row {
+        name: "the write to the output, after a part",
+        out: Device::Room(7),
+        status: Status::Write,
+        written: "$c ( ) ",
+        told: "",
+        ..INSTALLED
+    },
+    Row {
+        name: "the write to the log",
+        log: Device::Fails(1),
+        status: Status::Write,
+        told: "",
+        ..INSTALLED
+    },
+];
+
 // Calls the program over a store, and compares with the row.
 fn check_over(
     rt: &impl Abort,
@@ -224,6 +278,12 @@ fn worksheets_to_the_output(rt: HostRuntime) -> Result<(), Fail> {
 #[test]
 fn worksheets_in_place(rt: HostRuntime) -> Result<(), Fail> {
     check_rows(&rt, rt.alloc(), IN_PLACE, PLACE_ROWS)
+}
+
+// The database that is read stays as it was.
+#[test]
+fn databases_with_a_theorem(rt: HostRuntime) -> Result<(), Fail> {
+    check_rows(&rt, rt.alloc(), INTO_DATABASE, INSTALLED_ROWS)
 }
 
 // What was put in its own place is put there again.

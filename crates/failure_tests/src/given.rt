@@ -34,6 +34,29 @@ $= wph wps r.1 r.2 ax-mp $.
 $)
 ";
 
+/// The database with the theorem.
+pub const DATABASE_WITH_IT: &str = "$c ( ) -> -. wff |- $.
+$v ph ps ch $.
+wph $f wff ph $.
+wps $f wff ps $.
+wch $f wff ch $.
+wn $a wff -. ph $.
+wi $a wff ( ph -> ps ) $.
+${
+  min $e |- ph $.
+  maj $e |- ( ph -> ps ) $.
+  ax-mp $a |- ps $.
+$}
+ax-1 $a |- ( ph -> ( ps -> ph ) ) $.
+ax-2 $a |- ( ( ph -> ( ps -> ch ) ) -> ( ( ph -> ps ) -> ( ph -> ch ) ) ) $.
+${
+r.1 $e |- ph $.
+r.2 $e |- ( ph -> ps ) $.
+r $p |- ps $= wph wps r.1 r.2 ax-mp $.
+$}
+
+";
+
 /// The report on it.
 pub const REPORT: &str = "1 hyp
 2 hyp
@@ -46,3 +69,6 @@ pub const TO_OUTPUT: &[&str] = &["unify", "--proof=normal", "P.mm", "r.mmp"];
 
 /// The words that write it in the place of the worksheet.
 pub const IN_PLACE: &[&str] = &["unify", "--proof=normal", "--in-place", "P.mm", "r.mmp"];
+
+/// The words that write the database with its theorem to the output.
+pub const INTO_DATABASE: &[&str] = &["install", "--proof=normal", "P.mm", "r.mmp"];
