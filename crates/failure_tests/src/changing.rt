@@ -82,6 +82,15 @@ const VANISHING: &[Row] = &[
         ..REPLACED
     },
     Row {
+        name: "all is gone once it is read, and the database is written with the theorem",
+        words: INTO_DATABASE,
+        finds: &[Answer::Text(PROP), Answer::Text(SHEET)],
+        out: DATABASE_WITH_IT,
+        asked: BOTH_READ,
+        put: "",
+        ..REPLACED
+    },
+    Row {
         name: "the database of a check is gone",
         words: &["verify", "P.mm", "th"],
         ..NOTHING
@@ -173,15 +182,6 @@ const CHANGING: &[Row] = &[
         log: "sheet error 66 UnknownSymbol at line 2\n",
         asked: BOTH_READ,
         ..NOTHING
-    },
-    Row {
-        name: "all is gone once it is read, and the database is written with the theorem",
-        words: INTO_DATABASE,
-        finds: &[Answer::Text(PROP), Answer::Text(SHEET)],
-        out: DATABASE_WITH_IT,
-        asked: BOTH_READ,
-        put: "",
-        ..REPLACED
     },
     Row {
         name: "the worksheet is written before it is read",
