@@ -130,13 +130,6 @@ pub fn call_over(alloc: Global, words: &[&str], outside: Outside<'_>) -> Result<
     Ok(Ended { status, out, log })
 }
 
-/// Compares what a call ended with.
-pub fn compare(rt: &impl Abort, ended: &Ended, want: Want<'_>) {
-    assert_eq!(rt; ended.log.bytes(), want.log.as_bytes());
-    assert_eq!(rt; ended.out.bytes(), want.out);
-    assert_eq!(rt; ended.status, want.status);
-}
-
 /// The bytes as a text, so that a failed assertion shows it. What is wanted is always a text.
 pub fn text_of(bytes: &[u8]) -> &str {
     match str::from_utf8(bytes) {
@@ -154,6 +147,11 @@ pub fn compare_row(rt: &impl Abort, row: &str, ended: &Ended, want: Want<'_>) {
         "output: {row}"
     );
     assert_eq!(rt; ended.status, want.status, "status: {row}");
+}
+
+/// Compares what a call ended with.
+pub fn compare(rt: &impl Abort, ended: &Ended, want: Want<'_>) {
+    compare_row(rt, "the call", ended, want);
 }
 
 /// Calls the program with these words, and compares.
