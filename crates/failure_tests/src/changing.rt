@@ -1,7 +1,7 @@
 //! Files that vanish or change between two calls of the store, and calls that want memory.
 
 use crate::calls::{Device, Want, call, compare, text_of};
-use crate::given::{DATABASE_WITH_IT, IN_PLACE, INTO_DATABASE, PROP, REPORT, SHEET, TO_OUTPUT, WRITTEN};
+use crate::given::{IN_PLACE, INTO_DATABASE, PROP, REPORT, SHEET, TO_OUTPUT, WRITTEN};
 use crate::scripted::{Answer, ScriptedStore};
 use mm_base::Status;
 use std::alloc::Global;
@@ -77,15 +77,6 @@ const VANISHING: &[Row] = &[
         words: TO_OUTPUT,
         finds: &[Answer::Text(PROP), Answer::Text(SHEET)],
         out: WRITTEN,
-        asked: BOTH_READ,
-        put: "",
-        ..REPLACED
-    },
-    Row {
-        name: "all is gone once it is read, and the database is written with the theorem",
-        words: INTO_DATABASE,
-        finds: &[Answer::Text(PROP), Answer::Text(SHEET)],
-        out: DATABASE_WITH_IT,
         asked: BOTH_READ,
         put: "",
         ..REPLACED

@@ -34,22 +34,8 @@ $= wph wps r.1 r.2 ax-mp $.
 $)
 ";
 
-/// The database with the theorem.
-pub const DATABASE_WITH_IT: &str = "$c ( ) -> -. wff |- $.
-$v ph ps ch $.
-wph $f wff ph $.
-wps $f wff ps $.
-wch $f wff ch $.
-wn $a wff -. ph $.
-wi $a wff ( ph -> ps ) $.
-${
-  min $e |- ph $.
-  maj $e |- ( ph -> ps ) $.
-  ax-mp $a |- ps $.
-$}
-ax-1 $a |- ( ph -> ( ps -> ph ) ) $.
-ax-2 $a |- ( ( ph -> ( ps -> ch ) ) -> ( ( ph -> ps ) -> ( ph -> ch ) ) ) $.
-${
+/// What is written behind the database where its theorem is put in.
+pub const BLOCK: &str = "${
 r.1 $e |- ph $.
 r.2 $e |- ( ph -> ps ) $.
 r $p |- ps $= wph wps r.1 r.2 ax-mp $.

@@ -5,7 +5,7 @@ use crate::calls::{
 };
 use crate::databases::{ANY, DEMO, FORMS, PROP, SETS, SETS_TWICE, THEOREMS};
 use crate::row::{GIVEN, NAMED, NORMAL, USUAL};
-use crate::rows::DEMO_STEPS;
+use crate::rows::{DEMO_LABELS, DEMO_PROOF, DEMO_REPORT, DEMO_STEPS, IDENTITY_STEPS};
 use mm_base::Status;
 use std::alloc::Global;
 use std::process::Abort;
@@ -107,14 +107,8 @@ const EXPORTED: &[Exported] = &[
         options: USUAL,
         label: "th1",
         steps: DEMO_STEPS,
-        tail: "$= ( tze tpl weq a2 wim a1 mp ) ABCZADZAADZAEZJJKFLIAAGHH $.
-",
-        log: "1 fits a2
-2 fits a1
-3 fits mp
-qed fits mp
-finished
-",
+        tail: DEMO_PROOF,
+        log: DEMO_REPORT,
     },
     Exported {
         shows: "the same with its labels",
@@ -122,14 +116,8 @@ finished
         options: NORMAL,
         label: "th1",
         steps: DEMO_STEPS,
-        tail: "$= tt tze tpl tt weq tt tt weq tt a2 tt tze tpl tt weq tt tze tpl tt weq tt tt weq wim tt a2 tt tze tpl tt tt a1 mp mp $.
-",
-        log: "1 fits a2
-2 fits a1
-3 fits mp
-qed fits mp
-finished
-",
+        tail: DEMO_LABELS,
+        log: DEMO_REPORT,
     },
     Exported {
         shows: "one use of an axiom",
@@ -149,12 +137,7 @@ finished
         database: &[PROP, IDENTITY],
         options: USUAL,
         label: "id",
-        steps: "1::ax-1 |- ( ph -> ( ph -> ph ) )
-2::ax-1 |- ( ph -> ( ( ph -> ph ) -> ph ) )
-3::ax-2 |- ( ( ph -> ( ( ph -> ph ) -> ph ) ) -> ( ( ph -> ( ph -> ph ) ) -> ( ph -> ph ) ) )
-4:2,3:ax-mp |- ( ( ph -> ( ph -> ph ) ) -> ( ph -> ph ) )
-qed:1,4:ax-mp |- ( ph -> ph )
-",
+        steps: IDENTITY_STEPS,
         tail: "$= ( wi ax-1 ax-2 ax-mp ) AAABZBZFAACAFABBGFBAFCAFADEE $.
 ",
         log: "1 fits ax-1
