@@ -389,7 +389,7 @@ const NOT_EXPORTED: &[NotExported] = &[
     },
     NotExported {
         shows: "no assertion gives the theorem",
-        database: &[PROP, THEOREMS, HYPOTHESIS],
+        database: &[PROP, HYPOTHESIS],
         options: USUAL,
         label: "idi",
         line: "no worksheet idi\n",
