@@ -18,6 +18,9 @@ import export
 
 FOLDER = "/usr/share/metamath/databases"
 
+# What may be wrong with a worksheet; a proof need not say all, so the second is none.
+OTHER, OPEN, DIFFERS, NOT_AGAIN = "differs from export.py's", "is open without formulas", "differs without formulas", "is not written again"
+
 
 def run(words):
     """Status, output, log and processor seconds."""
@@ -61,7 +64,7 @@ def is_open(sheet):
 
 def reason(log):
     """A line without what it tells of its theorem alone."""
-    return re.sub(r" (at|step|worksheet|size|bytes|labels) .*", "", log.strip().split("\n")[-1])
+    return re.sub(r"( at|(?<=step)|(?<=size)|(?<=bytes)|(?<=labels)|(?<=worksheet)|(?<=theorem)) .*", "", log.strip().split("\n")[-1])
 
 
 def tried(program, path, folder, label, own):
@@ -71,13 +74,13 @@ def tried(program, path, folder, label, own):
         return label, None, reason(log), seconds, []
     wrong = []
     if without_proof(sheet) != own:
-        wrong.append("differs from export.py's")
+        wrong.append(OTHER)
     file = write(f"{folder}/{label}.mmp", sheet)
     if run([program, "unify", path, file])[:2] != (0, sheet):
-        wrong.append("is not written again")
+        wrong.append(NOT_AGAIN)
     again, text, _, _ = run([program, "unify", path, write(file, stripped(sheet))])
     if (again, text) != (0, sheet):
-        wrong.append("open without formulas" if again == 1 and is_open(text) else "differs without formulas")
+        wrong.append(OPEN if again in (0, 1) and is_open(text) else DIFFERS)
     return label, sheet, "", seconds, wrong
 
 
@@ -141,15 +144,14 @@ def measure(program, name, count):
         rows = list(pool.map(lambda label: tried(program, path, folder, label, own[label]), labels))
     sheets = [(row[0], row[1]) for row in rows if row[1] is not None]
     wrong = collections.Counter(what for row in rows for what in row[4])
-    print(f"{name}: {len(labels)} of {len(every)} theorems, {len(sheets)} worksheets, {len(sheets) - wrong['differs from export.py' + chr(39) + 's']}"
-          f" as those of export.py, {len(sheets) - wrong['is not written again']} written again,"
-          f" {len(sheets) - wrong['open without formulas'] - wrong['differs without formulas']} also without formulas,"
-          f" {wrong['open without formulas']} open without formulas", flush=True)
+    print(f"{name}: {len(labels)} of {len(every)} theorems, {len(sheets)} worksheets, {len(sheets) - wrong[OTHER]} as those of export.py,"
+          f" {len(sheets) - wrong[NOT_AGAIN]} written again, {len(sheets) - wrong[OPEN] - wrong[DIFFERS]} also without formulas,"
+          f" {wrong[OPEN]} open without formulas", flush=True)
     for line, number in collections.Counter(row[2] for row in rows if row[1] is None).most_common():
         print(f"    none: {number} {line}; first {next(row[0] for row in rows if row[1] is None and row[2] == line)}")
     for row in rows:
         for what in row[4]:
-            if what != "open without formulas":
+            if what != OPEN:
                 print(f"    {row[0]} {what}")
     if sheets:
         text, last, names, lines = put_in(program, path, folder, sheets)
