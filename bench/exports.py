@@ -55,7 +55,7 @@ def stripped(sheet):
 def renamed(sheet, label, name):
     """A new theorem behind the old one."""
     text = without_proof(sheet).replace(f"THEOREM={label} LOC_AFTER=?", f"THEOREM={name} LOC_AFTER={label}", 1)
-    return re.sub(r"^(h\d+::)(\S+)", lambda m: f"{m[1]}new.{m[2]}", text, flags=re.M).encode()
+    return re.sub(r"^h(\d+)::\S+", lambda m: f"h{m[1]}::{name}.{m[1]}", text, flags=re.M).encode()
 
 
 def is_open(sheet):
