@@ -1,5 +1,5 @@
 #!/usr/bin/env python3
-"""Prints the worksheets of proofs as an exporter of its own makes them, to compare with the program's, which bench/export.rt.txt prints.
+"""Prints the worksheets of proofs as an exporter of its own makes them; bench/exports.py compares the program's with them.
     bench/export.py DATABASE [LABEL..]      all theorems where no label is given
 """
 import sys

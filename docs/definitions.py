@@ -92,23 +92,25 @@ ORDER = [
         ("WrittenAgain", "laws: written again as itself, and the answer is one", ""),
     ]),
     ("export_model", "Proofs of a database as worksheets.", [
-        ("Exported", "the worksheet of an accepted proof", ""),
+        ("Exported", "the worksheet of an accepted proof", "FORMAT, Proofs as worksheets"),
     ]),
     ("install_model", "A worksheet's theorem put into the text of a database.", [
-        ("Installed", "where a theorem goes, and the text with it", ""),
-        ("InstallAnswers", "the answer to a worksheet whose theorem is to be put in", ""),
+        ("Installed", "where a theorem goes, and the text with it", "FORMAT, Theorems put into a database"),
+        ("InstallAnswers", "the answer to a worksheet whose theorem is to be put in", "FORMAT, Theorems put into a database"),
     ]),
     ("call_answers", "What a call of the program answers.", [
         ("CommandLine", "the words of the command line", "FORMAT, Command words"),
         ("Verified", "what `verify` says of a label", "FORMAT, The proof code, The stack machine"),
         ("Endings", "what an answer has for the output and for the log, and its status", "FORMAT, Statuses"),
         ("Trial", "the trial of the program by itself", "FORMAT, The trial"),
+        ("Exports", "what `export` answers to an accepted proof", "FORMAT, Proofs as worksheets"),
+        ("PutsIn", "what `install` answers to a worksheet", "FORMAT, Theorems put into a database"),
         ("CallAnswers", "the answer by cases: the main theorem", "FORMAT, Statuses"),
         ("Given", "what a call leaves behind of its answer in files, output and log", "FORMAT, Statuses"),
     ]),
 ]
 
-LAWS = ["model_laws", "theorem_laws", "proof_laws", "solve_laws", "sheet_laws", "chain_laws", "again_laws", "answer_laws", "push_laws", "writing_laws", "headline_laws", "phase_laws", "filling_laws", "whole_laws", "install_laws"]
+LAWS = ["model_laws", "theorem_laws", "proof_laws", "solve_laws", "sheet_laws", "chain_laws", "again_laws", "answer_laws", "push_laws", "writing_laws", "headline_laws", "phase_laws", "filling_laws", "whole_laws", "install_laws", "installed_laws", "fitting_laws", "export_laws", "kept_laws"]
 
 # The statements that no contract names, by crate and file.
 STATED = []

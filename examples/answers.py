@@ -1,5 +1,6 @@
 #!/usr/bin/env python3
-"""Runs the program on the examples, and writes README.md beside them with each worksheet, the command and the answer.
+"""Runs the program on the examples, and writes README.md beside them with each worksheet, the command and the answer, and the files
+that are answers themselves.
 
     examples/answers.py PROGRAM [SET_MM]     PROGRAM: the built mmp, as crates/mmp/out/mmp; SET_MM: the database set.mm, else that of
                                              Debian's package metamath-databases
@@ -60,11 +61,34 @@ PARTS = [
         (None, ["verify", "V.mm", "ax-1"], 8, "An axiom has no proof."),
         (None, ["verify", SET, "2p2e4"], 0, "Over set.mm."),
     ]),
+    ("Proofs as worksheets", "", [
+        (None, ["export", "demo0.mm", "th1"], 0, "The first example of the Metamath book. The answer is `book_exported.mmp`."),
+        ("book_exported.mmp", ["unify", "demo0.mm"], 0, "That worksheet is written again as it is."),
+        (None, ["export", "--proof=normal", "V.mm", "good"], 0, "One use of an axiom."),
+        (None, ["export", "V.mm", "bad"], 8, "A proof that is refused."),
+        (None, ["export", SET, "idi"], 8, "A theorem that no assertion gives: it is its own hypothesis."),
+        (None, ["export", SET, "3p2e5"], 0, "Over set.mm."),
+    ]),
+    ("Theorems put into a database", "", [
+        ("modus_ponens.mmp", ["install", "P.mm"], 0, "Two hypotheses, at the end of the database. The answer is `P_with_r.mm`."),
+        (None, ["verify", "P_with_r.mm", "r"], 0, "In it the proof is accepted."),
+        ("after_a_label_finished.mmp", ["install", "P.mm"], 0, "Within the database."),
+        ("missing_step_finished.mmp", ["install", "P.mm"], 0, "A step and a reference that are found."),
+        ("distinct_finished.mmp", ["install", "Q.mm"], 0, "Distinct variables."),
+        ("no_fit.mmp", ["install", "P.mm"], 1, "A worksheet that is not finished."),
+        ("book_finished.mmp", ["install", "demo0.mm"], 3, "A theorem that the database has."),
+    ]),
     ("The program by itself", "", [
         (None, ["trial", "3"], 0, "A worksheet of three blocks."),
         (None, ["unify", "P.mm"], 4, "Words that fit no command."),
         (None, ["unify", "P.mm", "nothing.mmp"], 5, "A file that is not there."),
     ]),
+]
+
+# The files here that are answers, each with its command.
+ANSWERS = [
+    ("book_exported.mmp", ["export", "demo0.mm", "th1"]),
+    ("P_with_r.mm", ["install", "P.mm", "modus_ponens.mmp"]),
 ]
 
 HEAD = """# Examples
@@ -98,6 +122,9 @@ def shown(program, sheet, words, status, about, database):
 def main():
     program = os.path.abspath(sys.argv[1])
     database = sys.argv[2] if len(sys.argv) > 2 else SET
+    for name, words in ANSWERS:
+        with open(os.path.join(HERE, name), "wb") as file:
+            subprocess.run([program] + words, cwd=HERE, stdout=file, stderr=subprocess.DEVNULL, check=True)
     out = [HEAD]
     for title, about, examples in PARTS:
         out += [f"## {title}", ""] + ([about, ""] if about else [])

@@ -1,7 +1,7 @@
 //! Files that vanish or change between two calls of the store, and calls that want memory.
 
 use crate::calls::{Device, Want, call, compare, text_of};
-use crate::given::{IN_PLACE, PROP, REPORT, SHEET, TO_OUTPUT, WRITTEN};
+use crate::given::{IN_PLACE, INTO_DATABASE, PROP, REPORT, SHEET, TO_OUTPUT, WRITTEN};
 use crate::scripted::{Answer, ScriptedStore};
 use mm_base::Status;
 use std::alloc::Global;
@@ -118,6 +118,23 @@ const WANTING: &[Row] = &[
         finds: &[Answer::NoMemory],
         status: Status::Memory,
         log: "",
+        ..NOTHING
+    },
+    Row {
+        name: "no memory for the database of an export",
+        words: &["export", "P.mm", "th"],
+        finds: &[Answer::NoMemory],
+        status: Status::Memory,
+        log: "",
+        ..NOTHING
+    },
+    Row {
+        name: "no memory for a worksheet that is to be put in",
+        words: INTO_DATABASE,
+        finds: &[Answer::Text(PROP), Answer::NoMemory],
+        status: Status::Memory,
+        log: "",
+        asked: BOTH_READ,
         ..NOTHING
     },
 ];

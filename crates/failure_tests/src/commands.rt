@@ -1,4 +1,4 @@
-//! Commands over devices that fail, where the output gets one line or none.
+//! Commands over devices that fail, but for worksheets and databases that are written.
 
 use crate::calls::{Device, Want, call, compare, store_of};
 use mm_base::Status;
@@ -100,6 +100,76 @@ const VERIFYING: &[Row] = &[
     },
 ];
 
+const EXPORTED: Row = Row {
+    name: "the worksheet of a right proof",
+    words: &["export", "P.mm", "good"],
+    store: Device::Fails(2),
+    out: Device::Fails(2),
+    log: Device::Fails(2),
+    status: Status::Finished,
+    written: "$( <MM> <PROOF_ASST> THEOREM=good LOC_AFTER=?
+qed::any |- ph
+$= ( any ) AB $.
+$)
+",
+    told: "qed fits any
+finished
+",
+};
+
+const EXPORTING: &[Row] = &[
+    EXPORTED,
+    Row {
+        name: "no database for the worksheet of a right proof",
+        store: Device::Fails(1),
+        status: Status::Read,
+        written: "",
+        told: "read fault P.mm\n",
+        ..EXPORTED
+    },
+    Row {
+        name: "no output for the worksheet of a right proof",
+        out: Device::Fails(1),
+        status: Status::Write,
+        written: "",
+        told: "",
+        ..EXPORTED
+    },
+    Row {
+        name: "room for a part of the worksheet of a right proof",
+        out: Device::Room(7),
+        status: Status::Write,
+        written: "$( <MM>",
+        told: "",
+        ..EXPORTED
+    },
+    Row {
+        name: "no log for the worksheet of a right proof",
+        log: Device::Fails(1),
+        status: Status::Write,
+        told: "",
+        ..EXPORTED
+    },
+    Row {
+        name: "a wrong proof that is to be a worksheet",
+        words: &["export", "P.mm", "bad"],
+        out: Device::Fails(1),
+        status: Status::Proof,
+        written: "",
+        told: "code error 3 MarkAtStart at 0\n",
+        ..EXPORTED
+    },
+    Row {
+        name: "no log for a wrong proof that is to be a worksheet",
+        words: &["export", "P.mm", "bad"],
+        log: Device::Fails(1),
+        status: Status::Write,
+        written: "",
+        told: "",
+        ..EXPORTED
+    },
+];
+
 const TRIAL: Row = Row {
     name: "a trial",
     words: &["trial", "1"],
@@ -174,6 +244,17 @@ const OTHERS: &[Row] = &[
         ..TRIAL
     },
     Row {
+        name: "a text that is no worksheet, to be put in",
+        words: &["install", "P.mm", "r.mmp"],
+        store: Device::Fails(3),
+        out: Device::Fails(1),
+        log: Device::Fails(2),
+        status: Status::Sheet,
+        written: "",
+        told: "sheet error 40 NoHeader at line 1\n",
+        ..TRIAL
+    },
+    Row {
         name: "no log for a text that is no database",
         words: &["unify", "r.mmp", "P.mm"],
         store: Device::Fails(2),
@@ -207,6 +288,11 @@ fn check_rows(rt: &impl Abort, alloc: Global, rows: &[Row]) -> Result<(), Fail> 
 #[test]
 fn proofs_over_failing_devices(rt: HostRuntime) -> Result<(), Fail> {
     check_rows(&rt, rt.alloc(), VERIFYING)
+}
+
+#[test]
+fn worksheets_of_proofs_over_failing_devices(rt: HostRuntime) -> Result<(), Fail> {
+    check_rows(&rt, rt.alloc(), EXPORTING)
 }
 
 #[test]

@@ -1,7 +1,7 @@
 //! A worksheet over devices of which each call fails in turn.
 
 use crate::calls::{Device, Want, call, compare, store_of, text_of};
-use crate::given::{IN_PLACE, PROP, REPORT, SHEET, TO_OUTPUT, WRITTEN};
+use crate::given::{BLOCK, IN_PLACE, INTO_DATABASE, PROP, REPORT, SHEET, TO_OUTPUT, WRITTEN};
 use mm_base::{MemStore, Status};
 use std::alloc::Global;
 use std::process::Abort;
@@ -15,6 +15,8 @@ struct Row {
     out: Device,
     log: Device,
     status: Status,
+    // A text before what is written, or none.
+    front: &'static str,
     written: &'static str,
     told: &'static str,
     file: &'static str,
@@ -27,6 +29,7 @@ const OUTPUT: Row = Row {
     out: Device::Sound,
     log: Device::Sound,
     status: Status::Finished,
+    front: "",
     written: WRITTEN,
     told: REPORT,
     file: SHEET,
@@ -176,6 +179,65 @@ const PLACE_ROWS: &[Row] = &[
     },
 ];
 
+// The database is written with the theorem of the worksheet.
+const INSTALLED: Row = Row {
+    front: PROP,
+    written: BLOCK,
+    ..OUTPUT
+};
+
+const INSTALLED_ROWS: &[Row] = &[
+    INSTALLED,
+    Row {
+        name: "the read of the database",
+        store: Device::Fails(1),
+        status: Status::Read,
+        front: "",
+        written: "",
+        told: "read fault P.mm\n",
+        ..INSTALLED
+    },
+    Row {
+        name: "the read of the worksheet",
+        store: Device::Fails(2),
+        status: Status::Read,
+        front: "",
+        written: "",
+        told: "read fault r.mmp\n",
+        ..INSTALLED
+    },
+    Row {
+        name: "a call of the store that does not come",
+        store: Device::Fails(3),
+        ..INSTALLED
+    },
+    Row {
+        name: "the write to the output",
+        out: Device::Fails(1),
+        status: Status::Write,
+        front: "",
+        written: "",
+        told: "",
+        ..INSTALLED
+    },
+    Row {
+        name: "the write to the output, after a part",
+        out: Device::Room(7),
+        status: Status::Write,
+        front: "",
+        written: "$c ( ) ",
+        told: "",
+        ..INSTALLED
+    },
+    Row {
+        name: "the write to the log",
+        log: Device::Fails(1),
+        status: Status::Write,
+        told: "",
+        ..INSTALLED
+    },
+];
+
 // Calls the program over a store, and compares with the row.
 fn check_over(
     rt: &impl Abort,
@@ -185,9 +247,11 @@ fn check_over(
     store: &mut MemStore,
 ) -> Result<(), Fail> {
     let ended = call(alloc, words, store, row.out, row.log)?;
+    let mut written = Vec::from_slice(alloc, row.front.as_bytes())?;
+    written.extend_from_slice(row.written.as_bytes())?;
     let want = Want {
         status: row.status,
-        out: row.written.as_bytes(),
+        out: written.as_slice(),
         log: row.told,
     };
     compare(rt, row.name, &ended, want);
@@ -224,6 +288,12 @@ fn worksheets_to_the_output(rt: HostRuntime) -> Result<(), Fail> {
 #[test]
 fn worksheets_in_place(rt: HostRuntime) -> Result<(), Fail> {
     check_rows(&rt, rt.alloc(), IN_PLACE, PLACE_ROWS)
+}
+
+// The database that is read stays as it was.
+#[test]
+fn databases_with_a_theorem(rt: HostRuntime) -> Result<(), Fail> {
+    check_rows(&rt, rt.alloc(), INTO_DATABASE, INSTALLED_ROWS)
 }
 
 // What was put in its own place is put there again.

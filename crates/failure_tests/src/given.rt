@@ -34,6 +34,15 @@ $= wph wps r.1 r.2 ax-mp $.
 $)
 ";
 
+/// What is written behind the database where its theorem is put in.
+pub const BLOCK: &str = "${
+r.1 $e |- ph $.
+r.2 $e |- ( ph -> ps ) $.
+r $p |- ps $= wph wps r.1 r.2 ax-mp $.
+$}
+
+";
+
 /// The report on it.
 pub const REPORT: &str = "1 hyp
 2 hyp
@@ -46,3 +55,6 @@ pub const TO_OUTPUT: &[&str] = &["unify", "--proof=normal", "P.mm", "r.mmp"];
 
 /// The words that write it in the place of the worksheet.
 pub const IN_PLACE: &[&str] = &["unify", "--proof=normal", "--in-place", "P.mm", "r.mmp"];
+
+/// The words that write the database with its theorem to the output.
+pub const INTO_DATABASE: &[&str] = &["install", "--proof=normal", "P.mm", "r.mmp"];

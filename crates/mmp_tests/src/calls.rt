@@ -63,6 +63,32 @@ pub fn joined(alloc: Global, parts: &[&str]) -> Result<Vec<u8>, AllocError> {
     Ok(text)
 }
 
+/// The words of a command: the first, its options, and the two behind them.
+pub fn command(
+    alloc: Global,
+    first: &'static str,
+    options: &[&'static str],
+    behind: [&'static str; 2],
+) -> Result<Vec<&'static str>, AllocError> {
+    let mut words = Vec::new(alloc);
+    words.push(first)?;
+    words.extend_from_slice(options)?;
+    for word in behind {
+        words.push(word)?;
+    }
+    Ok(words)
+}
+
+/// The text of a worksheet: what its header says of the theorem and its place, and the lines up to the footer.
+pub fn sheet(alloc: Global, header: &str, lines: &[&str]) -> Result<Vec<u8>, AllocError> {
+    let mut text = joined(alloc, &["$( <MM> <PROOF_ASST> THEOREM=", header, "\n"])?;
+    for part in lines {
+        text.extend_from_slice(part.as_bytes())?;
+    }
+    text.extend_from_slice(b"$)\n")?;
+    Ok(text)
+}
+
 fn words_of(alloc: Global, words: &[&str]) -> Result<Vec<String>, AllocError> {
     let mut all = Vec::new(alloc);
     for word in words {
@@ -104,11 +130,28 @@ pub fn call_over(alloc: Global, words: &[&str], outside: Outside<'_>) -> Result<
     Ok(Ended { status, out, log })
 }
 
+/// The bytes as a text, so that a failed assertion shows it. What is wanted is always a text.
+pub fn text_of(bytes: &[u8]) -> &str {
+    match str::from_utf8(bytes) {
+        Ok(text) => text,
+        Err(_) => "bytes that are no text",
+    }
+}
+
+/// Compares what a call ended with, and tells at which row it differs.
+pub fn compare_row(rt: &impl Abort, row: &str, ended: &Ended, want: Want<'_>) {
+    assert_eq!(rt; text_of(ended.log.bytes()), want.log, "log: {row}");
+    assert_eq!(rt;
+        text_of(ended.out.bytes()),
+        text_of(want.out),
+        "output: {row}"
+    );
+    assert_eq!(rt; ended.status, want.status, "status: {row}");
+}
+
 /// Compares what a call ended with.
 pub fn compare(rt: &impl Abort, ended: &Ended, want: Want<'_>) {
-    assert_eq!(rt; ended.log.bytes(), want.log.as_bytes());
-    assert_eq!(rt; ended.out.bytes(), want.out);
-    assert_eq!(rt; ended.status, want.status);
+    compare_row(rt, "the call", ended, want);
 }
 
 /// Calls the program with these words, and compares.

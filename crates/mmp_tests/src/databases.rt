@@ -115,6 +115,17 @@ pub const DECLARED: &str = "$c &W1 $.
 pub const GOOD: &str = "good $p |- ( ph -> ( ps -> ph ) ) $= ( ax-1 ) ABC $.
 ";
 
+/// Behind `PROP`: theorems over implications, with a right proof and with wrong ones.
+pub const THEOREMS: &str = "\
+good $p |- ( ph -> ( ps -> ph ) ) $= ( ax-1 ) ABC $.\n\
+bad $p |- ( ph -> ( ps -> ph ) ) $= ( ) ZA $.\n\
+wrong $p |- ( ph -> ( ph -> ph ) ) $= wph wps ax-1 $.\n\
+open $p |- ph $= ? $.\n\
+empty $p |- ph $= $.\n\
+late $p |- ( ph -> ( ps -> ph ) ) $= wph wps last $.\n\
+last $p |- ( ph -> ( ps -> ph ) ) $= $( the same $) wph wps ax-1 $.\n\
+";
+
 /// A production whose variables stand in another order than its frame has them.
 pub const TURNED: &str = "$c ( ) ~> wff |- $. $v p q $. wp $f wff p $. wq $f wff q $.
 wr $a wff ( q ~> p ) $. ax $a |- ( q ~> p ) $.

@@ -109,6 +109,14 @@ fn databases_are_refused(rt: HostRuntime) -> Result<(), Fail> {
             want,
         )?;
         check(&rt, rt.alloc(), &["verify", "P.mm", "th"], outside, want)?;
+        check(&rt, rt.alloc(), &["export", "P.mm", "th"], outside, want)?;
+        check(
+            &rt,
+            rt.alloc(),
+            &["install", "P.mm", "r.mmp"],
+            outside,
+            want,
+        )?;
     }
     Ok(())
 }

@@ -1,5 +1,5 @@
 //! Tests of whole calls of the program over files and sinks in memory: their words, worksheets that are unified, proofs that
-//! are checked, trials, and files that are refused.
+//! are checked or become worksheets, theorems that are put into databases, trials, and files that are refused.
 #![tactic(auto)]
 
 #[cfg(test)]
@@ -9,7 +9,11 @@ mod databases;
 #[cfg(test)]
 mod ends;
 #[cfg(test)]
+mod exports;
+#[cfg(test)]
 mod files;
+#[cfg(test)]
+mod installs;
 #[cfg(test)]
 mod library;
 #[cfg(test)]

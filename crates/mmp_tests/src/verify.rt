@@ -1,20 +1,9 @@
 //! Proofs that are checked.
 
 use crate::calls::{Outside, Want, check, honest, joined};
-use crate::databases::{DEMO, PROP};
+use crate::databases::{DEMO, PROP, THEOREMS};
 use mm_base::Status;
 use std::test::Fail;
-
-// Theorems over implications, with a right proof and with wrong ones.
-const THEOREMS: &str = "\
-good $p |- ( ph -> ( ps -> ph ) ) $= ( ax-1 ) ABC $.\n\
-bad $p |- ( ph -> ( ps -> ph ) ) $= ( ) ZA $.\n\
-wrong $p |- ( ph -> ( ph -> ph ) ) $= wph wps ax-1 $.\n\
-open $p |- ph $= ? $.\n\
-empty $p |- ph $= $.\n\
-late $p |- ( ph -> ( ps -> ph ) ) $= wph wps last $.\n\
-last $p |- ( ph -> ( ps -> ph ) ) $= $( the same $) wph wps ax-1 $.\n\
-";
 
 // A theorem, and what is said of its proof.
 #[derive(Clone, Copy)]

@@ -7,9 +7,9 @@ use std::test::Fail;
 
 const USAGE: &str =
     "usage: mmp unify [--proof=normal|compressed] [--in-place] [--dv=add|given] [--provable=T] [--logic=T] DB SHEET | \
-mmp verify DB LABEL | mmp trial N\n";
+mmp verify DB LABEL | mmp trial N | mmp export [options] DB LABEL | mmp install [options] DB SHEET\n";
 
-const WRONG: [&[&str]; 30] = [
+const WRONG: [&[&str]; 60] = [
     &[],
     &[""],
     &["check", "P.mm", "r.mmp"],
@@ -46,10 +46,40 @@ const WRONG: [&[&str]; 30] = [
     &["trial", "01"],
     &["trial", "1001"],
     &["trial", "1", "2"],
+    &["export"],
+    &["export", "P.mm"],
+    &["export", "P.mm", ""],
+    &["export", "", "th"],
+    &["export", "P.mm", "--th"],
+    &["export", "P.mm", "th", "th"],
+    &["export", "P.mm", "--proof=normal", "th"],
+    &["export", "P.mm", "th", "--proof=normal"],
+    &["export", "--in-place", "P.mm", "th"],
+    &["export", "--proof=normal", "--in-place", "P.mm", "th"],
+    &["export", "--proof=short", "P.mm", "th"],
+    &["export", "--dv=add", "--dv=given", "P.mm", "th"],
+    &["export", "--provable=", "P.mm", "th"],
+    &["export", "--provable=wff", "P.mm", "th"],
+    &["export", "--logic=T", "--provable=T", "P.mm", "th"],
+    &["install"],
+    &["install", "P.mm"],
+    &["install", "P.mm", ""],
+    &["install", "", "r.mmp"],
+    &["install", "P.mm", "--r.mmp"],
+    &["install", "P.mm", "r.mmp", "s.mmp"],
+    &["install", "P.mm", "--proof=normal", "r.mmp"],
+    &["install", "P.mm", "r.mmp", "--proof=normal"],
+    &["install", "--in-place", "P.mm", "r.mmp"],
+    &["install", "--in-place", "--dv=given", "P.mm", "r.mmp"],
+    &["install", "--proof=normal", "--proof=normal", "P.mm", "r.mmp"],
+    &["install", "--dv=some", "P.mm", "r.mmp"],
+    &["install", "--logic", "P.mm", "r.mmp"],
+    &["install", "--logic=|-", "P.mm", "r.mmp"],
+    &["install", "--provable=T", "--logic=T", "P.mm", "r.mmp"],
 ];
 
-// Words of `unify` that are answered by the first fault of the database.
-const RIGHT: [&[&str]; 6] = [
+// Words of commands that are answered by the first fault of the database.
+const RIGHT: [&[&str]; 12] = [
     &["unify", "P.mm", "r.mmp"],
     &["unify", "--proof=normal", "P.mm", "r.mmp"],
     &["unify", "--in-place", "--proof=compressed", "P.mm", "r.mmp"],
@@ -65,6 +95,28 @@ const RIGHT: [&[&str]; 6] = [
         "r.mmp",
     ],
     &["unify", "--provable=wff", "--logic=|-", "P.mm", "r.mmp"],
+    &["export", "P.mm", "th"],
+    &["export", "--proof=normal", "P.mm", "th"],
+    &[
+        "export",
+        "--logic=form",
+        "--dv=given",
+        "--provable=T=U",
+        "--proof=compressed",
+        "P.mm",
+        "th",
+    ],
+    &["install", "P.mm", "r.mmp"],
+    &["install", "--dv=add", "P.mm", "r.mmp"],
+    &[
+        "install",
+        "--proof=normal",
+        "--provable=wff",
+        "--dv=given",
+        "--logic=|-",
+        "P.mm",
+        "r.mmp",
+    ],
 ];
 
 #[test]

@@ -1,7 +1,7 @@
 //! Worksheets that are unified: what is written, what is told, and with which status; and that what is written is written
 //! again as it is.
 
-use crate::calls::{Outside, Want, call_over, check, compare, honest, joined};
+use crate::calls::{Outside, Want, call_over, check, command, compare, honest, joined, sheet};
 use crate::databases::Q;
 use crate::row::Row;
 use crate::rows::{BLANK, DERIVED, DISTINCT, FITTING, FURTHER, PLACED, REFUSED, TOGETHER, TYPED};
@@ -10,30 +10,13 @@ use std::alloc::{AllocError, Global};
 use std::process::Abort;
 use std::test::Fail;
 
-const HEADER: &str = "$( <MM> <PROOF_ASST> THEOREM=";
-
-const FOOTER: &str = "$)\n";
-
-fn words_of(alloc: Global, row: Row) -> Result<Vec<&'static str>, AllocError> {
-    let mut words = Vec::new(alloc);
-    words.push("unify")?;
-    words.extend_from_slice(row.options)?;
-    words.push("P.mm")?;
-    words.push("r.mmp")?;
-    Ok(words)
-}
-
-fn given(alloc: Global, row: Row) -> Result<Vec<u8>, AllocError> {
-    joined(alloc, &[HEADER, row.header, "\n", row.lines, FOOTER])
-}
-
 // The text that is to be written.
 fn wanted(alloc: Global, row: Row) -> Result<Vec<u8>, AllocError> {
     if row.status == Status::Sheet {
         return Ok(Vec::new(alloc));
     }
     let lines = row.written.unwrap_or(row.lines);
-    joined(alloc, &[HEADER, row.header, "\n", lines, row.tail, FOOTER])
+    sheet(alloc, row.header, &[lines, row.tail])
 }
 
 // Unifies what was written again.
@@ -73,18 +56,18 @@ fn check_over(
     database: &[u8],
     row: Row,
 ) -> Result<(), Fail> {
-    let sheet = given(alloc, row)?;
+    let given = sheet(alloc, row.header, &[row.lines])?;
     let text = wanted(alloc, row)?;
     let want = Want {
         status: row.status,
         out: text.as_slice(),
         log: row.log,
     };
-    check_texts(rt, alloc, words, honest(database, sheet.as_slice()), want)
+    check_texts(rt, alloc, words, honest(database, given.as_slice()), want)
 }
 
 fn check_row(rt: &impl Abort, alloc: Global, row: Row) -> Result<(), Fail> {
-    let words = words_of(alloc, row)?;
+    let words = command(alloc, "unify", row.options, ["P.mm", "r.mmp"])?;
     let database = joined(alloc, row.database)?;
     check_over(rt, alloc, words.as_slice(), database.as_slice(), row)
 }

@@ -1,6 +1,6 @@
 use crate::databases::{DEMO, PROP};
 use crate::row::{Row, USUAL};
-use crate::rows::DEMO_STEPS;
+use crate::rows::{DEMO_PROOF, DEMO_REPORT, DEMO_STEPS, IDENTITY_STEPS};
 use mm_base::Status;
 
 /// Formulas that are left out, and what a proof leaves open.
@@ -17,14 +17,8 @@ qed:1,3:mp |- t = t
         options: USUAL,
         status: Status::Finished,
         written: Some(DEMO_STEPS),
-        tail: "$= ( tze tpl weq a2 wim a1 mp ) ABCZADZAADZAEZJJKFLIAAGHH $.
-",
-        log: "1 fits a2
-2 fits a1
-3 fits mp
-qed fits mp
-finished
-",
+        tail: DEMO_PROOF,
+        log: DEMO_REPORT,
     },
     // The identity; what its proof leaves open stays a work variable.
     Row {
@@ -87,14 +81,7 @@ qed:1,4:ax-mp |- ( ph -> ph )
 ",
         options: USUAL,
         status: Status::Finished,
-        written: Some(
-            "1::ax-1 |- ( ph -> ( ph -> ph ) )
-2::ax-1 |- ( ph -> ( ( ph -> ph ) -> ph ) )
-3::ax-2 |- ( ( ph -> ( ( ph -> ph ) -> ph ) ) -> ( ( ph -> ( ph -> ph ) ) -> ( ph -> ph ) ) )
-4:2,3:ax-mp |- ( ( ph -> ( ph -> ph ) ) -> ( ph -> ph ) )
-qed:1,4:ax-mp |- ( ph -> ph )
-",
-        ),
+        written: Some(IDENTITY_STEPS),
         tail: "$= ( wi ax-1 ax-2 ax-mp ) AAABZBZFAACAFABBGFBAFCAFADEE $.
 ",
         log: "1 fits ax-1

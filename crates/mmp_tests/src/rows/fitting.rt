@@ -1,6 +1,6 @@
 use crate::databases::{DEMO, PROP};
 use crate::row::{NORMAL, Row, USUAL};
-use crate::rows::{DEMO_STEPS, MODUS_PONENS};
+use crate::rows::{DEMO_LABELS, DEMO_PROOF, DEMO_REPORT, DEMO_STEPS, MODUS_PONENS};
 use mm_base::Status;
 
 /// Modus ponens, a conclusion that does not fit, a comment, and a theorem of its database.
@@ -82,14 +82,8 @@ finished
         options: USUAL,
         status: Status::Finished,
         written: None,
-        tail: "$= ( tze tpl weq a2 wim a1 mp ) ABCZADZAADZAEZJJKFLIAAGHH $.
-",
-        log: "1 fits a2
-2 fits a1
-3 fits mp
-qed fits mp
-finished
-",
+        tail: DEMO_PROOF,
+        log: DEMO_REPORT,
     },
     Row {
         database: &[DEMO],
@@ -98,13 +92,7 @@ finished
         options: NORMAL,
         status: Status::Finished,
         written: None,
-        tail: "$= tt tze tpl tt weq tt tt weq tt a2 tt tze tpl tt weq tt tze tpl tt weq tt tt weq wim tt a2 tt tze tpl tt tt a1 mp mp $.
-",
-        log: "1 fits a2
-2 fits a1
-3 fits mp
-qed fits mp
-finished
-",
+        tail: DEMO_LABELS,
+        log: DEMO_REPORT,
     },
 ];
