@@ -2,3 +2,4 @@ mod RuleTable
 mod ByteFaults
 mod Walks
 mod WordFaults
+mod ProofBytes

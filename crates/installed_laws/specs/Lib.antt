@@ -1,2 +1,3 @@
 pub mod CanBePutIn
+pub mod FinishedCanBePutIn
 pub mod InstalledFault

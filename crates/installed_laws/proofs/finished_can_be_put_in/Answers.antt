@@ -1,0 +1,5 @@
+use Rattle.installed_laws.proofs.ProofBytes.{written_bytes}
+use Rattle.installed_laws.proofs.finished_can_be_put_in.Goals as goal
+
+pub returns : goal.returns
+returns c = ?
