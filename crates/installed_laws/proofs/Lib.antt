@@ -3,3 +3,5 @@ mod ByteFaults
 mod Walks
 mod WordFaults
 mod ProofBytes
+mod OutsidePlaces
+mod MeantTokens
