@@ -1,9 +1,12 @@
-mod NoFaultLaw
-mod RuleTable
 mod Behind
 mod BlockWalk
 mod BlockWords
 mod ByteFaults
 mod ConstantsApart
+mod MeantTokens
+mod NoFaultLaw
+mod OutsidePlaces
+mod ProofBytes
+mod RuleTable
 mod Walks
 mod WordFaults

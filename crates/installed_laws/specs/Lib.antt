@@ -1,4 +1,4 @@
-pub mod FinishedCanBePutIn
 pub mod CanBePutIn
 pub mod CanBePutInExamples
+pub mod FinishedCanBePutIn
 pub mod InstalledFault
