@@ -13,13 +13,13 @@ use Rattle.mm_model.specs.Words.{words}
 use Rattle.mm_model.specs.Statements.{is_empty, second}
 use Rattle.mm_model.proofs.Scopes.{cond_else}
 use Rattle.install_model.specs.declared.install.NewTheorem.{NewTheorem}
-use Rattle.install_laws.specs.InstalledStatements.{names, HasNoDollar, IsPlain, pair_statement, hyp_statement, theorem_statement}
-use Rattle.install_laws.specs.InstalledNames.{new_labels}
+use Rattle.install_laws.specs.InstalledStatements.{names, HasNoDollar, IsPlain}
 use Rattle.install_laws.proofs.WordLaws.{plain_dollar, names_dollar}
 use Rattle.install_laws.proofs.StatementsLaw.{dollars}
 use Rattle.install_laws.proofs.ActiveLaw.{all_append, inner}
 use Rattle.install_laws.proofs.NamesLaw.{is_plain, symbol_names, label_names, plain_is}
 use Rattle.install_laws.proofs.ActiveNames.{has_kw, path_of, on_path, active_of, variables_of}
+use Rattle.install_model.specs.Moved.{pair_statement, hyp_statement, theorem_statement, new_labels}
 use Rattle.install_laws.proofs.ActiveBlock.{IsNoBrace, opened, closed, within, only_outside}
 use Rattle.installed_laws.proofs.RuleTable.{front, known, known_from, has_proof, constants_of, ever_of, typed_of, labels_of}
 use Rattle.installed_laws.proofs.Walks.{Walk, Each}

@@ -21,12 +21,12 @@ use Rattle.model_laws.proofs.OwnLeaves.{members}
 use Rattle.model_laws.proofs.Passing.{any-reverse, any-take, any-flat}
 use Rattle.install_model.specs.declared.install.NewTheorem.{NewTheorem}
 use Rattle.install_model.specs.Installed.{installed}
-use Rattle.install_laws.specs.InstalledStatements.{names, tokens_of, IsPlain, IsPlainTheorem, block_statements}
-use Rattle.install_laws.specs.InstalledNames.{new_labels}
+use Rattle.install_laws.specs.InstalledStatements.{names, tokens_of, IsPlain, IsPlainTheorem}
 use Rattle.install_laws.proofs.ActiveBlock.{closed}
 use Rattle.install_laws.proofs.ActiveLaw.{inner, backward, block_is}
 use Rattle.install_laws.proofs.ActiveNames.{path_of, path_by, variables_of, variables_by, below_is, map-reverse}
 use Rattle.install_laws.proofs.NamesLaw.{label_names, labels_by, block_labels}
+use Rattle.install_model.specs.Moved.{block_statements, new_labels}
 use Rattle.install_laws.proofs.StatementsLaw.{statements_are_put_in}
 use Rattle.installed_laws.specs.CanBePutIn.{CanBePutIn, is_meant, is_formula, is_pair}
 use Rattle.installed_laws.specs.InstalledFault.{InstalledTextHasNoFault}

@@ -6,5 +6,4 @@ ghost use Rattle.select_model.specs.Selected.{FoundIsTheFirst};
 /// The reference that the search found for a step is the first label that fits it.
 pub fn found_is_the_first()
     ensures { FoundIsTheFirst }
-{
-}
+{}
