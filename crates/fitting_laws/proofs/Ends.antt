@@ -1,7 +1,7 @@
 -- A worksheet whose steps fit as they are written is finished.
-use Rattle.std.specs.Prelude.{◌≡◌, ◌<◌, ◌≤◌, ◌==◌, ◌&&◌, ◌||◌, ◌↔◌, IsTrue, nat_lt, ℕ, zero, suc, Bool, true, false, List, [], ◌∷◌, length, map, take, is_none, Contains, slice_get, Option, Some, None, refl}
+use Rattle.std.specs.Prelude.{◌≡◌, ◌<◌, ◌≤◌, ◌==◌, ◌&&◌, ◌||◌, ℕ, suc, true, List, [], ◌∷◌, length, take, is_none, Contains, slice_get, Some, None, refl}
 use Rattle.std.specs.List.{AllZip, list_all}
-use Rattle.std.proofs.Common.{sym, ap, subst, ◌∙◌, arith, inl, inr, eq-eqb}
+use Rattle.std.proofs.Common.{sym, ap, subst, ◌∙◌, arith, eq-eqb}
 use Rattle.mm_base.specs.declared.symbols.Pair.{Pair}
 use Rattle.mm_base.specs.declared.tree.Tree.{Tree}
 use Rattle.mm_base.specs.Limits.{most_formula_tokens}
@@ -11,7 +11,6 @@ use Rattle.sheet_text.specs.declared.sheet.Given.TheVariants as given
 use Rattle.sheet_text.specs.declared.sheet.SheetStep.{SheetStep}
 use Rattle.solve_model.specs.declared.bound.Bound.{Bound}
 use Rattle.solve_model.specs.Formulas.{IsTheTree, HasTwoTrees}
-use Rattle.solve_model.specs.Firsts.{IsFirstIn}
 use Rattle.solve_model.specs.Solutions.{names_step}
 use Rattle.solve_model.specs.Trees.{Open, open_leaves}
 use Rattle.solve_laws.specs.Instances.{IsClosedTree}
@@ -22,14 +21,11 @@ use Rattle.written_model.specs.declared.report.ReportVerdict.TheVariants as repo
 use Rattle.written_model.specs.Found.{is_ground}
 use Rattle.written_model.specs.Pairs.{clash_of, lack_of}
 use Rattle.written_model.specs.ProofTrees.{is_complete_use, is_complete, Finished}
-use Rattle.written_model.specs.Report.{step_clash}
 use Rattle.written_model.specs.Written.{formula_tokens}
 use Rattle.written_model.specs.WrittenSteps.{Use, WrittenStep}
-use Rattle.again_laws.proofs.Lists.{contains_get, get_contains, some_same, zip_long}
-use Rattle.again_laws.proofs.Orders.{first_stands}
-use Rattle.fitting_laws.specs.FitsAsWritten.{FitsAsListed}
+use Rattle.again_laws.proofs.Lists.{contains_get, some_same, zip_long}
 use Rattle.fitting_laws.specs.FittingBecomesFinished.{FitsAsGiven, fitting_verdict}
-use Rattle.fitting_laws.proofs.Expected.{step_of, IsExpected}
+use Rattle.fitting_laws.proofs.Expected.{IsExpected}
 use Rattle.fitting_laws.proofs.Scenes.{Scene, AreBelow}
 
 ground_of : (t : Tree) → IsClosedTree t → is_ground t ≡ true

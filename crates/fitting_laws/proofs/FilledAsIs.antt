@@ -1,8 +1,7 @@
 -- Nothing is filled where every step fits as it is written.
-use Rattle.std.specs.Prelude.{◌≡◌, ◌⊎◌, ◌<◌, ◌≤◌, ◌+◌, nat_lt, ℕ, zero, suc, Bool, true, false, List, [], ◌∷◌, ◌++◌, length, map, take, drop, Contains, slice_get, slice_index_or, Option, Some, None, refl}
+use Rattle.std.specs.Prelude.{◌≡◌, ◌<◌, ◌+◌, nat_lt, ℕ, zero, suc, Bool, true, false, List, [], ◌∷◌, length, map, take, Contains, slice_get, slice_index_or, Option, Some, None, refl}
 use Rattle.std.specs.List.{AllByRecursion, AllZip}
 use Rattle.std.proofs.Common.{sym, ap, subst, ◌∙◌, arith, inl, inr, append-nil, drop_of_length-le, ltb-true, ltb-false}
-use Rattle.std.proofs.lemmas.Bool.{cases_Bool}
 use Rattle.mm_base.specs.declared.symbols.Pair.{Pair}
 use Rattle.mm_base.specs.declared.tree.Tree.{Tree}
 use Rattle.mm_model.specs.Book.{Database}
@@ -10,9 +9,8 @@ use Rattle.sheet_text.specs.declared.sheet.Given.{Given}
 use Rattle.sheet_text.specs.declared.sheet.Given.TheVariants as given
 use Rattle.sheet_text.specs.declared.sheet.SheetStep.{SheetStep}
 use Rattle.solve_model.specs.declared.bound.Bound.{Bound}
-use Rattle.solve_model.specs.declared.verdict.Verdict.TheVariants as verdict
 use Rattle.solve_model.specs.Solutions.{Valuation, Solves, formula, instance}
-use Rattle.solve_model.specs.Verdicts.{Judgement, accepted, stands, asked, accepted_in}
+use Rattle.solve_model.specs.Verdicts.{Judgement, asked, accepted_in}
 use Rattle.solve_laws.proofs.Elements.{nothing}
 use Rattle.written_model.specs.declared.report.ReportVerdict.TheVariants as report
 use Rattle.written_model.specs.Filled.{filled_step, wanted_by, written_place, use_of}
@@ -21,8 +19,7 @@ use Rattle.written_model.specs.Again.{judgement_by, judgements_from}
 use Rattle.again_laws.proofs.Filling.{IsFilling, IsOwn, IsMade, FillsAt}
 use Rattle.again_laws.proofs.Lists.{get_below, get_within, index_from_get, some_same, zip_long}
 use Rattle.again_laws.proofs.Setting.{SameStep}
-use Rattle.again_laws.proofs.ValuesStay.{judgement_there, judgement_here}
-use Rattle.fitting_laws.specs.FitsAsWritten.{FitsAsListed}
+use Rattle.again_laws.proofs.ValuesStay.{judgement_there}
 use Rattle.fitting_laws.proofs.Expected.{step_of, IsExpected}
 use Rattle.fitting_laws.proofs.Scenes.{Scene, AreBelow, formula_stays}
 use Rattle.fitting_laws.proofs.Values.{use_is}
@@ -145,9 +142,9 @@ module _ (db : Database) (bound : Bound) (pairs : List Pair) (ss : List SheetSte
         j.0,
         j.1,
         o.is ∙ ap (λ m. filled_step (take k numbers) m o.source (formula bound g k) g o.judgement) more
-        ∙ ap (λ p. filled_step (take k numbers) [] o.source (formula bound g k) g p) j.2
-        ∙ ap (λ t. filled_step (take k numbers) [] o.source t g (judgement_by k j.0 j.0.by)) tree
-        ∙ filled_is k within r.source r.tree j.0 j.1 (S.below k r.source r.source_at) o.source (subst (λ x. SameStep x o.source) source s.2) r.is,
+            ∙ ap (λ p. filled_step (take k numbers) [] o.source (formula bound g k) g p) j.2
+            ∙ ap (λ t. filled_step (take k numbers) [] o.source t g (judgement_by k j.0 j.0.by)) tree
+            ∙ filled_is k within r.source r.tree j.0 j.1 (S.below k r.source r.source_at) o.source (subst (λ x. SameStep x o.source) source s.2) r.is,
       )
     where
       none : (ws : List Tree) (ms : List ℕ) → ws ≡ [] → AllZip (FillsAt (trees ds) k) ws ms → ms ≡ []

@@ -1,31 +1,24 @@
 -- A worksheet that fits as it is written becomes finished, or has a fault of size.
-use Rattle.std.specs.Prelude.{◌≡◌, ◌<◌, ◌≤◌, ◌^◌, ◌⊎◌, ℕ, suc, Bool, true, false, List, [], ◌∷◌, ◌++◌, length, map, flat_map, filter_map, take, nat_lt, Contains, slice_get, is_some, Option, Some, None, codes, refl}
+use Rattle.std.specs.Prelude.{◌≡◌, ◌<◌, ◌≤◌, ◌^◌, ℕ, Bool, true, false, List, [], ◌∷◌, ◌++◌, length, map, flat_map, filter_map, take, nat_lt, Contains, slice_get, is_some, Option, Some, None, codes, refl}
 use Rattle.std.specs.List.{AllByRecursion, AllZip, list_all}
 use Rattle.std.proofs.Common.{sym, ap, subst, ◌∙◌, cond, arith, inl, inr}
 use Rattle.std.proofs.lemmas.Bool.{and_parts, and_from, ltb-false}
 use Rattle.std.proofs.lemmas.List.{length-append, length-map}
 use Rattle.std.proofs.lemmas.Slice.Eq.{bytes_eq-Decides}
-use Rattle.std.specs.Str.{bytes_eq}
 use Rattle.fault_lines.specs.Refusals.{Refusal, at_line}
 use Rattle.mm_base.specs.declared.symbols.Pair.{Pair}
 use Rattle.mm_base.specs.declared.symbols.Sym.{Sym}
-use Rattle.mm_base.specs.declared.symbols.Typecode.{Typecode}
 use Rattle.mm_base.specs.declared.tree.Tree.{Tree}
 use Rattle.mm_base.specs.Limits.{most_formula_tokens, most_sheet_bytes}
-use Rattle.mm_model.specs.declared.frames.Hyp.{Hyp}
 use Rattle.mm_model.specs.declared.rows.Leaf.{Leaf}
 use Rattle.mm_model.specs.declared.rows.Leaf.TheVariants as leaf
 use Rattle.mm_model.specs.Faults.{Fault, fault}
 use Rattle.mm_model.specs.Names.{Name}
-use Rattle.mm_model.specs.Labels.{is_label}
 use Rattle.mm_model.specs.Statements.{database_fault}
-use Rattle.mm_model.specs.Texts.{text}
 use Rattle.mm_model.specs.Typed.{IsTyped}
-use Rattle.mm_model.specs.Productions.{essentials}
-use Rattle.mm_model.specs.Book.{Database, IsDatabaseOf, symbol_of, declared_leaf}
+use Rattle.mm_model.specs.Book.{Database, IsDatabaseOf, declared_leaf}
 use Rattle.mm_model.specs.BookFacts.{IsDatabase}
-use Rattle.model_laws.specs.DatabaseLaws.{HasDatabaseFacts, NamesAreWords, IsSymbolName}
-use Rattle.model_laws.proofs.Listed.{Pairwise}
+use Rattle.model_laws.specs.DatabaseLaws.{HasDatabaseFacts, NamesAreWords}
 use Rattle.sheet_text.specs.declared.sheet.Sheet.{Sheet}
 use Rattle.sheet_text.specs.declared.sheet.SheetItem.{SheetItem}
 use Rattle.sheet_text.specs.declared.sheet.SheetItem.TheVariants as item
@@ -43,7 +36,7 @@ use Rattle.solve_model.specs.Bound.{Binds, IsBoundStep, HasTree}
 use Rattle.solve_model.specs.Firsts.{IsFirstOrNone}
 use Rattle.solve_model.specs.Formulas.{IsTheTree, leaf_of, leaf_by, is_known, expression_of}
 use Rattle.solve_model.specs.Solutions.{Solves}
-use Rattle.solve_model.specs.Trees.{Open, work, fresh, Occurs}
+use Rattle.solve_model.specs.Trees.{work, fresh}
 use Rattle.solve_model.specs.Verdicts.{Judgement, accepted_in}
 use Rattle.solve_laws.specs.Instances.{IsClosedTree}
 use Rattle.solve_laws.specs.OneJudgement.{JudgementsAreOne}
@@ -56,19 +49,19 @@ use Rattle.written_model.specs.Named.{name_step}
 use Rattle.written_model.specs.Opened.{IsOpened}
 use Rattle.written_model.specs.ProofTrees.{Finished}
 use Rattle.written_model.specs.ReadBack.{ReadIsSpellable}
-use Rattle.written_model.specs.Written.{Writing, Writes, Answer, Answers, refused, wrote, bad_text, unbound, much, late, written, IsLate, LateFault, IsTooLong, IsAmbiguous, formula_tokens, after_filling}
+use Rattle.written_model.specs.Written.{Writing, Writes, Answer, Answers, refused, bad_text, unbound, much, late, written, LateFault, IsTooLong, IsAmbiguous, formula_tokens, after_filling}
 use Rattle.written_model.specs.WrittenSteps.{WrittenStep, steps_in}
 use Rattle.again_laws.specs.Second.{BindsWithoutLines}
 use Rattle.again_laws.specs.Whole.{AssertionsAreWhole}
 use Rattle.again_laws.proofs.Filling.{IsFilling}
 use Rattle.again_laws.proofs.Lists.{from_filter_map, zip_left, zip_right, zip_long}
-use Rattle.again_laws.proofs.Setting.{Setting, SameStep, setting, step_there, filling_of}
+use Rattle.again_laws.proofs.Setting.{Setting, setting, step_there, filling_of}
 use Rattle.again_laws.proofs.TextLeaves.{work_shown}
 use Rattle.again_laws.proofs.TokenLaws.{declared_no_work}
 use Rattle.again_laws.proofs.TokensStay.{tokens_back}
 use Rattle.push_laws.proofs.Books.{is_book}
 use Rattle.push_laws.proofs.Facts.{IsBook}
-use Rattle.fitting_laws.specs.FitsAsWritten.{IsWhole, FitsAsListed, FitsAsWritten, is_active}
+use Rattle.fitting_laws.specs.FitsAsWritten.{IsWhole, FitsAsWritten, is_active}
 use Rattle.fitting_laws.specs.FittingBecomesFinished.{IsOfSize, long_text, BecomesFinished, FitsAsGiven, FittingBecomesFinished}
 use Rattle.fitting_laws.proofs.BindsAsIs.{binds_as_is}
 use Rattle.fitting_laws.proofs.Ends.{given_as_is, finished as ends_finished, none_long, none_ambiguous}
