@@ -1,5 +1,6 @@
 -- What the label of an assertion pushes: the text of a tree; and where it is provable, a step that fits over formulas given or pushed before.
-use Rattle.std.specs.Prelude.{◌≡◌, ◌<◌, ◌≤◌, ◌==◌, ◌||◌, ℕ, Bool, true, false, List, [], ◌∷◌, length, map, reverse, take, drop, zip, slice_get, Contains, nat_lt, Option, Some, None, Ok, Err, refl}
+use Rattle.std.specs.Prelude.{◌≡◌, ◌<◌, ◌≤◌, ◌==◌, ◌||◌, ℕ, Bool, true, false, List, [], ◌∷◌, length, map, reverse, take, drop, zip, slice_get, Contains, nat_lt}
+use Rattle.std.specs.Prelude.{Option, Some, None, Ok, Err, refl}
 use Rattle.std.specs.List.{AllZip, AllByRecursion, list_any}
 use Rattle.std.proofs.Common.{sym, ap, subst, ◌∙◌, cond, arith, inl, inr}
 use Rattle.std.proofs.lemmas.Bool.{ltb-false, and_parts, or_cases, or_left}

@@ -18,8 +18,9 @@ use Rattle.solve_model.specs.Formulas.{IsTheTree}
 use Rattle.written_model.specs.WholeExample.{database_text, frame, any, ps}
 use Rattle.written_model.proofs.WholeDatabase.{parses_variable, parses_only}
 use Rattle.export_model.specs.Exported.{pushes, export_sheet}
-use Rattle.export_laws.specs.Accepted.{IsAccepted}
-use Rattle.export_laws.specs.Exportable.{MayName, hypothesis, usable, IsHypothesisOf, IsBefore, NamesNoProvableFloat, has_no_provable_float, IsReadable, IsExportable, gives_theorem}
+use Rattle.call_answers.specs.Exports.{IsAccepted}
+use Rattle.export_laws.specs.Exportable.{MayName, hypothesis, usable, IsHypothesisOf, IsBefore, NamesNoProvableFloat, has_no_provable_float, IsReadable}
+use Rattle.export_laws.specs.Exportable.{IsExportable, gives_theorem}
 
 -- the small database with `th $p |- ps $= wps any $.`
 abbrev text : List ℕ

@@ -1,4 +1,3 @@
-pub mod Accepted
 pub mod Exportable
 pub mod ExportableExamples
 pub mod ExportLaw

@@ -23,7 +23,8 @@ use Rattle.sheet_text.specs.Layout.{steps}
 use Rattle.solve_model.specs.declared.bound.Bound.{Bound}
 use Rattle.solve_model.specs.declared.bound.BoundStep.{BoundStep}
 use Rattle.solve_model.specs.Bound.{Binds, IsBoundStep}
-use Rattle.solve_model.specs.Binding.{existing, is_new, place_of, given_hyps, given_pairs, theorem_of, names_of, same_tokens, hyps_before, has_label, is_hyp, is_qed, hyp_differs, qed_differs}
+use Rattle.solve_model.specs.Binding.{existing, is_new, place_of, given_hyps, given_pairs, theorem_of, names_of, same_tokens, hyps_before, has_label, is_hyp}
+use Rattle.solve_model.specs.Binding.{is_qed, hyp_differs, qed_differs}
 use Rattle.solve_model.specs.BindFaults.{BindFaultAt, header_rules, step_rules, hyp_with_hyps, is_blank, begins_with_token, not_provable}
 use Rattle.solve_model.specs.BindFaults.{unknown_symbol, formula_long, hyp_label_twice}
 use Rattle.solve_model.specs.Formulas.{leaf_by, is_known}
@@ -183,7 +184,10 @@ module _ (db : Database) (sheet : Sheet) (F : FitsAsWritten db sheet) (labels : 
       not_below n m e = grind (arith, nat_tests, e)
 
       by : (b : Bool) → is_qed t ≡ b → qed_differs db sheet i t ≡ false
-      by false e = ap (λ b. b && (nat_lt (hyps_before sheet i) (length (given_hyps db sheet)) || option_map_or (λ (f : Frame). not (same_tokens t.formula (names_of db f.formula))) (existing db sheet) false)) e
+      by false e =
+          ap
+          (λ b. b && (nat_lt (hyps_before sheet i) (length (given_hyps db sheet)) || option_map_or (λ (f : Frame). not (same_tokens t.formula (names_of db f.formula))) (existing db sheet) false))
+          e
       by true e =
           let q = qed_is i t at e in
           let no_hyp : t.hyp ≡ false = ap (λ (x : SheetStep). x.hyp) q.1 ∙ F.qed_no_hyp in
@@ -262,7 +266,9 @@ module _ (db : Database) (sheet : Sheet) (F : FitsAsWritten db sheet) (labels : 
   steps_fail = (
     (λ i t at. or_both (hyp_differs db sheet i t) (qed_differs db sheet i t) (hyp_same i t at) (qed_same i t at)),
     (
-      (λ i t at. ap (λ b. b && t.hyp && nat_le (length (given_hyps db sheet)) (hyps_before sheet i) && option_map_or (λ l. is_some (label_of db l) || bytes_eq l sheet.theorem) t.reference false) not_new),
+      (λ i t at. ap
+      (λ b. b && t.hyp && nat_le (length (given_hyps db sheet)) (hyps_before sheet i) && option_map_or (λ l. is_some (label_of db l) || bytes_eq l sheet.theorem) t.reference false)
+      not_new),
       (
         no_places,
         (

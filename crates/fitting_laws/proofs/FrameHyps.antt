@@ -73,7 +73,8 @@ module _ (kinds : Kinds) (text : List ℕ) (db : Database) (its : IsDatabaseOf k
       pairs_sub (hypothesis_of (symbols ss)) _ is_hypothesis (λ h c. hypothesis mandatory h c) NamesUnlike (reverse (active (below ss k.at))) placed in
       pairwise-filter NamesUnlike (λ (h : Hyp). not h.floating) f.hyps (subst (λ (x : Frame). Pairwise NamesUnlike x.hyps) k.frame own)
     where
-      hypothesis : (mandatory : List Name) (h : Statement) → (has_keyword (codes "$e") h || (has_keyword (codes "$f") h && list_any (contains mandatory) (second (symbols_in h)))) ≡ true → is_hypothesis h ≡ true
+      hypothesis : (mandatory : List Name) (h : Statement)
+          → (has_keyword (codes "$e") h || (has_keyword (codes "$f") h && list_any (contains mandatory) (second (symbols_in h)))) ≡ true → is_hypothesis h ≡ true
       hypothesis mandatory h c = elim (or_cases (has_keyword (codes "$e") h) (has_keyword (codes "$f") h && list_any (contains mandatory) (second (symbols_in h))) c) [
         | inl e ↦ other_of (codes "$f") (codes "$e") (take 1 (body h)) e
         | inr f ↦ one_of (codes "$f") (codes "$e") (take 1 (body h)) (and_parts (has_keyword (codes "$f") h) (list_any (contains mandatory) (second (symbols_in h))) f).0

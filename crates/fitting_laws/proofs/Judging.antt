@@ -21,7 +21,8 @@ use Rattle.solve_model.specs.declared.verdict.Verdict.TheVariants as verdict
 use Rattle.solve_model.specs.Bound.{settled, standing, standing_of_reference}
 use Rattle.solve_model.specs.Firsts.{IsFirstIn, orders}
 use Rattle.solve_model.specs.Trees.{leaf_tree, work, open_leaves}
-use Rattle.solve_model.specs.Solutions.{Unknown, named, blank, copy, Valuation, Asked, IsUnknown, IsValuation, PlacesFit, Solves, formula, instance, unknown_code, is_free, orders_of}
+use Rattle.solve_model.specs.Solutions.{Unknown, named, blank, copy, Valuation, Asked, IsUnknown, IsValuation, PlacesFit, Solves, formula, instance, unknown_code}
+use Rattle.solve_model.specs.Solutions.{is_free, orders_of}
 use Rattle.solve_model.specs.Verdicts.{Judgement, accepted, stands, asked, asked_of, accepted_in, FitsIn, IsJudgement, AreJudged}
 use Rattle.solve_laws.proofs.Elements.{only, first, later}
 use Rattle.solve_laws.proofs.ReplaceLaws.{replace-agree}

@@ -1,5 +1,6 @@
 -- The names of numbered steps are labels and differ.
-use Rattle.std.specs.Prelude.{◌≡◌, ◌<◌, ◌^◌, ◌==◌, ◌||◌, not, ℕ, suc, Bool, true, false, List, [], ◌∷◌, length, map, decimal, codes, slice_get, Option, Some, None, option_map, refl}
+use Rattle.std.specs.Prelude.{◌≡◌, ◌<◌, ◌^◌, ◌==◌, ◌||◌, not, ℕ, suc, Bool, true, false, List, [], ◌∷◌, length, map, decimal, codes, slice_get, Option, Some, None}
+use Rattle.std.specs.Prelude.{option_map, refl}
 use Rattle.std.specs.List.{list_all, last_or}
 use Rattle.std.specs.Str.{all_ascii_digits}
 use Rattle.std.specs.Char.{is_ascii_digit}

@@ -1,5 +1,6 @@
 -- A worksheet that fits can be spelled.
-use Rattle.std.specs.Prelude.{◌≡◌, ◌<◌, ◌^◌, ◌+◌, ◌==◌, ◌&&◌, ◌||◌, not, nat_lt, ℕ, zero, suc, Bool, true, false, List, [], ◌∷◌, length, map, codes, Contains, slice_get, slice_index_or, Option, Some, None, refl}
+use Rattle.std.specs.Prelude.{◌≡◌, ◌<◌, ◌^◌, ◌+◌, ◌==◌, ◌&&◌, ◌||◌, not, nat_lt, ℕ, zero, suc, Bool, true, false, List, [], ◌∷◌, length, map, codes, Contains}
+use Rattle.std.specs.Prelude.{slice_get, slice_index_or, Option, Some, None, refl}
 use Rattle.std.specs.List.{AllByRecursion, list_all, list_any}
 use Rattle.std.specs.Option.{option_map_or}
 use Rattle.std.specs.Str.{bytes_eq}
@@ -115,7 +116,8 @@ module _ (db : Database) (sheet : Sheet) (F : FitsAsWritten db sheet) (labels : 
       let tokens = tokens_pass s.formula (whole_at db sheet F k s at).2.active in
       and_from _ (list_all is_token s.formula)
       (and_from _ (option_map_or is_label s.reference (not s.hyp))
-      (and_from (is_label s.name && (s.hyp || not (marked_name s.name).0)) (list_all (is_place_below k) s.places) (and_from (is_label s.name) (s.hyp || not (marked_name s.name).0) name.label marked) places)
+      (and_from (is_label s.name && (s.hyp || not (marked_name s.name).0)) (list_all (is_place_below k) s.places)
+      (and_from (is_label s.name) (s.hyp || not (marked_name s.name).0) name.label marked) places)
       (reference_pass k s at)) tokens
     where
       last : (a b : Bool) → b ≡ true → (a || b) ≡ true
@@ -151,7 +153,8 @@ module _ (db : Database) (sheet : Sheet) (F : FitsAsWritten db sheet) (labels : 
       let end_one = no_end h.one one in
       let end_other = no_end h.other other in
       let good : is_bad_distinct (h.one ∷ h.other ∷ []) ≡ false = rw (differ, end_one, end_other) refl in
-      subst (λ ns. (list_all is_token ns && not (is_bad_distinct ns)) ≡ true) (sym h.names) (and_from (list_all is_token (h.one ∷ h.other ∷ [])) (not (is_bad_distinct (h.one ∷ h.other ∷ []))) tokens (ap not good))
+      subst (λ ns. (list_all is_token ns && not (is_bad_distinct ns)) ≡ true) (sym h.names)
+      (and_from (list_all is_token (h.one ∷ h.other ∷ [])) (not (is_bad_distinct (h.one ∷ h.other ∷ []))) tokens (ap not good))
     where
       variable : (n : Name) → is_variable_at db (place_of db sheet) n ≡ true → IsSymbolName n
       variable n k = by (symbol_of db n) refl k

@@ -12,7 +12,7 @@ use Rattle.written_model.specs.declared.options.Options.{Options}
 use Rattle.written_model.specs.declared.report.ReportVerdict.{ReportVerdict}
 use Rattle.written_model.specs.declared.report.ReportVerdict.TheVariants as report
 use Rattle.written_model.specs.Report.{step_clash}
-use Rattle.written_model.specs.Written.{Writing, Answer, Answers, refused, wrote}
+use Rattle.written_model.specs.Written.{Writing, Answer, Answers, refused, wrote, written_step}
 use Rattle.written_model.specs.WrittenSteps.{WrittenStep, steps_in}
 use Rattle.fitting_laws.specs.FitsAsWritten.{FitsAsWritten}
 
@@ -27,21 +27,19 @@ pub data IsOfSize : Refusal → Type 0 where
 abbrev pub fitting_verdict : Bool → ReportVerdict
 fitting_verdict hyp = if hyp then report.Hyp else report.Fits
 
--- a step is written with its name, its places and its reference as they are, fits, and has no clash
-pub record FitsAsGiven (s : SheetStep) (e : WrittenStep) : Type 0 where
-  pub name : e.name ≡ s.name
-  pub places : e.places ≡ s.places
-  pub reference : e.reference ≡ s.reference
+-- a step is written as it is, fits over the places that it lists, in their order, or is a hypothesis, and has no clash
+pub record FitsAsGiven (db : Database) (s : SheetStep) (e : WrittenStep) : Type 0 where
+  pub as_it_is : written_step db e ≡ record s { line = 0 }
   pub verdict : e.verdict ≡ fitting_verdict s.hyp
   pub no_clash : step_clash e.by ≡ None
 
 -- it is finished with its steps as they are, or has a fault of size
-pub data BecomesFinished (sheet : Sheet) : Answer → Type 0 where
-  finished : {w : Writing} → AllZip FitsAsGiven (steps sheet) (steps_in w.items) → w.finished ≡ true → BecomesFinished sheet (wrote w)
-  of_size : {r : Refusal} → IsOfSize r → BecomesFinished sheet (refused r)
+pub data BecomesFinished (db : Database) (sheet : Sheet) : Answer → Type 0 where
+  finished : {w : Writing} → AllZip (FitsAsGiven db) (steps sheet) (steps_in w.items) → w.finished ≡ true → BecomesFinished db sheet (wrote w)
+  of_size : {r : Refusal} → IsOfSize r → BecomesFinished db sheet (refused r)
 
 -- a worksheet that fits as it is written, laid out, becomes finished
 abbrev pub FittingBecomesFinished : Type 0
 FittingBecomesFinished = (options : Options) (text : List ℕ) (db : Database) (sheet : Sheet) (answer : Answer)
     → database_fault text ≡ None → IsDatabaseOf options.kinds text db → FitsAsWritten db sheet
-    → Answers db (layout sheet None) options answer → BecomesFinished sheet answer
+    → Answers db (layout sheet None) options answer → BecomesFinished db sheet answer
