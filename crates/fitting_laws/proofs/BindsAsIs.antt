@@ -267,8 +267,8 @@ module _ (db : Database) (sheet : Sheet) (F : FitsAsWritten db sheet) (labels : 
     (λ i t at. or_both (hyp_differs db sheet i t) (qed_differs db sheet i t) (hyp_same i t at) (qed_same i t at)),
     (
       (λ i t at. ap
-      (λ b. b && t.hyp && nat_le (length (given_hyps db sheet)) (hyps_before sheet i) && option_map_or (λ l. is_some (label_of db l) || bytes_eq l sheet.theorem) t.reference false)
-      not_new),
+          (λ b. b && t.hyp && nat_le (length (given_hyps db sheet)) (hyps_before sheet i) && option_map_or (λ l. is_some (label_of db l) || bytes_eq l sheet.theorem) t.reference false)
+          not_new),
       (
         no_places,
         (

@@ -204,7 +204,7 @@ module _ (db : Database) (bound : Bound) (pairs : List Pair) (ss : List SheetSte
       let d_at : slice_get ds k ≡ Some own.0 = subst (λ x. slice_get ds x ≡ Some own.0) place own.1 in
       let r = own_is k own.0 (subst (λ x. IsOwn bound g J read (trees ds) numbers k x own.0) place own.2) in
       let same_e : r.0 ≡ e = some_same r.0 e (sym r.1 ∙ at) in
-      d_at ∙ ap (λ x. Some x) (r.2 ∙ same_e)
+      subst (λ x. slice_get ds k ≡ Some x) (r.2 ∙ same_e) d_at
 
   pub filled_as_is : ds ≡ es
   filled_as_is = lists_same ds es there back

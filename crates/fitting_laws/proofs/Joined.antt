@@ -34,14 +34,13 @@ use Rattle.solve_model.specs.declared.bound.BoundStep.{BoundStep}
 use Rattle.solve_model.specs.Binding.{place_of, given_pairs}
 use Rattle.solve_model.specs.BindFaults.{BindFaultAt, begins_with_token}
 use Rattle.solve_model.specs.Bound.{Binds, IsBoundStep, HasTree}
-use Rattle.solve_model.specs.Firsts.{IsFirstOrNone}
 use Rattle.solve_model.specs.Formulas.{IsTheTree, leaf_of, leaf_by, is_known, expression_of}
 use Rattle.solve_model.specs.Solutions.{Solves}
 use Rattle.solve_model.specs.Trees.{work, fresh}
 use Rattle.solve_model.specs.Verdicts.{Judgement, accepted_in}
 use Rattle.solve_laws.specs.Instances.{IsClosedTree}
 use Rattle.solve_laws.specs.OneJudgement.{JudgementsAreOne}
-use Rattle.solve_laws.proofs.Elements.{first, later, parted}
+use Rattle.solve_laws.proofs.Elements.{parted}
 use Rattle.solve_laws.proofs.NoFresh.{no_fresh_leaf}
 use Rattle.written_model.specs.declared.options.Options.{Options}
 use Rattle.written_model.specs.Again.{judgements_from}

@@ -1,9 +1,10 @@
 -- The steps of a worksheet that fits are accepted with their places as they are listed.
-use Rattle.std.specs.Prelude.{◌≡◌, ◌≤◌, ◌+◌, nat_lt, nat_le, ℕ, zero, suc, Bool, true, false, List, [], ◌∷◌, ◌++◌, length, take, Contains, slice_get, Some, None, refl}
+use Rattle.std.specs.Prelude.{◌≡◌, ◌≤◌, ◌+◌, nat_lt, nat_le, ℕ, suc, Bool, true, false, List, [], ◌∷◌, ◌++◌, length, take, drop, Contains, slice_get, Some, None, refl}
 use Rattle.std.specs.List.{AllZip}
 use Rattle.std.proofs.Common.{sym, ap, subst, ◌∙◌, arith, inl, inr, cond}
 use Rattle.std.proofs.lemmas.Bool.Decides.{nat_tests}
-use Rattle.std.proofs.lemmas.List.Elements.{Contains-append_cases}
+use Rattle.std.proofs.lemmas.List.Elements.{Contains-append_left, Contains-append_cases}
+use Rattle.std.proofs.lemmas.List.{take-append-drop}
 use Rattle.mm_base.specs.declared.symbols.Sym.{Sym}
 use Rattle.mm_base.specs.declared.symbols.Pair.{Pair}
 use Rattle.mm_base.specs.declared.symbols.Typecode.{Typecode}
@@ -24,7 +25,7 @@ use Rattle.solve_model.specs.Trees.{leaf_tree, work, open_leaves}
 use Rattle.solve_model.specs.Solutions.{Unknown, named, blank, copy, Valuation, Asked, IsUnknown, IsValuation, PlacesFit, Solves, formula, instance, unknown_code}
 use Rattle.solve_model.specs.Solutions.{is_free, orders_of}
 use Rattle.solve_model.specs.Verdicts.{Judgement, accepted, stands, asked, asked_of, accepted_in, FitsIn, IsJudgement, AreJudged}
-use Rattle.solve_laws.proofs.Elements.{only, first, later}
+use Rattle.solve_laws.proofs.Elements.{only}
 use Rattle.solve_laws.proofs.ReplaceLaws.{replace-agree}
 use Rattle.written_model.specs.declared.report.ReportVerdict.TheVariants as report
 use Rattle.written_model.specs.Found.{valued}
@@ -51,13 +52,7 @@ judgements_long n [] = refl
 judgements_long n (e ∷ es) = ap (λ k. suc k) (judgements_long (n + 1) es)
 
 taken_in : {X : Type 0} (n : ℕ) (os : List X) (o : X) → Contains (take n os) o → Contains os o
-taken_in zero os o m = absurd (none m)
-  where
-    none : Contains [] o → ⊥
-    none q = let less = q.1 in omega (arith, less)
-taken_in (suc n) [] o m = m
-taken_in (suc n) (x ∷ os) o (zero, l, q) = first o x os q
-taken_in (suc n) (x ∷ os) o (suc j, l, q) = later o x os (taken_in n os o (j, omega (arith, l), q))
+taken_in n os o m = subst (λ xs. Contains xs o) (take-append-drop n os) (Contains-append_left (take n os) (drop n os) o m)
 
 module _ (db : Database) (bound : Bound) (pairs : List Pair) (ss : List SheetStep) (ts : List Tree) (es : List WrittenStep) (S : Scene db bound pairs ss ts es) where
   abbrev J : List Judgement
