@@ -2,7 +2,10 @@ pub mod CallAnswers
 pub mod CommandLine
 pub mod CommandLineExamples
 pub mod Endings
+pub mod Exportable
+pub mod ExportableExamples
 pub mod Exports
+pub mod Finishes
 pub mod Given
 pub mod GivenExamples
 pub mod Kept

@@ -42,7 +42,7 @@ use Rattle.written_model.specs.Found.{valued as valued_by}
 use Rattle.fitting_laws.specs.FitsAsWritten.{IsWhole, IsHypStep, FitsAsListed, IsActivePair, FitsAsWritten, numbered_name}
 use Rattle.fitting_laws.specs.FittingBecomesFinished.{FittingBecomesFinished}
 use Rattle.call_answers.specs.Exports.{IsAccepted}
-use Rattle.export_laws.specs.Exportable.{IsExportable, IsReadable, gives_theorem}
+use Rattle.call_answers.specs.Exportable.{IsExportable, IsReadable, gives_theorem}
 use Rattle.export_laws.specs.ExportLaw.{ExportedFits, LawOfExport}
 use Rattle.export_laws.proofs.ActiveFloats.{floats_declared}
 use Rattle.export_laws.proofs.PushPairs.{given_of, kept_in}

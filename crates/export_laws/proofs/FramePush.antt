@@ -32,7 +32,7 @@ use Rattle.push_laws.proofs.Facts.{IsBook, IsOwnFormula, FrameIsApart, Begins}
 use Rattle.push_laws.proofs.Lists.{zip_left, zip_weaker, any_contains, contains_get, filter_contains, map_get, get_mapped, get_contains}
 use Rattle.push_laws.proofs.TreeProofs.{tree_symbols}
 use Rattle.push_laws.proofs.Values.{beside}
-use Rattle.export_laws.specs.Exportable.{has_no_provable_float}
+use Rattle.call_answers.specs.Exportable.{has_no_provable_float}
 use Rattle.export_laws.proofs.GoodTrees.{IsGood, IsGoodAs, valued}
 use Rattle.export_laws.proofs.FrameTrees.{IsOwnTree, parsed_tree}
 use Rattle.export_laws.proofs.FloatValues.{HasValues, has_values, value, taken, value_good, IsSubstituted, is_substituted}

@@ -40,7 +40,7 @@ use Rattle.push_laws.proofs.ActiveHyps.{all_taken}
 use Rattle.push_laws.proofs.Facts.{IsBook}
 use Rattle.push_laws.proofs.Lists.{all_of, get_contains}
 use Rattle.push_laws.proofs.TreeProofs.{tree_symbols}
-use Rattle.export_laws.specs.Exportable.{IsBefore, MayName, hypothesis, production, usable, other, HasTreeBefore, NamesNoProvableFloat, has_no_provable_float}
+use Rattle.call_answers.specs.Exportable.{IsBefore, MayName, hypothesis, production, usable, other, HasTreeBefore, NamesNoProvableFloat, has_no_provable_float}
 use Rattle.export_laws.proofs.GoodTrees.{IsVariable, good-Var}
 use Rattle.export_laws.proofs.FrameTrees.{IsOwnTree, parsed_tree, row_tree}
 use Rattle.export_laws.proofs.Entries.{IsEntry, of_tree, of_step, entry_later}

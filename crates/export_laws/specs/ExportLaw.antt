@@ -10,9 +10,9 @@ use Rattle.written_model.specs.declared.options.Options.{Options}
 use Rattle.written_model.specs.Written.{Answer, Answers}
 use Rattle.export_model.specs.Exported.{export_sheet, export_text}
 use Rattle.fitting_laws.specs.FitsAsWritten.{FitsAsWritten}
-use Rattle.fitting_laws.specs.FittingBecomesFinished.{BecomesFinished}
+use Rattle.call_answers.specs.Finishes.{BecomesFinished}
 use Rattle.call_answers.specs.Exports.{IsAccepted}
-use Rattle.export_laws.specs.Exportable.{IsExportable}
+use Rattle.call_answers.specs.Exportable.{IsExportable}
 
 -- an accepted proof that is exportable becomes a worksheet in which each step fits as it is given and none has a clash, and which
 -- is finished, or has a fault of size

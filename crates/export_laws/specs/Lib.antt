@@ -1,3 +1,1 @@
-pub mod Exportable
-pub mod ExportableExamples
 pub mod ExportLaw

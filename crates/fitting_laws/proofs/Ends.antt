@@ -25,7 +25,7 @@ use Rattle.written_model.specs.ProofTrees.{is_complete_use, is_complete, Finishe
 use Rattle.written_model.specs.Written.{formula_tokens}
 use Rattle.written_model.specs.WrittenSteps.{Use, WrittenStep}
 use Rattle.again_laws.proofs.Lists.{contains_get, some_same, zip_long}
-use Rattle.fitting_laws.specs.FittingBecomesFinished.{FitsAsGiven, fitting_verdict}
+use Rattle.call_answers.specs.Finishes.{FitsAsGiven, fitting_verdict}
 use Rattle.fitting_laws.proofs.Expected.{IsExpected}
 use Rattle.fitting_laws.proofs.Scenes.{Scene, AreBelow}
 

@@ -64,7 +64,8 @@ use Rattle.again_laws.proofs.TokensStay.{tokens_back}
 use Rattle.push_laws.proofs.Books.{is_book}
 use Rattle.push_laws.proofs.Facts.{IsBook}
 use Rattle.fitting_laws.specs.FitsAsWritten.{IsWhole, FitsAsWritten, is_active}
-use Rattle.fitting_laws.specs.FittingBecomesFinished.{IsOfSize, long_text, BecomesFinished, FitsAsGiven, FittingBecomesFinished}
+use Rattle.call_answers.specs.Finishes.{IsOfSize, long_text, BecomesFinished, FitsAsGiven}
+use Rattle.fitting_laws.specs.FittingBecomesFinished.{FittingBecomesFinished}
 use Rattle.fitting_laws.proofs.BindsAsIs.{binds_as_is}
 use Rattle.fitting_laws.proofs.Ends.{given_as_is, finished as ends_finished, none_long, none_ambiguous}
 use Rattle.fitting_laws.proofs.Expected.{View, Fitting, expected}

@@ -19,8 +19,8 @@ use Rattle.written_model.specs.WholeExample.{database_text, frame, any, ps}
 use Rattle.written_model.proofs.WholeDatabase.{parses_variable, parses_only}
 use Rattle.export_model.specs.Exported.{pushes, export_sheet}
 use Rattle.call_answers.specs.Exports.{IsAccepted}
-use Rattle.export_laws.specs.Exportable.{MayName, hypothesis, usable, IsHypothesisOf, IsBefore, NamesNoProvableFloat, has_no_provable_float, IsReadable}
-use Rattle.export_laws.specs.Exportable.{IsExportable, gives_theorem}
+use Rattle.call_answers.specs.Exportable.{MayName, hypothesis, usable, IsHypothesisOf, IsBefore, NamesNoProvableFloat, has_no_provable_float, IsReadable}
+use Rattle.call_answers.specs.Exportable.{IsExportable, gives_theorem}
 
 -- the small database with `th $p |- ps $= wps any $.`
 abbrev text : List ℕ
