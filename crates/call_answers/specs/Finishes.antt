@@ -1,5 +1,5 @@
 -- What becomes of a worksheet that is finished as it stands, but for its size.
-use Rattle.std.specs.Prelude.{◌≡◌, ℕ, Bool, true, if◌then◌else◌, List, None}
+use Rattle.std.specs.Prelude.{◌≡◌, ℕ, Bool, true, if◌then◌else◌, None}
 use Rattle.std.specs.List.{AllZip}
 use Rattle.fault_lines.specs.Refusals.{Refusal, at_line, too_much, too_much_written, proof_too_long, too_large, told_number}
 use Rattle.mm_model.specs.Faults.{fault}
