@@ -3,7 +3,6 @@ pub mod CommandLine
 pub mod CommandLineExamples
 pub mod Endings
 pub mod Exportable
-pub mod ExportableExamples
 pub mod Exports
 pub mod Finishes
 pub mod Given
