@@ -103,6 +103,8 @@ ORDER = [
         ("Verified", "what `verify` says of a label", "FORMAT, The proof code, The stack machine"),
         ("Endings", "what an answer has for the output and for the log, and its status", "FORMAT, Statuses"),
         ("Trial", "the trial of the program by itself", "FORMAT, The trial"),
+        ("Exportable", "which proofs become finished worksheets", "PROVED, What it means for a worksheet"),
+        ("Finishes", "what becomes of a worksheet that is finished as it stands, but for its size", ""),
         ("Exports", "what `export` answers to an accepted proof", "FORMAT, Proofs as worksheets"),
         ("PutsIn", "what `install` answers to a worksheet", "FORMAT, Theorems put into a database"),
         ("CallAnswers", "the answer by cases: the main theorem", "FORMAT, Statuses"),

@@ -2,7 +2,9 @@ pub mod CallAnswers
 pub mod CommandLine
 pub mod CommandLineExamples
 pub mod Endings
+pub mod Exportable
 pub mod Exports
+pub mod Finishes
 pub mod Given
 pub mod GivenExamples
 pub mod Kept
