@@ -145,9 +145,9 @@ module _ (db : Database) (bound : Bound) (pairs : List Pair) (ss : List SheetSte
         j.0,
         j.1,
         o.is ∙ ap (λ m. filled_step (take k numbers) m o.source (formula bound g k) g o.judgement) more
-        ∙ ap (λ p. filled_step (take k numbers) [] o.source (formula bound g k) g p) j.2
-        ∙ ap (λ t. filled_step (take k numbers) [] o.source t g (judgement_by k j.0 j.0.by)) tree
-        ∙ filled_is k within r.source r.tree j.0 j.1 (S.below k r.source r.source_at) o.source (subst (λ x. SameStep x o.source) source s.2) r.is,
+            ∙ ap (λ p. filled_step (take k numbers) [] o.source (formula bound g k) g p) j.2
+            ∙ ap (λ t. filled_step (take k numbers) [] o.source t g (judgement_by k j.0 j.0.by)) tree
+            ∙ filled_is k within r.source r.tree j.0 j.1 (S.below k r.source r.source_at) o.source (subst (λ x. SameStep x o.source) source s.2) r.is,
       )
     where
       none : (ws : List Tree) (ms : List ℕ) → ws ≡ [] → AllZip (FillsAt (trees ds) k) ws ms → ms ≡ []

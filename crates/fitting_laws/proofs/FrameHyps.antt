@@ -65,7 +65,7 @@ module _ (kinds : Kinds) (text : List ℕ) (db : Database) (its : IsDatabaseOf k
   book = is_book kinds text db its sound
 
   pub names_differ : (l : Label) (f : Frame) → db.frame l ≡ Some f → Pairwise NamesUnlike (essentials f.hyps)
-  names_differ l f i = 
+  names_differ l f i =
       let k = frame_known ss l f (sym (its.frame l) ∙ i) in
       let mandatory = mandatory_variables (symbols ss) (below ss k.at) k.statement in
       let placed : Pairwise NamesUnlike (map (hypothesis_of (symbols ss)) (filter is_hypothesis (reverse (active (below ss k.at))))) =
