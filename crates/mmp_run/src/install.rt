@@ -26,7 +26,7 @@ use mm_base::{Bytes, List, Memory, Status};
 use mm_database::{Database, open_frames};
 use mm_frames::Frames;
 use sheet_text::Sheet;
-use sheet_theorem::new_theorem;
+use sheet_theorem::{new_theorem, outcomes_have_places};
 use sheet_unify::{Outcome, unify_read};
 use std::alloc::Global;
 use written_model::Options;
@@ -87,14 +87,16 @@ fn end_finished(
     text: &[u8],
     outcome: &Outcome,
 ) -> Result<Ending, Memory>
-    requires { IsOutcomeOver db.now outcome.now }
+    requires of_text { db.now.contents ≡ contents_of text.now }
+    requires over { IsOutcomeOver db.now outcome.now }
     ensures written { (options : Options) (w : Writing) → IsOpened options.kinds text.now db.now
         → IsWritten (database_of options.kinds text.now db.now.rows db.now.parsed) options w outcome.now
         → IfOk result (TellsText (database_of options.kinds text.now db.now.rows db.now.parsed) options w text.now) }
     ensures ending { IfOk result IsTextEnding }
 {
+    outcomes_have_places();
     let theorem = new_theorem(alloc, db, outcome)?;
-    match install(alloc, text, outcome.place, &theorem) {
+    match install(alloc, text, db.frames(), outcome.place, &theorem) {
         Ok(whole) => end_text(alloc, db, outcome, whole),
         Err(InstallFault::TooLarge(bytes)) => refuse_text(alloc, bytes),
         Err(InstallFault::Memory) => Err(Memory),
@@ -108,7 +110,8 @@ fn end_written(
     text: &[u8],
     outcome: &Outcome,
 ) -> Result<Ending, Memory>
-    requires { IsOutcomeOver db.now outcome.now }
+    requires of_text { db.now.contents ≡ contents_of text.now }
+    requires over { IsOutcomeOver db.now outcome.now }
     ensures written { (options : Options) (w : Writing) → IsOpened options.kinds text.now db.now
         → IsWritten (database_of options.kinds text.now db.now.rows db.now.parsed) options w outcome.now
         → IfOk result (TellsInstall (database_of options.kinds text.now db.now.rows db.now.parsed) options w text.now) }

@@ -1,8 +1,11 @@
 use Rattle.mmp_run.proofs.Installed.{outcome_installs, fault_installs}
 use Rattle.mmp_run.proofs.install.end_opened.Goals as goal
 
-pub end_written-requires : goal.end_written-requires
-end_written-requires c = record {
+pub end_written-requires-clause-of_text : goal.end_written-requires-clause-of_text
+end_written-requires-clause-of_text c = c.requires.opened.contents
+
+pub end_written-requires-clause-over : goal.end_written-requires-clause-over
+end_written-requires-clause-over c = record {
   options = c.args.options.now;
   database = c.args.text.now;
   sheet = c.requires.said.text;
