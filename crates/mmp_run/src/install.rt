@@ -22,6 +22,7 @@ use crate::endings::refuse;
 use crate::unify::{end_fault, report_log};
 use call_answers::Ending;
 use db_install::{InstallFault, install};
+use kept_laws::installing_keeps_all;
 use mm_base::{Bytes, List, Memory, Status};
 use mm_database::{Database, open_frames};
 use mm_frames::Frames;
@@ -139,6 +140,7 @@ fn end_opened(
     ensures answer { (sheet_text : List ℕ) → SaysSheet sheet_text sheet.now → IfOk result (IsInstalled options.now text.now sheet_text) }
     ensures ending { IfOk result IsTextEnding }
 {
+    installing_keeps_all();
     match unify_read(alloc, db, sheet, options) {
         Ok(outcome) => end_written(alloc, db, text, &outcome),
         Err(fault) => end_fault(alloc, Status::Sheet, fault),
