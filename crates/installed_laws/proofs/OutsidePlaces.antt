@@ -55,10 +55,10 @@ no_end_fault len before e = go (is_empty (unended before)) (is_empty (path (ende
 end_outside : (text : List ℕ) → statement_fault text ≡ None → IsOutsidePlace (statements text) (length (statements text))
 end_outside text sound =
     let ends = (or_else_none _ (end_fault (length text) (reverse (tokens text))) sound).1 in
-    let open = no_end_fault (length text) (reverse (tokens text)) ends in
+    let shut = no_end_fault (length text) (reverse (tokens text)) ends in
     let whole : below (statements text) (length (statements text)) ≡ ended (reverse (tokens text)) =
     ap (λ xs. reverse xs) (take_all (length (statements text)) (statements text) (omega arith)) ∙ reverse-reverse (ended (reverse (tokens text))) in
-    record { within = omega arith; outside = ap path whole ∙ open }
+    record { within = omega arith; outside = ap path whole ∙ shut }
 
 -- ---- behind a label
 
