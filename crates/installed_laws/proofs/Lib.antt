@@ -3,6 +3,7 @@ mod BlockWalk
 mod BlockWords
 mod ByteFaults
 mod ConstantsApart
+mod FinishedFormulas
 mod MeantTokens
 mod NoFaultLaw
 mod OutsidePlaces
