@@ -4,6 +4,7 @@ mod BlockWords
 mod ByteFaults
 mod ConstantsApart
 mod FinishedFormulas
+mod FinishedPairs
 mod MeantTokens
 mod NoFaultLaw
 mod OutsidePlaces
