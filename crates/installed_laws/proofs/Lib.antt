@@ -5,9 +5,11 @@ mod ByteFaults
 mod ConstantsApart
 mod FinishedFormulas
 mod FinishedPairs
+mod FinishedPlain
 mod MeantTokens
 mod NoFaultLaw
 mod OutsidePlaces
+mod PlainNames
 mod ProofBytes
 mod RuleTable
 mod Walks
