@@ -1,5 +1,5 @@
 -- The names of a finished worksheet's theorem are words without a dollar, and there is no dollar in its proof.
-use Rattle.std.specs.Prelude.{◌≡◌, ◌==◌, ◌&&◌, ℕ, Bool, true, false, not, List, length, map, filter, unwrap_or, Contains, Option, Some, None}
+use Rattle.std.specs.Prelude.{◌≡◌, ◌==◌, ◌&&◌, ℕ, Bool, true, not, List, [], length, map, unwrap_or, Contains, Option, Some, None, refl}
 use Rattle.std.specs.List.{AllByRecursion, list_all}
 use Rattle.std.proofs.Common.{sym, ap, subst, ◌∙◌, cond, inl, inr}
 use Rattle.std.proofs.lemmas.Bool.{cases_Bool, and_from, and_parts, not-false}
@@ -84,7 +84,7 @@ module _ (text sheet : List ℕ) (db : Database) (options : Options) (w : Writin
 
   proof_plain : HasNoDollar (unwrap_or (written_proof db options w) [])
   proof_plain =
-      let have : HasArities (frames_of db) thm _ =
+      let have =
       subst (HasArities (frames_of db) thm) (sym (proof_is db book sheet options w wr finished))
       (arities db book sheet options w wr finished (n db book sheet options w wr finished) (qed_below db book sheet options w wr finished)) in
       let bytes = written_bytes db book options.style thm (steps_in w.items) (are_named db book sheet options w wr finished) have in
