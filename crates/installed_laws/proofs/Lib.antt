@@ -3,9 +3,13 @@ mod BlockWalk
 mod BlockWords
 mod ByteFaults
 mod ConstantsApart
+mod FinishedFormulas
+mod FinishedPairs
+mod FinishedPlain
 mod MeantTokens
 mod NoFaultLaw
 mod OutsidePlaces
+mod PlainNames
 mod ProofBytes
 mod RuleTable
 mod Walks
