@@ -4,6 +4,7 @@ mod BlockWords
 mod ByteFaults
 mod ConstantsApart
 mod FinishedFormulas
+mod FinishedLabels
 mod FinishedPairs
 mod FinishedPlain
 mod MeantTokens

@@ -1,5 +1,5 @@
 -- The place of a new theorem is one of the text, where no block is open.
-use Rattle.std.specs.Prelude.{◌≡◌, ◌≤◌, ◌<◌, ◌+◌, ◌-◌, ℕ, zero, suc, Bool, true, false, not, List, [], ◌∷◌, length, take, reverse, find, unwrap_or, Option, Some, None, option_and_then, if◌then◌else◌, refl}
+use Rattle.std.specs.Prelude.{◌≡◌, ◌≤◌, ◌<◌, ◌⊎◌, ◌+◌, ◌-◌, ℕ, zero, suc, Bool, true, false, not, List, [], ◌∷◌, length, take, reverse, find, unwrap_or, Option, Some, None, option_and_then, if◌then◌else◌, refl}
 use Rattle.std.specs.List.{range_with_len}
 use Rattle.std.specs.Option.{option_map_or}
 use Rattle.std.proofs.Common.{sym, ap, subst, ◌∙◌, cond, arith, inl, inr}
@@ -73,7 +73,7 @@ module _ (text : List ℕ) (sound : statement_fault text ≡ None) where
       let less = r.1 in
       record { within = within (cases_lt at (length ss)) less; outside = empty_path (path (below ss k)) r.0 }
     where
-      within : _ → k < suc at + (length ss - at) → k ≤ length ss
+      within : (at < length ss) ⊎ (length ss ≤ at) → k < suc at + (length ss - at) → k ≤ length ss
       within (inl l) h = omega (arith, l, h)
       within (inr l) h =
           let none : length ss - at ≡ 0 = omega (arith, l) in
