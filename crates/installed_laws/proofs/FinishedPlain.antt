@@ -22,7 +22,7 @@ use Rattle.written_model.specs.WrittenSteps.{WrittenStep, steps_in}
 use Rattle.written_model.specs.Written.{Writing, Writes, frames_of, formula_tokens, written_pairs, written_sheet, written_bound, written_theorem, written_proof, proof_text}
 use Rattle.install_model.specs.declared.install.NewTheorem.{NewTheorem}
 use Rattle.install_model.specs.Installed.{named_pair, named_hyp, outer_hyps, own_hyps, new_theorem}
-use Rattle.install_laws.specs.InstalledStatements.{IsPlain, IsPlainTheorem, HasNoDollar}
+use Rattle.install_laws.specs.InstalledStatements.{IsPlain, IsPlainTheorem}
 use Rattle.push_laws.proofs.Books.{is_book}
 use Rattle.push_laws.proofs.Facts.{IsBook}
 use Rattle.push_laws.proofs.Lists.{contains_get, get_contains, zip_get}
@@ -35,7 +35,7 @@ use Rattle.installed_laws.specs.CanBePutIn.{is_formula, is_pair}
 use Rattle.installed_laws.proofs.FinishedFormulas.{dropped, all_named, hyps_are_formulas, qed_is_formula}
 use Rattle.installed_laws.proofs.FinishedPairs.{pairs_are_pairs}
 use Rattle.installed_laws.proofs.PlainNames.{label_plain, formula_plain, pair_plain}
-use Rattle.installed_laws.proofs.ProofBytes.{written_bytes}
+use Rattle.installed_laws.proofs.ProofBytes.{HasFineBytes, written_bytes}
 
 module _ (text sheet : List ℕ) (db : Database) (options : Options) (w : Writing) (sound : database_fault text ≡ None) (is : IsDatabaseOf options.kinds text db)
     (wr : Writes db sheet options w) (finished : w.finished ≡ true) (words : AllByRecursion IsSymbolName db.symbols)
@@ -82,13 +82,13 @@ module _ (text sheet : List ℕ) (db : Database) (options : Options) (w : Writin
       (all_named (λ (h : Name × List Name). IsPlain h.0) (named_hyp db options w) (own_hyps db options w) hyp_named)
       (hyps_are_formulas text sheet db options w sound is wr finished)
 
-  proof_plain : HasNoDollar (unwrap_or (written_proof db options w) [])
-  proof_plain =
+  pub proof_is_fine : HasFineBytes (unwrap_or (written_proof db options w) [])
+  proof_is_fine =
       let have =
       subst (HasArities (frames_of db) thm) (sym (proof_is db book sheet options w wr finished))
       (arities db book sheet options w wr finished (n db book sheet options w wr finished) (qed_below db book sheet options w wr finished)) in
       let bytes = written_bytes db book options.style thm (steps_in w.items) (are_named db book sheet options w wr finished) have in
-      subst (λ (b : Bool). HasNoDollar (unwrap_or (cond b (Some (proof_text db options.style thm (steps_in w.items))) None) [])) (sym finished) bytes.no_dollar
+      subst (λ (b : Bool). HasFineBytes (unwrap_or (cond b (Some (proof_text db options.style thm (steps_in w.items))) None) [])) (sym finished) bytes
 
   pub theorem_is_plain : IsPlainTheorem (new_theorem db options w)
   theorem_is_plain = record {
@@ -98,5 +98,5 @@ module _ (text sheet : List ℕ) (db : Database) (options : Options) (w : Writin
         (map (named_pair db options w) (written_pairs db options w)) (pairs_are_pairs text db options w is spellable binds);
     hyps = hyps_plain;
     formula = formula_plain options.kinds text db is words w.bound.place _ (qed_is_formula text sheet db options w sound is wr finished);
-    proof = proof_plain;
+    proof = proof_is_fine.no_dollar;
   }

@@ -7,6 +7,7 @@ mod FinishedFormulas
 mod FinishedLabels
 mod FinishedPairs
 mod FinishedPlain
+mod FinishedTheorem
 mod MeantTokens
 mod NoFaultLaw
 mod OutsidePlaces
