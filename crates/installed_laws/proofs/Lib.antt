@@ -6,6 +6,7 @@ mod ConstantsApart
 mod FinishedFormulas
 mod FinishedPairs
 mod FinishedPlain
+mod FinishedTheorem
 mod MeantTokens
 mod NoFaultLaw
 mod OutsidePlaces
