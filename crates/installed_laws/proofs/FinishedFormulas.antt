@@ -1,11 +1,10 @@
 -- The formulas of a finished worksheet are formulas at its place: their symbols are constants and active variables with an active `$f`.
-use Rattle.std.specs.Prelude.{◌≡◌, ◌≤◌, ◌==◌, ◌&&◌, ◌||◌, ℕ, zero, suc, Bool, true, false, List, [], ◌∷◌, ◌++◌, length, map, drop, filter, slice_get, Contains, Option, Some, None, refl}
+use Rattle.std.specs.Prelude.{◌≡◌, ◌≤◌, ℕ, zero, suc, Bool, true, List, [], ◌∷◌, length, map, drop, filter, slice_get, Contains, Option, Some, None, refl}
 use Rattle.std.specs.List.{AllByRecursion, list_all, last_or}
 use Rattle.std.specs.Option.{option_map_or}
 use Rattle.std.proofs.Common.{sym, ap, subst, ◌∙◌, arith, inl, inr}
 use Rattle.std.proofs.lemmas.Bool.{and_from, or_cases}
 use Rattle.mm_base.specs.declared.symbols.Sym.{Sym}
-use Rattle.mm_base.specs.declared.tree.Tree.{Tree}
 use Rattle.mm_model.specs.declared.frames.Frame.{Frame}
 use Rattle.mm_model.specs.declared.rows.Leaf.{Leaf}
 use Rattle.mm_model.specs.declared.rows.Leaf.TheVariants as leaf
@@ -14,10 +13,10 @@ use Rattle.mm_model.specs.Statements.{Statement, statements, constants, database
 use Rattle.mm_model.specs.Frames.{below}
 use Rattle.mm_model.specs.Texts.{text as leaves_in}
 use Rattle.mm_model.specs.Typed.{IsTyped}
-use Rattle.mm_model.specs.Book.{Database, IsDatabaseOf, symbol_of, symbol_name}
+use Rattle.mm_model.specs.Book.{Database, IsDatabaseOf, symbol_name}
 use Rattle.proof_model.specs.declared.theorem.Theorem.{Theorem}
 use Rattle.sheet_laws.proofs.SpokenLaws.{last_or-append}
-use Rattle.solve_model.specs.Trees.{open_leaves, work}
+use Rattle.solve_model.specs.Trees.{work}
 use Rattle.written_model.specs.declared.options.Options.{Options}
 use Rattle.written_model.specs.WrittenSteps.{Use, WrittenStep, steps_in}
 use Rattle.written_model.specs.Found.{is_ground}
@@ -76,7 +75,8 @@ module _ (text sheet : List ℕ) (db : Database) (options : Options) (w : Writin
 
   -- ---- the symbols of a tree
 
-  leaf_meant : (i : ℕ) (e : WrittenStep) → slice_get es i ≡ Some e → is_ground e.tree ≡ true → (x : Leaf) → Contains (leaves_in db.rows e.tree) x → is_meant before (leaf_name db x) ≡ true
+  leaf_meant : (i : ℕ) (e : WrittenStep) → slice_get es i ≡ Some e → is_ground e.tree ≡ true → (x : Leaf) → Contains (leaves_in db.rows e.tree) x
+      → is_meant before (leaf_name db x) ≡ true
   leaf_meant i e at ground (leaf.Const s) h =
       let t = (written_is db book sheet options w wr i e at).sound.typed in
       let same = at_same db book sheet options w wr finished in

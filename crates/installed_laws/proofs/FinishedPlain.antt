@@ -1,7 +1,7 @@
 -- The names of a finished worksheet's theorem are words without a dollar, and there is no dollar in its proof.
-use Rattle.std.specs.Prelude.{◌≡◌, ◌==◌, ◌&&◌, ℕ, Bool, true, not, List, [], length, map, unwrap_or, Contains, Option, Some, None, refl}
+use Rattle.std.specs.Prelude.{◌≡◌, ◌==◌, ℕ, Bool, true, not, List, [], length, map, unwrap_or, Contains, Option, Some, None, refl}
 use Rattle.std.specs.List.{AllByRecursion, list_all}
-use Rattle.std.proofs.Common.{sym, ap, subst, ◌∙◌, cond, inl, inr}
+use Rattle.std.proofs.Common.{sym, subst, ◌∙◌, cond, inl, inr}
 use Rattle.std.proofs.lemmas.Bool.{cases_Bool, and_from, and_parts, not-false}
 use Rattle.mm_model.specs.Labels.{is_label, is_label_byte}
 use Rattle.mm_model.specs.Names.{Name}
@@ -19,13 +19,12 @@ use Rattle.solve_model.specs.Bound.{Binds}
 use Rattle.solve_model.specs.BindFaults.{at_header, theorem_name}
 use Rattle.written_model.specs.declared.options.Options.{Options}
 use Rattle.written_model.specs.WrittenSteps.{WrittenStep, steps_in}
-use Rattle.written_model.specs.Written.{Writing, Writes, frames_of, formula_tokens, written_pairs, written_sheet, written_bound, written_theorem, written_proof, proof_text}
-use Rattle.install_model.specs.declared.install.NewTheorem.{NewTheorem}
+use Rattle.written_model.specs.Written.{Writing, Writes, frames_of, written_pairs, written_sheet, written_bound, written_theorem, written_proof, proof_text}
 use Rattle.install_model.specs.Installed.{named_pair, named_hyp, outer_hyps, own_hyps, new_theorem}
 use Rattle.install_laws.specs.InstalledStatements.{IsPlain, IsPlainTheorem}
 use Rattle.push_laws.proofs.Books.{is_book}
 use Rattle.push_laws.proofs.Facts.{IsBook}
-use Rattle.push_laws.proofs.Lists.{contains_get, get_contains, zip_get}
+use Rattle.push_laws.proofs.Lists.{contains_get, zip_get}
 use Rattle.push_laws.proofs.QedLaw.{n, below as qed_below, proof_is}
 use Rattle.push_laws.proofs.ReadHyps.{hyp_steps}
 use Rattle.push_laws.proofs.StepLaw.{are_named, arities}

@@ -1,5 +1,5 @@
 -- A symbol that is declared at a place is meant there, by its name.
-use Rattle.std.specs.Prelude.{◌≡◌, ◌<◌, ◌==◌, ◌&&◌, ◌||◌, ℕ, Bool, true, false, List, [], ◌∷◌, length, map, filter, find, reverse, Option, Some, None, option_map, codes, refl}
+use Rattle.std.specs.Prelude.{◌≡◌, ◌<◌, ◌==◌, ◌&&◌, ℕ, Bool, true, false, List, [], ◌∷◌, length, map, filter, find, reverse, Option, Some, None, option_map, codes, refl}
 use Rattle.std.specs.List.{list_any, position_or_len}
 use Rattle.std.specs.Str.{bytes_eq}
 use Rattle.std.proofs.Common.{sym, ap, subst, ◌∙◌, cond, get_or, inl, inr}
@@ -9,7 +9,6 @@ use Rattle.mm_base.specs.declared.symbols.Sym.{Sym}
 use Rattle.mm_base.specs.declared.symbols.Typecode.{Typecode}
 use Rattle.mm_base.specs.declared.kinds.Kinds.{Kinds}
 use Rattle.mm_model.specs.declared.frames.Hyp.{Hyp}
-use Rattle.mm_model.specs.declared.rows.Leaf.{Leaf}
 use Rattle.mm_model.specs.declared.rows.Leaf.TheVariants as leaf
 use Rattle.mm_model.specs.Names.{Name, contains}
 use Rattle.mm_model.specs.Statements.{Statement, statements, constants, variables, typed, active, symbols_in, second, with_keyword}
@@ -91,8 +90,8 @@ module _ (kinds : Kinds) (text : List ℕ) (db : Database) (is : IsDatabaseOf ki
       any-with (λ (x : Statement). list_any (is_of s) (typed_by (formula_of names x))) (λ x. contains (types x) n) (λ x d. second_named s (symbols_in x) less d) (filter is_float hs) made in
       let marked = any-filter (λ x. is_float x && contains (types x) n) is_hypothesis (reverse (active before)) (any-filter (λ x. contains (types x) n) is_float hs told) in
       let kept : list_any (λ x. is_float x && contains (types x) n) (reverse (active before)) ≡ true =
-      any-with (λ x. is_hypothesis x && (is_float x && contains (types x) n)) (λ x. is_float x && contains (types x) n) (λ x d. (and_parts (is_hypothesis x) (is_float x && contains (types x) n) d).1)
-      (reverse (active before)) marked in
+      any-with (λ x. is_hypothesis x && (is_float x && contains (types x) n)) (λ x. is_float x && contains (types x) n)
+      (λ x d. (and_parts (is_hypothesis x) (is_float x && contains (types x) n) d).1) (reverse (active before)) marked in
       any-flat (bytes_eq n) types (with_keyword (codes "$f") (active before))
       ∙ any_kept (λ x. contains (types x) n) is_float (active before) (any-reverse (λ x. is_float x && contains (types x) n) (active before) kept)
 
