@@ -86,21 +86,21 @@ written_filter db (x ∷ xs) = go x.hyp (written_filter db xs)
 
 -- ---- the labels of a sheet with a new theorem
 
-module _ (db : Database) (book : IsBook db) (s : Sheet) (sound : (line code : ℕ) → BindFaultAt db s line code → ⊥) (new : is_new db s ≡ true) where
-  pub theorem_bytes : list_all is_label_byte s.theorem ≡ true
-  theorem_bytes = not-false (list_all is_label_byte s.theorem) (false_from_ne_true (theorem_name s) (λ d. sound s.line 73 (at_header 2 {code = 73} {rule = theorem_name} refl d)))
+pub theorem_bytes : (db : Database) (s : Sheet) → ((line code : ℕ) → BindFaultAt db s line code → ⊥) → list_all is_label_byte s.theorem ≡ true
+theorem_bytes db s sound = not-false (list_all is_label_byte s.theorem) (false_from_ne_true (theorem_name s) (λ d. sound s.line 73 (at_header 2 {code = 73} {rule = theorem_name} refl d)))
 
+module _ (db : Database) (book : IsBook db) (s : Sheet) (sound : (line code : ℕ) → BindFaultAt db s line code → ⊥) (new : is_new db s ≡ true) where
   lacks_by : (o : Option Label) → is_some o ≡ false → o ≡ None
   lacks_by None e = refl
   lacks_by (Some l) e = absurd cc
 
-  pub theorem_lacks : label_of db s.theorem ≡ None
+  theorem_lacks : label_of db s.theorem ≡ None
   theorem_lacks =
       lacks_by (label_of db s.theorem) (other_fails (is_new db s) (is_some (label_of db s.theorem)) new
       (false_from_ne_true (theorem_taken db s) (λ d. sound s.line 61 (at_header 1 {code = 61} {rule = theorem_taken db} refl d))))
 
   -- an `h` step past the given `$e` has another label than the theorem
-  pub other_label : (m : ℕ) (t : SheetStep) (l : Name) → length (given_hyps db s) ≤ m → slice_get (hyp_steps db book s sound) m ≡ Some t → t.reference ≡ Some l → bytes_eq l s.theorem ≡ false
+  other_label : (m : ℕ) (t : SheetStep) (l : Name) → length (given_hyps db s) ≤ m → slice_get (hyp_steps db book s sound) m ≡ Some t → t.reference ≡ Some l → bytes_eq l s.theorem ≡ false
   other_label m t l less e r =
       let at = filter_at (λ (x : SheetStep). x.hyp) (steps s) m t e in
       let same : hyps_before s at.index ≡ m = at.before in
@@ -181,7 +181,7 @@ module _ (text sheet : List ℕ) (db : Database) (options : Options) (w : Writin
   pub labels_have_bytes : AllByRecursion (λ n. list_all is_label_byte n ≡ true) (new_labels (new_theorem db options w))
   labels_have_bytes =
       all_before (λ n. list_all is_label_byte n ≡ true) own_labels w.read.theorem
-      (λ k n at. (and_parts (not (length n == 0)) (list_all is_label_byte n) (own_at k n at).spelled).1) (theorem_bytes db book ws binds.sound is_new')
+      (λ k n at. (and_parts (not (length n == 0)) (list_all is_label_byte n) (own_at k n at).spelled).1) (theorem_bytes db ws binds.sound)
 
   pub labels_are_new : HasNewLabels text (new_theorem db options w)
   labels_are_new =

@@ -32,6 +32,7 @@ use Rattle.push_laws.proofs.TheoremHyps.{IsRead}
 use Rattle.push_laws.proofs.WrittenSheet.{sheet as read_sheet, written_hyps, hyps_zip}
 use Rattle.installed_laws.specs.CanBePutIn.{is_formula, is_pair}
 use Rattle.installed_laws.proofs.FinishedFormulas.{dropped, all_named, hyps_are_formulas, qed_is_formula}
+use Rattle.installed_laws.proofs.FinishedLabels.{theorem_bytes}
 use Rattle.installed_laws.proofs.FinishedPairs.{pairs_are_pairs}
 use Rattle.installed_laws.proofs.PlainNames.{label_plain, formula_plain, pair_plain}
 use Rattle.installed_laws.proofs.ProofBytes.{HasFineBytes, written_bytes}
@@ -51,12 +52,8 @@ module _ (text sheet : List ℕ) (db : Database) (options : Options) (w : Writin
   abbrev before : List Statement
   before = below (statements text) w.bound.place
 
-  -- a name that fault 73 lets pass
   theorem_is_label : is_label w.read.theorem ≡ true
-  theorem_is_label = and_from (not (length w.read.theorem == 0)) (list_all is_label_byte w.read.theorem) some (elim (cases_Bool (theorem_name ws)) [
-    | inl d ↦ absurd (binds.sound ws.line 73 (at_header 2 {code = 73} {rule = theorem_name} refl d))
-    | inr d ↦ not-false (list_all is_label_byte w.read.theorem) d
-  ])
+  theorem_is_label = and_from (not (length w.read.theorem == 0)) (list_all is_label_byte w.read.theorem) some (theorem_bytes db ws binds.sound)
     where
       some : not (length w.read.theorem == 0) ≡ true
       some = (and_parts (not (length w.read.theorem == 0)) (list_all (λ b. not (is_white b)) w.read.theorem) spellable.theorem).0
