@@ -1,14 +1,13 @@
 -- The labels of a finished worksheet's theorem have the bytes of labels, are none of the text, and differ.
 use Rattle.std.specs.Prelude.{◌≡◌, ◌<◌, ◌≤◌, ◌+◌, ◌==◌, ◌&&◌, ◌||◌, ℕ, zero, suc, Bool, true, false, not, nat_le, List, [], ◌∷◌, ◌++◌, length, map, drop, filter, slice_get, position, unwrap_or, is_some, Contains, Option, Some, None, option_map, refl}
-use Rattle.std.specs.List.{AllByRecursion, list_all, list_any}
+use Rattle.std.specs.List.{AllByRecursion, list_all}
 use Rattle.std.specs.Option.{option_map_or}
 use Rattle.std.specs.Str.{bytes_eq}
-use Rattle.std.proofs.Common.{sym, ap, subst, ◌∙◌, arith, cond, inl, inr}
-use Rattle.std.proofs.lemmas.Bool.{and_from, and_parts, or_parts, not-false, false_from_ne_true, both_ways, le-leb}
+use Rattle.std.proofs.Common.{sym, ap, subst, ◌∙◌, arith, cond}
+use Rattle.std.proofs.lemmas.Bool.{and_from, and_parts, or_parts, not-false, false_from_ne_true, le-leb}
 use Rattle.std.proofs.lemmas.Slice.Eq.{bytes_eq-Decides}
 use Rattle.mm_base.specs.declared.symbols.Label.{Label}
 use Rattle.mm_model.specs.declared.frames.Frame.{Frame}
-use Rattle.mm_model.specs.declared.frames.Hyp.{Hyp}
 use Rattle.mm_model.specs.Labels.{is_label, is_label_byte}
 use Rattle.mm_model.specs.Names.{Name, label, contains, has_twice}
 use Rattle.mm_model.specs.Productions.{essentials}
@@ -18,7 +17,7 @@ use Rattle.sheet_text.specs.declared.sheet.Sheet.{Sheet}
 use Rattle.sheet_text.specs.declared.sheet.SheetStep.{SheetStep}
 use Rattle.sheet_text.specs.Layout.{steps}
 use Rattle.solve_model.specs.Binding.{existing, is_new, place_of, given_hyps, hyps_before}
-use Rattle.solve_model.specs.BindFaults.{BindFaultAt, at_header, at_step, step_rules, theorem_name, theorem_taken, hyp_label_taken}
+use Rattle.solve_model.specs.BindFaults.{BindFaultAt, at_header, at_step, theorem_name, theorem_taken, hyp_label_taken}
 use Rattle.solve_model.specs.Bound.{Binds}
 use Rattle.written_model.specs.declared.options.Options.{Options}
 use Rattle.written_model.specs.WrittenSteps.{WrittenStep, steps_in}
@@ -28,12 +27,11 @@ use Rattle.install_model.specs.Moved.{new_labels}
 use Rattle.install_laws.specs.InstalledDatabase.{HasNewLabels}
 use Rattle.push_laws.proofs.Books.{is_book}
 use Rattle.push_laws.proofs.Facts.{IsBook}
-use Rattle.push_laws.proofs.Lists.{first, later, nothing, any_contains, contains_get, get_contains, get_mapped, map_get, zip_get}
-use Rattle.push_laws.proofs.ReadHyps.{FilterAt, filter_at, hyp_steps, new_label, labels_differ as read_labels_differ, label_found}
+use Rattle.push_laws.proofs.Lists.{any_contains, get_mapped, map_get, zip_get}
+use Rattle.push_laws.proofs.ReadHyps.{filter_at, hyp_steps, new_label, labels_differ as read_labels_differ, label_found}
 use Rattle.push_laws.proofs.StepLaw.{steps_written}
 use Rattle.push_laws.proofs.TheoremHyps.{IsRead}
 use Rattle.push_laws.proofs.WrittenSheet.{sheet as read_sheet, written_hyps, hyps_zip}
-use Rattle.installed_laws.proofs.FinishedFormulas.{dropped}
 
 -- ---- lists of names
 

@@ -1,8 +1,8 @@
 -- The names of a finished worksheet's theorem are words without a dollar, and there is no dollar in its proof.
-use Rattle.std.specs.Prelude.{◌≡◌, ◌==◌, ℕ, Bool, true, not, List, [], length, map, unwrap_or, Contains, Option, Some, None, refl}
+use Rattle.std.specs.Prelude.{◌≡◌, ◌==◌, ℕ, Bool, true, not, List, [], length, map, unwrap_or, Contains, Option, Some, None}
 use Rattle.std.specs.List.{AllByRecursion, list_all}
-use Rattle.std.proofs.Common.{sym, subst, ◌∙◌, cond, inl, inr}
-use Rattle.std.proofs.lemmas.Bool.{cases_Bool, and_from, and_parts, not-false}
+use Rattle.std.proofs.Common.{sym, subst, ◌∙◌, cond}
+use Rattle.std.proofs.lemmas.Bool.{and_from, and_parts}
 use Rattle.mm_model.specs.Labels.{is_label, is_label_byte}
 use Rattle.mm_model.specs.Names.{Name}
 use Rattle.mm_model.specs.Words.{is_white}
@@ -16,7 +16,6 @@ use Rattle.proof_model.specs.declared.theorem.Theorem.{Theorem}
 use Rattle.sheet_text.specs.declared.sheet.Sheet.{Sheet}
 use Rattle.sheet_text.specs.Spellable.{IsSpellable}
 use Rattle.solve_model.specs.Bound.{Binds}
-use Rattle.solve_model.specs.BindFaults.{at_header, theorem_name}
 use Rattle.written_model.specs.declared.options.Options.{Options}
 use Rattle.written_model.specs.WrittenSteps.{WrittenStep, steps_in}
 use Rattle.written_model.specs.Written.{Writing, Writes, frames_of, written_pairs, written_sheet, written_bound, written_theorem, written_proof, proof_text}

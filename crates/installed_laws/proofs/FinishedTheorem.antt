@@ -5,11 +5,10 @@ use Rattle.std.proofs.Common.{sym, subst}
 use Rattle.mm_model.specs.Statements.{statements, database_fault}
 use Rattle.mm_model.specs.Book.{Database, IsDatabaseOf}
 use Rattle.model_laws.specs.DatabaseLaws.{IsSymbolName}
-use Rattle.solve_model.specs.Binding.{place_of}
 use Rattle.solve_model.specs.Bound.{Binds}
 use Rattle.written_model.specs.declared.options.Options.{Options}
 use Rattle.written_model.specs.Opened.{IsOpened}
-use Rattle.written_model.specs.Written.{Writing, Writes, HasNoLateFault, Answers, wrote, written, written_sheet, written_bound}
+use Rattle.written_model.specs.Written.{Writing, Writes, Answers, wrote, written, written_sheet, written_bound}
 use Rattle.install_model.specs.Installed.{new_theorem}
 use Rattle.answer_laws.specs.WrittenReads.{WrittenReadsBack, IsReadBack}
 use Rattle.again_laws.specs.Second.{WrittenSheetBinds}

@@ -1,5 +1,5 @@
 -- The place of a new theorem is one of the text, where no block is open.
-use Rattle.std.specs.Prelude.{◌≡◌, ◌≤◌, ◌<◌, ◌⊎◌, ◌+◌, ◌-◌, ℕ, zero, suc, Bool, true, false, not, List, [], ◌∷◌, length, take, reverse, find, unwrap_or, Option, Some, None, option_and_then, if◌then◌else◌, refl}
+use Rattle.std.specs.Prelude.{◌≡◌, ◌≤◌, ◌<◌, ◌⊎◌, ◌+◌, ◌-◌, ℕ, zero, suc, Bool, true, false, not, List, [], ◌∷◌, length, reverse, find, unwrap_or, Option, Some, None, option_and_then, refl}
 use Rattle.std.specs.List.{range_with_len}
 use Rattle.std.specs.Option.{option_map_or}
 use Rattle.std.proofs.Common.{sym, ap, subst, ◌∙◌, cond, arith, inl, inr}
@@ -8,12 +8,11 @@ use Rattle.std.proofs.lemmas.List.{take_all, reverse-reverse}
 use Rattle.mm_base.specs.declared.symbols.Label.{Label}
 use Rattle.mm_base.specs.declared.kinds.Kinds.{Kinds}
 use Rattle.mm_model.specs.declared.frames.Frame.{Frame}
-use Rattle.mm_model.specs.Faults.{fault, Fault}
-use Rattle.mm_model.specs.Names.{Name}
+use Rattle.mm_model.specs.Faults.{fault}
 use Rattle.mm_model.specs.Tokens.{tokens}
 use Rattle.mm_model.specs.Words.{Word}
 use Rattle.mm_model.specs.Statements.{Statement, statements, path, is_empty, ended, unended, end_fault, statement_fault}
-use Rattle.mm_model.specs.Frames.{below, position_of, place_after, end_of}
+use Rattle.mm_model.specs.Frames.{below, position_of, place_after}
 use Rattle.mm_model.specs.Book.{Database, IsDatabaseOf, label_of}
 use Rattle.sheet_text.specs.declared.sheet.Sheet.{Sheet}
 use Rattle.solve_model.specs.Binding.{existing, place_of, new_place}
@@ -25,7 +24,7 @@ found_in : (p : ℕ → Bool) (a n k : ℕ) → find p (range_with_len a n) ≡ 
 found_in p a zero k e = absurd cc
 found_in p a (suc n) k e = elim (cases_Bool (p a)) [
   | inl d ↦ let same : a ≡ k = (let one : Some a ≡ Some k = subst (λ (b : Bool). cond b (Some a) (find p (range_with_len (a + 1) n)) ≡ Some k) d e in cc) in
-    (ap p (sym same) ∙ d, omega (arith, same))
+      (ap p (sym same) ∙ d, omega (arith, same))
   | inr d ↦
       let rest : find p (range_with_len (a + 1) n) ≡ Some k = subst (λ (b : Bool). cond b (Some a) (find p (range_with_len (a + 1) n)) ≡ Some k) d e in
       let r = found_in p (a + 1) n k rest in
