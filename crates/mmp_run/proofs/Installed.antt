@@ -31,8 +31,8 @@ tells_open db options w text outcome (Err e) is new not_done shows = tt
 tells_open db options w text outcome (Ok end) is new not_done shows =
     made.is_open (sym is.existing ∙ new) (sym is.finished ∙ not_done) shows
 
-puts_text : (law : LawOfInstalling) (db : Database) (options : Options) (text sheet : List ℕ) (w : Writing) (end : Ending) → database_fault text ≡ None → IsDatabaseOf options.kinds text db → Answers db sheet options (wrote w) → w.bound.existing ≡ false → w.finished ≡ true
-    → TellsText db options w text end → PutsIn db options text sheet end
+puts_text : (law : LawOfInstalling) (db : Database) (options : Options) (text sheet : List ℕ) (w : Writing) (end : Ending) → database_fault text ≡ None
+    → IsDatabaseOf options.kinds text db → Answers db sheet options (wrote w) → w.bound.existing ≡ false → w.finished ≡ true → TellsText db options w text end → PutsIn db options text sheet end
 puts_text law db options text sheet w end sound book is new done (made.large long says) = record {
   answer = answers.too_large (length (installed_text db options w text));
   installs = answers.is_large is new done long;
@@ -46,15 +46,16 @@ puts_text law db options text sheet w end sound book is new done (made.put_in sh
   keeps = law options text sheet db w sound book is new done short;
 }
 
-puts : (law : LawOfInstalling) (db : Database) (options : Options) (text sheet : List ℕ) (w : Writing) (end : Ending) → database_fault text ≡ None → IsDatabaseOf options.kinds text db → Answers db sheet options (wrote w) → TellsInstall db options w text end
-    → PutsIn db options text sheet end
+puts : (law : LawOfInstalling) (db : Database) (options : Options) (text sheet : List ℕ) (w : Writing) (end : Ending) → database_fault text ≡ None
+    → IsDatabaseOf options.kinds text db → Answers db sheet options (wrote w) → TellsInstall db options w text end → PutsIn db options text sheet end
 puts law db options text sheet w end sound book is (made.is_there there says) =
     record { answer = answers.theorem_there; installs = answers.is_there is there; gives = refuses end status.Sheet theorem_there_line says; keeps = tt }
-puts law db options text sheet w end sound book is (made.is_open new not_done shows) = record { answer = answers.unfinished w; installs = answers.is_open is new not_done; gives = shows; keeps = tt }
+puts law db options text sheet w end sound book is (made.is_open new not_done shows) =
+    record { answer = answers.unfinished w; installs = answers.is_open is new not_done; gives = shows; keeps = tt }
 puts law db options text sheet w end sound book is (made.done new done tells) = puts_text law db options text sheet w end sound book is new done tells
 
-pub outcome_installs : (law : LawOfInstalling) (options : Options) (text sheet : List ℕ) (d : Opened) (outcome : Outcome) (end : Result Ending memory.Memory) → IsOpened options.kinds text d
-    → IsOutcome (book options text d) sheet options outcome
+pub outcome_installs : (law : LawOfInstalling) (options : Options) (text sheet : List ℕ) (d : Opened) (outcome : Outcome) (end : Result Ending memory.Memory)
+    → IsOpened options.kinds text d → IsOutcome (book options text d) sheet options outcome
     → ((w : Writing) → IsWritten (book options text d) options w outcome → IfOk end (TellsInstall (book options text d) options w text)) → IfOk end (IsInstalled options text sheet)
 outcome_installs law options text sheet d outcome (Err e) opened is tells = tt
 outcome_installs law options text sheet d outcome (Ok end) opened is tells = record {
