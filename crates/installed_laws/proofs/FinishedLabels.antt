@@ -1,5 +1,6 @@
 -- The labels of a finished worksheet's theorem have the bytes of labels, are none of the text, and differ.
-use Rattle.std.specs.Prelude.{◌≡◌, ◌<◌, ◌≤◌, ◌+◌, ◌==◌, ◌&&◌, ◌||◌, ℕ, zero, suc, Bool, true, false, not, nat_le, List, [], ◌∷◌, ◌++◌, length, map, drop, filter, slice_get, position, unwrap_or, is_some, Contains, Option, Some, None, option_map, refl}
+use Rattle.std.specs.Prelude.{◌≡◌, ◌<◌, ◌≤◌, ◌+◌, ◌==◌, ◌&&◌, ◌||◌, ℕ, zero, suc, Bool, true, false, not, nat_le}
+use Rattle.std.specs.Prelude.{List, [], ◌∷◌, ◌++◌, length, map, drop, filter, slice_get, position, unwrap_or, is_some, Contains, Option, Some, None, option_map, refl}
 use Rattle.std.specs.List.{AllByRecursion, list_all}
 use Rattle.std.specs.Option.{option_map_or}
 use Rattle.std.specs.Str.{bytes_eq}
@@ -151,7 +152,8 @@ module _ (text sheet : List ℕ) (db : Database) (options : Options) (w : Writin
   own_at k n at =
       let h = get_mapped (λ (h : Name × List Name). h.0) (map (named_hyp db options w) (own_hyps db options w)) k n at in
       let e = get_mapped (named_hyp db options w) (own_hyps db options w) k h.0 h.1 in
-      let here : slice_get (written_hyps db book sheet options w wr) (outer_hyps db options w + k) ≡ Some e.0 = sym (get_drop (outer_hyps db options w) k (written_hyps db book sheet options w wr)) ∙ e.1 in
+      let here : slice_get (written_hyps db book sheet options w wr) (outer_hyps db options w + k) ≡ Some e.0 =
+      sym (get_drop (outer_hyps db options w) k (written_hyps db book sheet options w wr)) ∙ e.1 in
       let t = zip_get (IsRead db book (read_sheet db book sheet options w wr) wr.binds.sound) (written_hyps db book sheet options w wr)
       (hyp_steps db book (read_sheet db book sheet options w wr) wr.binds.sound) (outer_hyps db options w + k) e.0 (hyps_zip db book sheet options w wr) here in
       let reference : e.0.reference ≡ Some t.2.label = t.2.reference ∙ t.2.label_is in
