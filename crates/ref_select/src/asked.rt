@@ -1,0 +1,93 @@
+ghost use Rattle.std.specs.Prelude.{◌≡◌, map, position, slice_get, filter_map, IfOk};
+ghost use Rattle.std.specs.List.{list_all};
+ghost use Rattle.std.specs.Option.{option_copied};
+ghost use Rattle.std.specs.Str.{bytes_eq};
+ghost use Rattle.sheet_text.specs.declared.sheet.SheetStep.{SheetStep as StepOf};
+ghost use Rattle.sheet_text.specs.Layout.{step_of_item};
+ghost use Rattle.ref_select.specs.Asked as spec;
+
+use mm_base::{List, Memory, Tree};
+use ref_search::{Wanted, is_ground};
+use sheet_text::{Given, SheetItem, SheetStep};
+use std::alloc::Global;
+
+/// The steps of a worksheet, in order.
+pub(crate) fn steps_of(alloc: Global, items: &[SheetItem]) -> Result<Vec<&SheetStep>, Memory>
+    ensures { IfOk result (λ steps. spec.refs steps.items ≡ filter_map step_of_item items.now) }
+{
+    let mut steps = Vec::new(alloc);
+    for item in items {
+        if let SheetItem::Step(step) = item {
+            steps.push(step)?;
+        }
+    }
+    Ok(steps)
+}
+
+/// The number of the first step of a name.
+pub(crate) fn number_of(steps: &[&SheetStep], name: &[u8]) -> Option<usize>
+    ensures { result ≡ position (λ (s : StepOf). bytes_eq s.name name.now) (spec.refs steps.now) }
+{
+    steps.iter().position(|step| step.name.as_slice() == name)
+}
+
+/// The tree of the step that a place names.
+fn tree_at(trees: &[Tree], place: Given) -> Option<&Tree>
+    ensures { option_copied result ≡ spec.tree_at trees.now place }
+{
+    match place {
+        Given::Gap => None,
+        Given::Step(k) => trees.get(k as usize),
+    }
+}
+
+fn is_ground_place(trees: &[Tree], place: Given) -> bool
+    ensures { result ≡ spec.is_ground_at trees.now place }
+{
+    match tree_at(trees, place) {
+        None => false,
+        Some(tree) => is_ground(tree),
+    }
+}
+
+/// Whether a step with this tree is no hypothesis, lists no `?`, and neither its formula nor those of its places have a work
+/// variable.
+pub(crate) fn is_closed(trees: &[Tree], step: &SheetStep, tree: &Tree) -> bool
+    ensures { result ≡ spec.is_closed_by trees.now step.now tree.now }
+{
+    if step.hyp {
+        return false;
+    }
+    if !is_ground(tree) {
+        return false;
+    }
+    let places = step.places.as_slice();
+    places.iter().all(|place| is_ground_place(trees, *place))
+}
+
+/// Copies of the trees of the steps that places name.
+fn hyps_of(alloc: Global, trees: &[Tree], places: &[Given]) -> Result<List<Tree>, Memory>
+    ensures { IfOk result (λ hyps. hyps ≡ filter_map (spec.tree_at trees.now) places.now) }
+{
+    let mut hyps = Vec::new(alloc);
+    for place in places {
+        if let Some(tree) = tree_at(trees, *place) {
+            hyps.push(tree.copy()?)?;
+        }
+    }
+    Ok(List::from_vec(hyps))
+}
+
+/// What an assertion has to give, so that it fits a step with this tree.
+pub(crate) fn wanted_of(
+    alloc: Global,
+    trees: &[Tree],
+    step: &SheetStep,
+    tree: &Tree,
+) -> Result<Wanted, Memory>
+    ensures { IfOk result (λ wanted. wanted ≡ spec.wanted_by trees.now step.now tree.now) }
+{
+    let hyps = hyps_of(alloc, trees, step.places.as_slice())?;
+    let formula = tree.copy()?;
+    Ok(Wanted { formula, hyps })
+}
