@@ -50,6 +50,12 @@ fn is_ground_place(trees: &[Tree], place: Given) -> bool
     }
 }
 
+fn are_ground_places(trees: &[Tree], places: &[Given]) -> bool
+    ensures { result ≡ list_all (spec.is_ground_at trees.now) places.now }
+{
+    places.iter().all(|place| is_ground_place(trees, *place))
+}
+
 /// Whether a step with this tree is no hypothesis, lists no `?`, and neither its formula nor those of its places have a work
 /// variable.
 pub(crate) fn is_closed(trees: &[Tree], step: &SheetStep, tree: &Tree) -> bool
@@ -61,8 +67,7 @@ pub(crate) fn is_closed(trees: &[Tree], step: &SheetStep, tree: &Tree) -> bool
     if !is_ground(tree) {
         return false;
     }
-    let places = step.places.as_slice();
-    places.iter().all(|place| is_ground_place(trees, *place))
+    are_ground_places(trees, step.places.as_slice())
 }
 
 /// Copies of the trees of the steps that places name.

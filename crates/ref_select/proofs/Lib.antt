@@ -1,0 +1,4 @@
+pub mod AnswerLaws
+pub mod ClosedLaws
+pub mod NamedLaws
+pub mod StepLists
