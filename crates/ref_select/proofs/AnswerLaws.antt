@@ -70,8 +70,8 @@ module _ (d : Opened) (w : WrittenSheet) (ss : List SheetStep) (n : ℕ) where
       without_tree (database_of kinds text d.rows d.parsed) w.place w.mode w.given.now es (slice_get es n) (sym (tree_there es n) ∙ ap (λ ts. slice_get ts n) (sym trees_are) ∙ none)
 
   pub step_there : (s : SheetStep) (t : Tree) (sel : Selection) → slice_get ss n ≡ Some s → slice_get w.trees.now n ≡ Some t → IsSelectedOf d w s t sel → IsSelectedAt d w ss n sel
-  step_there s t sel step tree k kinds text es opened trees_are each =
-      with_both (database_of kinds text d.rows d.parsed) w.place w.mode w.given.now es (slice_get es n) s t sel (subst (λ o. IsBoth o (slice_get es n)) step (both ss es n each))
+  step_there s t sel at tree k kinds text es opened trees_are each =
+      with_both (database_of kinds text d.rows d.parsed) w.place w.mode w.given.now es (slice_get es n) s t sel (subst (λ o. IsBoth o (slice_get es n)) at (both ss es n each))
       (sym (tree_there es n) ∙ ap (λ ts. slice_get ts n) (sym trees_are) ∙ tree) (λ e written tree_is. k kinds text es e opened trees_are written tree_is)
 
 -- ---- the step of a name
