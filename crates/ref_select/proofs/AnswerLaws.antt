@@ -1,5 +1,6 @@
 -- The answers are those of the definitions.
 use Rattle.std.specs.Prelude.{◌≡◌, ℕ, zero, suc, List, [], ◌∷◌, map, filter_map, position, slice_get, Option, Some, None, option_map, refl}
+use Rattle.std.specs.Borrow.{Bor}
 use Rattle.std.specs.List.{AllZip}
 use Rattle.std.proofs.Common.{sym, ap, subst, ◌∙◌}
 use Rattle.mm_base.specs.declared.kinds.Kinds.{Kinds}
@@ -19,9 +20,9 @@ use Rattle.written_model.specs.WrittenSteps.{WrittenItem, WrittenStep, comment, 
 use Rattle.ref_select.specs.declared.written.Selection.{Selection}
 use Rattle.ref_select.specs.declared.written.Selection.TheVariants as selection
 use Rattle.ref_select.specs.declared.written.WrittenSheet.{WrittenSheet}
-use Rattle.ref_select.specs.Asked.{IsSelectedAt, IsSelectedOf}
+use Rattle.ref_select.specs.Asked.{IsSelectedAt, IsSelectedOf, refs}
 use Rattle.ref_select.specs.Selecting.{AreWrittenAs, IsAnswer, IsOfWriting, IsSelection, IsWrittenAs, SelectionIsTheAnswer, answer_of}
-use Rattle.ref_select.proofs.NamedLaws.{has_name, is_named, named_at, not_named}
+use Rattle.ref_select.proofs.NamedLaws.{has_name, named_at, not_named, refs_position}
 
 -- ---- the step of a number
 
@@ -76,18 +77,23 @@ module _ (d : Opened) (w : WrittenSheet) (ss : List SheetStep) (n : ℕ) where
 
 -- ---- the step of a name
 
-module _ (d : Opened) (w : WrittenSheet) (name : Name) (ss : List SheetStep) (steps_are : ss ≡ filter_map step_of_item w.items.now) where
+module _ (d : Opened) (w : WrittenSheet) (name : Name) (steps : List (Bor SheetStep)) (steps_are : refs steps ≡ filter_map step_of_item w.items.now) where
   abbrev IsTold : Kinds → List ℕ → List WrittenStep → Selection → Option WrittenStep → Type 0
   IsTold kinds text es sel o = IsSelection (database_of kinds text d.rows d.parsed) w.place w.mode w.given.now es o sel
 
-  pub not_there : position (has_name name) ss ≡ None → IsAnswer d w name selection.NoSuchStep
-  not_there none kinds text es opened written =
-      subst (IsTold kinds text es selection.NoSuchStep) (sym (not_named name ss es (subst (λ xs. AllZip IsWrittenAs xs es) (sym steps_are) written.each) none)) tt
+  abbrev number : Option ℕ
+  number = position (λ (s : Bor SheetStep). has_name name s.now) steps
 
-  pub there : (n : ℕ) (sel : Selection) → position (has_name name) ss ≡ Some n → IsSelectedAt d w ss n sel → IsAnswer d w name sel
+  each_of : (es : List WrittenStep) → AreWrittenAs w.items.now w.trees.now es → AllZip IsWrittenAs (refs steps) es
+  each_of es written = subst (λ xs. AllZip IsWrittenAs xs es) (sym steps_are) written.each
+
+  pub not_there : number ≡ None → IsAnswer d w name selection.NoSuchStep
+  not_there none kinds text es opened written =
+      subst (IsTold kinds text es selection.NoSuchStep) (sym (not_named name (refs steps) es (each_of es written) (sym (refs_position name steps) ∙ none))) tt
+
+  pub there : (n : ℕ) (sel : Selection) → number ≡ Some n → IsSelectedAt d w (refs steps) n sel → IsAnswer d w name sel
   there n sel at k kinds text es opened written =
-      let each : AllZip IsWrittenAs ss es = subst (λ xs. AllZip IsWrittenAs xs es) (sym steps_are) written.each in
-      subst (IsTold kinds text es sel) (named_at name ss es each n at) (k kinds text es opened written.trees_are each)
+      subst (IsTold kinds text es sel) (named_at name (refs steps) es (each_of es written) n (sym (refs_position name steps) ∙ at)) (k kinds text es opened written.trees_are (each_of es written))
 
 -- ---- the worksheet that was read
 

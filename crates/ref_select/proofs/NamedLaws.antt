@@ -1,5 +1,6 @@
 -- The written step of a name, by the number of the step that has it.
 use Rattle.std.specs.Prelude.{◌≡◌, ℕ, zero, suc, ◌+◌, ◌≤◌, ◌<◌, Bool, true, false, not, List, [], ◌∷◌, length, find, position, slice_get, nat_lt, Option, Some, None, refl}
+use Rattle.std.specs.Borrow.{Bor}
 use Rattle.std.specs.List.{AllZip, position_or_len}
 use Rattle.std.specs.Str.{bytes_eq}
 use Rattle.std.proofs.Common.{sym, ap, subst, cond, ◌∙◌, arith}
@@ -8,6 +9,7 @@ use Rattle.std.proofs.lemmas.List.Folds.{find_at}
 use Rattle.mm_model.specs.Names.{Name}
 use Rattle.sheet_text.specs.declared.sheet.SheetStep.{SheetStep}
 use Rattle.written_model.specs.WrittenSteps.{WrittenStep}
+use Rattle.ref_select.specs.Asked.{refs}
 use Rattle.ref_select.specs.Selecting.{IsWrittenAs}
 
 some_is : (b : Bool) (k n : ℕ) → cond b (Some k) None ≡ Some n → k ≡ n
@@ -32,6 +34,20 @@ module _ (name : Name) where
 
   abbrev pub is_named : WrittenStep → Bool
   is_named e = bytes_eq e.name name
+
+  -- the same number of the references
+  refs_number : (steps : List (Bor SheetStep)) → position_or_len (λ (s : Bor SheetStep). has_name s.now) steps ≡ position_or_len has_name (refs steps)
+  refs_number [] = refl
+  refs_number (s ∷ steps) = ap (λ k. cond (not (has_name s.now)) (1 + k) 0) (refs_number steps)
+
+  refs_length : (steps : List (Bor SheetStep)) → length steps ≡ length (refs steps)
+  refs_length [] = refl
+  refs_length (s ∷ steps) = ap suc (refs_length steps)
+
+  pub refs_position : (steps : List (Bor SheetStep)) → position (λ (s : Bor SheetStep). has_name s.now) steps ≡ position has_name (refs steps)
+  refs_position steps =
+      ap (λ k. cond (nat_lt k (length steps)) (Some k) None) (refs_number steps)
+      ∙ ap (λ n. cond (nat_lt (position_or_len has_name (refs steps)) n) (Some (position_or_len has_name (refs steps))) None) (refs_length steps)
 
   same_number : (ss : List SheetStep) (es : List WrittenStep) → AllZip IsWrittenAs ss es → position_or_len has_name ss ≡ position_or_len is_named es
   same_number [] [] h = refl

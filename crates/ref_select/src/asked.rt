@@ -1,4 +1,5 @@
 ghost use Rattle.std.specs.Prelude.{◌≡◌, map, position, slice_get, filter_map, IfOk};
+ghost use Rattle.std.specs.Borrow.{Bor};
 ghost use Rattle.std.specs.List.{list_all};
 ghost use Rattle.std.specs.Option.{option_copied};
 ghost use Rattle.std.specs.Str.{bytes_eq};
@@ -26,7 +27,7 @@ pub(crate) fn steps_of(alloc: Global, items: &[SheetItem]) -> Result<Vec<&SheetS
 
 /// The number of the first step of a name.
 pub(crate) fn number_of(steps: &[&SheetStep], name: &[u8]) -> Option<usize>
-    ensures { result ≡ position (λ (s : StepOf). bytes_eq s.name name.now) (spec.refs steps.now) }
+    ensures { result ≡ position (λ (s : Bor StepOf). bytes_eq s.now.name name.now) steps.now }
 {
     steps.iter().position(|step| step.name.as_slice() == name)
 }
