@@ -1,4 +1,5 @@
-use Rattle.std.proofs.Common.{◌≡◌, true, sym, ap, subst, ◌∙◌}
+use Rattle.std.proofs.Common.{◌≡◌, true, sym, subst, ◌∙◌}
+use Rattle.std.specs.Option.{option_copied}
 use Rattle.ref_search.specs.Fitting.{AreAnswer}
 use Rattle.ref_search.specs.Placing.{IsClosed}
 use Rattle.ref_select.specs.Asked.{is_closed_by}
@@ -17,5 +18,6 @@ all-requires c =
 pub returns : goal.returns
 returns c =
     let closed : is_closed_by c.args.written.now.trees.now c.args.step.now c.args.tree.now ≡ true = sym c.is_closed.ensures ∙ c.if-not-is_closed.false in
-    fitting_step c.args.db.now c.args.written.now c.args.step.now c.args.tree.now _ _ closed c.allowed_pairs-allowed.ensures
-    (subst (λ wanted. AreAnswer c.args.db.now c.args.written.now.place wanted _ _) c.in_ok-wanted.ensures c.in_ok-labels.ensures)
+    let allowed = option_copied c.allowed_pairs-allowed.result in
+    fitting_step c.args.db.now c.args.written.now c.args.step.now c.args.tree.now allowed c.in_ok-labels.labels closed c.allowed_pairs-allowed.ensures
+    (subst (λ wanted. AreAnswer c.args.db.now c.args.written.now.place wanted allowed c.in_ok-labels.labels) c.in_ok-wanted.ensures c.in_ok-labels.ensures)
