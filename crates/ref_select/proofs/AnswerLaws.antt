@@ -61,31 +61,24 @@ module _ (db : Database) (place : ℕ) (mode : DvMode) (allowed : List Pair) (es
   with_both None s t sel b h k = absurd b
   with_both (Some e) s t sel b h k = k e b (cc)
 
-refs_get : (steps : List (Bor SheetStep)) (n : ℕ) (o : Option (Bor SheetStep)) → slice_get steps n ≡ o → slice_get (refs steps) n ≡ option_map (λ (s : Bor SheetStep). s.now) o
-refs_get [] n o h = ap (option_map (λ (s : Bor SheetStep). s.now)) h
-refs_get (s ∷ steps) zero o h = ap (option_map (λ (s : Bor SheetStep). s.now)) h
-refs_get (s ∷ steps) (suc n) o h = refs_get steps n o h
-
-module _ (d : Opened) (w : WrittenSheet) (steps : List (Bor SheetStep)) (n : ℕ) where
-  beside : (es : List WrittenStep) → AllZip IsWrittenAs (refs steps) es → (o : Option (Bor SheetStep)) → slice_get steps n ≡ o
-      → IsBoth (option_map (λ (s : Bor SheetStep). s.now) o) (slice_get es n)
-  beside es each o h = subst (λ x. IsBoth x (slice_get es n)) (refs_get steps n o h) (both (refs steps) es n each)
+module _ (d : Opened) (w : WrittenSheet) (ss : List SheetStep) (n : ℕ) where
+  beside : (es : List WrittenStep) → AllZip IsWrittenAs ss es → (o : Option SheetStep) → slice_get ss n ≡ o → IsBoth o (slice_get es n)
+  beside es each o h = subst (λ x. IsBoth x (slice_get es n)) h (both ss es n each)
 
   tree_beside : (es : List WrittenStep) → w.trees.now ≡ trees es → (o : Option Tree) → slice_get w.trees.now n ≡ o → option_map (λ (e : WrittenStep). e.tree) (slice_get es n) ≡ o
   tree_beside es trees_are o h = sym (tree_there es n) ∙ ap (λ ts. slice_get ts n) (sym trees_are) ∙ h
 
-  pub no_step : slice_get steps n ≡ None → IsSelectedAt d w (refs steps) n selection.NoSuchStep
+  pub no_step : slice_get ss n ≡ None → IsSelectedAt d w ss n selection.NoSuchStep
   no_step none kinds text es opened trees_are each =
       without_step (database_of kinds text d.rows d.parsed) w.place w.mode w.given.now es (slice_get es n) (beside es each None none)
 
-  pub no_tree : slice_get w.trees.now n ≡ None → IsSelectedAt d w (refs steps) n selection.NoSuchStep
+  pub no_tree : slice_get w.trees.now n ≡ None → IsSelectedAt d w ss n selection.NoSuchStep
   no_tree none kinds text es opened trees_are each =
       without_tree (database_of kinds text d.rows d.parsed) w.place w.mode w.given.now es (slice_get es n) (tree_beside es trees_are None none)
 
-  pub step_there : (r : Bor SheetStep) (t : Tree) (sel : Selection) → slice_get steps n ≡ Some r → slice_get w.trees.now n ≡ Some t → IsSelectedOf d w r.now t sel
-      → IsSelectedAt d w (refs steps) n sel
-  step_there r t sel at tree k kinds text es opened trees_are each =
-      with_both (database_of kinds text d.rows d.parsed) w.place w.mode w.given.now es (slice_get es n) r.now t sel (beside es each (Some r) at) (tree_beside es trees_are (Some t) tree)
+  pub step_there : (s : SheetStep) (t : Tree) (sel : Selection) → slice_get ss n ≡ Some s → slice_get w.trees.now n ≡ Some t → IsSelectedOf d w s t sel → IsSelectedAt d w ss n sel
+  step_there s t sel at tree k kinds text es opened trees_are each =
+      with_both (database_of kinds text d.rows d.parsed) w.place w.mode w.given.now es (slice_get es n) s t sel (beside es each (Some s) at) (tree_beside es trees_are (Some t) tree)
       (λ e written tree_is. k kinds text es e opened trees_are written tree_is)
 
 -- ---- the step of a name

@@ -32,13 +32,30 @@ pub(crate) fn number_of(steps: &[&SheetStep], name: &[u8]) -> Option<usize>
     steps.iter().position(|step| step.name.as_slice() == name)
 }
 
+/// The step of a number.
+pub(crate) fn step_at<'s>(steps: &[&'s SheetStep], number: usize) -> Option<&'s SheetStep>
+    ensures { option_copied result ≡ slice_get (spec.refs steps.now) number }
+{
+    match steps.get(number) {
+        None => None,
+        Some(step) => Some(step),
+    }
+}
+
+/// The tree of the step of a number.
+pub(crate) fn tree_of(trees: &[Tree], number: usize) -> Option<&Tree>
+    ensures { option_copied result ≡ slice_get trees.now number }
+{
+    trees.get(number)
+}
+
 /// The tree of the step that a place names.
 fn tree_at(trees: &[Tree], place: Given) -> Option<&Tree>
     ensures { option_copied result ≡ spec.tree_at trees.now place }
 {
     match place {
         Given::Gap => None,
-        Given::Step(k) => trees.get(k as usize),
+        Given::Step(k) => tree_of(trees, k as usize),
     }
 }
 

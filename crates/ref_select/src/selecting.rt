@@ -4,7 +4,7 @@ ghost use Rattle.ref_search.specs.Wholes.{IsAllowed};
 ghost use Rattle.ref_select.specs.Asked.{IsSelectedOf, IsSelectedAt, refs};
 ghost use Rattle.ref_select.specs.Selecting.{IsAnswer};
 
-use crate::asked::{is_closed, number_of, steps_of, wanted_of};
+use crate::asked::{is_closed, number_of, step_at, steps_of, tree_of, wanted_of};
 use crate::written::{Selection, WrittenSheet};
 use mm_base::{List, Memory, Pair, Tree};
 use mm_database::Database;
@@ -52,9 +52,9 @@ fn select_at(
 ) -> Result<Selection, Memory>
     ensures { IfOk result (IsSelectedAt db.now written.now (refs steps.now) number) }
 {
-    match steps.get(number) {
+    match step_at(steps, number) {
         None => Ok(Selection::NoSuchStep),
-        Some(step) => match written.trees.get(number) {
+        Some(step) => match tree_of(written.trees, number) {
             None => Ok(Selection::NoSuchStep),
             Some(tree) => select(alloc, db, written, step, tree),
         },
@@ -75,9 +75,10 @@ pub fn select_step(
 ) -> Result<Selection, Memory>
     ensures { IfOk result (IsAnswer db.now written.now name.now) }
 {
-    let steps = steps_of(alloc, written.items)?;
-    match number_of(steps.as_slice(), name) {
+    let listed = steps_of(alloc, written.items)?;
+    let steps = listed.as_slice();
+    match number_of(steps, name) {
         None => Ok(Selection::NoSuchStep),
-        Some(number) => select_at(alloc, db, written, steps.as_slice(), number),
+        Some(number) => select_at(alloc, db, written, steps, number),
     }
 }
