@@ -9,7 +9,7 @@ use Rattle.mm_base.specs.declared.tree.Tree.{Tree}
 use Rattle.mm_model.specs.Book.{Database}
 use Rattle.mm_model.specs.Names.{Name}
 use Rattle.mm_database.specs.Books.{database_of}
-use Rattle.mm_database.specs.Opened.{Opened, IsOpened}
+use Rattle.mm_database.specs.Opened.{Opened}
 use Rattle.sheet_text.specs.declared.sheet.SheetStep.{SheetStep}
 use Rattle.sheet_text.specs.Layout.{step_of_item}
 use Rattle.select_model.specs.Selected.{Selects, is_not_there, is_open, selects, step_named}
@@ -131,8 +131,8 @@ selection_answers kinds text d options sheet w written name sel opened answers o
     let es = steps_in w.items in
     let told : IsSelection db written.place written.mode written.given.now es (step_named w name) sel = h kinds text es opened (written_as db options sheet name w answers written of) in
     let at_place : IsSelection db w.bound.place written.mode written.given.now es (step_named w name) sel =
-        subst (λ p. IsSelection db p written.mode written.given.now es (step_named w name) sel) of.place told in
+    subst (λ p. IsSelection db p written.mode written.given.now es (step_named w name) sel) of.place told in
     let in_mode : IsSelection db w.bound.place options.dv written.given.now es (step_named w name) sel =
-        subst (λ m. IsSelection db w.bound.place m written.given.now es (step_named w name) sel) of.mode at_place in
+    subst (λ m. IsSelection db w.bound.place m written.given.now es (step_named w name) sel) of.mode at_place in
     selected db options sheet name w answers (step_named w name) sel refl
     (subst (λ ps. IsSelection db w.bound.place options.dv ps es (step_named w name) sel) of.given in_mode)

@@ -1,8 +1,8 @@
 -- What is asked of a step is what the definitions ask, and what is wanted for it is what they want.
-use Rattle.std.specs.Prelude.{◌≡◌, Bool, true, false, not, ◌&&◌, List, [], ◌∷◌, map, filter_map, slice_get, Option, Some, None, refl}
+use Rattle.std.specs.Prelude.{◌≡◌, Bool, true, false, not, ◌&&◌, List, [], ◌∷◌, map, filter_map, Option, Some, None, refl}
 use Rattle.std.specs.List.{list_all}
 use Rattle.std.specs.Option.{option_map_or}
-use Rattle.std.proofs.Common.{sym, ap, subst, ◌∙◌}
+use Rattle.std.proofs.Common.{sym, ap, ◌∙◌}
 use mathlib.Core.Path.{fun_ext}
 use Rattle.mm_base.specs.declared.tree.Tree.{Tree}
 use Rattle.ref_search.specs.Matching.{AreGround}

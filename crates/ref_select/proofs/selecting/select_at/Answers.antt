@@ -11,8 +11,8 @@ returns-in-None c = no_step c.args.db.now c.args.written.now (refs c.args.steps.
 pub returns-in-None-tree_of : goal.returns-in-None-tree_of
 returns-in-None-tree_of c = no_tree c.args.db.now c.args.written.now (refs c.args.steps.now) c.args.number (sym c.tree_of.ensures ∙ ap option_copied c.in-None-tree_of.is)
 
-pub returns : goal.returns
-returns c =
+pub returns-in-Some-tree_of : goal.returns-in-Some-tree_of
+returns-in-Some-tree_of c =
     IfOk-weaker c.select.result _ _
     (λ sel h. step_there c.args.db.now c.args.written.now (refs c.args.steps.now) c.args.number _ _ sel (sym c.step_at.ensures ∙ ap option_copied c.in-Some.is)
     (sym c.tree_of.ensures ∙ ap option_copied c.in-Some-tree_of.is) h) c.select.ensures
