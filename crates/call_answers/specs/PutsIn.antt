@@ -1,5 +1,5 @@
 -- What `install` answers to a worksheet without a fault of its text: the database with the theorem of the worksheet in it.
-use Rattle.std.specs.Prelude.{◌≡◌, ℕ, List, [], Unit, flat_map}
+use Rattle.std.specs.Prelude.{◌≡◌, ℕ, List, [], flat_map}
 use Rattle.call_answers.specs.declared.ending.Ending.{Ending}
 use Rattle.call_answers.specs.Endings.{Refuses}
 use Rattle.call_answers.specs.Kept.{KeepsAll}
