@@ -23,8 +23,7 @@ pub record SaysSheet (text : List ℕ) (sheet : Sheet) : Type 0 where
   pub reads : Reads text sheet
 
 -- the place of the theorem, whether it is one of the database, the sheet, the proof, the text, the report, the given pairs, the trees
--- of the steps and the end are those
--- of what the worksheet becomes
+-- of the steps and the end are those of what the worksheet becomes
 pub record IsWritten (db : Database) (options : Options) (w : Writing) (outcome : Outcome) : Type 0 where
   pub place : outcome.place ≡ w.bound.place
   pub existing : outcome.existing ≡ w.bound.existing

@@ -2,7 +2,7 @@ use mm_base::{Bytes, List, Pair, Tree};
 use sheet_text::Sheet;
 use written_model::ReportLine;
 
-/// What came of a worksheet.
+/// What came of a worksheet. Its pairs and its trees are copies, made once, when the steps are written.
 #[derive(Debug, Drop)]
 pub struct Outcome {
     /// The place of its theorem: how many statements of the database are before it.
