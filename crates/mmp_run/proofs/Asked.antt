@@ -7,6 +7,7 @@ use Rattle.fault_lines.specs.Refusals.{Refusal}
 use Rattle.mm_base.specs.declared.errors.Memory as memory
 use Rattle.mm_base.specs.declared.status.Status.TheVariants as status
 use Rattle.mm_database.specs.Opened.{Opened, IsOpened}
+use Rattle.mm_model.specs.Book.{Database}
 use Rattle.mm_model.specs.Names.{Name}
 use Rattle.mmp_run.specs.Asked.{IsAsked}
 use Rattle.mmp_run.specs.Refusals.{refusal}
@@ -22,6 +23,22 @@ use Rattle.sheet_unify.specs.declared.faults.UnifyFault.{UnifyFault}
 use Rattle.sheet_unify.specs.declared.outcome.Outcome.{Outcome}
 use Rattle.written_model.specs.declared.options.Options.{Options}
 use Rattle.written_model.specs.Written.{Answers, Writing, wrote, refused}
+
+pub gives_no_step : (db : Database) (step : Name) (end : Result Ending memory.Memory) → IfOk end (λ e. e ≡ refusal status.Sheet (answers.no_such_step_line step))
+    → IfOk end (GivesSelection db step answers.no_such_step)
+gives_no_step db step (Err e) says = tt
+gives_no_step db step (Ok end) says = refuses end status.Sheet (answers.no_such_step_line step) says
+
+pub gives_open : (db : Database) (step : Name) (end : Result Ending memory.Memory) → IfOk end (λ e. e ≡ refusal status.Sheet (answers.step_open_line step))
+    → IfOk end (GivesSelection db step answers.step_open)
+gives_open db step (Err e) says = tt
+gives_open db step (Ok end) says = refuses end status.Sheet (answers.step_open_line step) says
+
+-- a worksheet as it is written is that of what came of it
+pub is_of_writing : (db : Database) (options : Options) (w : Writing) (outcome : Outcome) (written : WrittenSheet) → IsWritten db options w outcome → written.place ≡ outcome.place
+    → written.mode ≡ options.dv → written.given.now ≡ outcome.given → written.items.now ≡ outcome.sheet.items → written.trees.now ≡ outcome.trees → IsOfWriting db options w written
+is_of_writing db options w outcome written is place mode given items trees =
+    record { place = place ∙ is.place; mode = mode; given = given ∙ is.given; items = items ∙ ap (λ (s : sheets.Sheet). s.items) is.sheet; trees_are = trees ∙ is.trees_are }
 
 -- what is answered of a step of what came of a worksheet is the answer
 pub step_asked : (law : SelectionIsTheAnswer) (options : Options) (text sheet : List ℕ) (step : Name) (d : Opened) (w : Writing) (written : WrittenSheet) (s : Selection)

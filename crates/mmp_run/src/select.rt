@@ -94,12 +94,14 @@ fn end_written(
     ensures ending { IfOk result IsTextEnding }
 {
     selection_is_the_answer();
+    let items = outcome.sheet.items.as_slice();
+    let trees = outcome.trees.as_slice();
     let written = WrittenSheet {
         place: outcome.place,
         mode: options.dv,
         given: &outcome.given,
-        items: outcome.sheet.items.as_slice(),
-        trees: outcome.trees.as_slice(),
+        items,
+        trees,
     };
     let selection = select_step(alloc, db, &written, step.as_bytes())?;
     end_selection(alloc, db, &selection, step)
