@@ -1,3 +1,4 @@
+pub mod Asks
 pub mod CallAnswers
 pub mod CommandLine
 pub mod CommandLineExamples
