@@ -8,6 +8,7 @@ use Rattle.install_model.specs.Installed.{installed, new_theorem, installed_text
 use Rattle.install_model.specs.Moved.{new_labels, moved_frame}
 use Rattle.mm_base.specs.Limits.{most_database_bytes}
 use Rattle.mm_model.specs.Book.{Database, IsDatabaseOf}
+use Rattle.mm_model.specs.Frames.{symbols}
 use Rattle.mm_model.specs.Names.{Name, contains}
 use Rattle.mm_model.specs.Statements.{statements, labels, database_fault}
 use Rattle.proof_model.specs.declared.theorem.Theorem.{Theorem}
@@ -16,11 +17,12 @@ use Rattle.proof_model.specs.ProofCode.{labels_of}
 use Rattle.written_model.specs.declared.options.Options.{Options}
 use Rattle.written_model.specs.Written.{Writing, Answers, wrote}
 
--- the text has no fault; its labels are those before the place, the new ones, and the others; and each old label has the frame
--- that it had, up to its position and its label's number
+-- the text has no fault; its labels are those before the place, the new ones, and the others; the symbols have the numbers that
+-- they had; and each old label has the frame that it had, up to its position and its label's number
 pub record KeepsDatabase (text : List ℕ) (place : ℕ) (t : NewTheorem) : Type 0 where
   pub sound : database_fault (installed text place t) ≡ None
   pub in_order : labels (statements (installed text place t)) ≡ labels (take place (statements text)) ++ new_labels t ++ labels (drop place (statements text))
+  pub same_symbols : symbols (statements (installed text place t)) ≡ symbols (statements text)
   pub frames : (name : Name) → contains (labels (statements text)) name ≡ true
       → frames_of_database (statements (installed text place t)) name ≡ option_map (moved_frame (statements text) place t) (frames_of_database (statements text) name)
 

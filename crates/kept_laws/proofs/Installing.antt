@@ -5,7 +5,7 @@ use Rattle.mm_model.specs.Book.{Database}
 use Rattle.written_model.specs.declared.options.Options.{Options}
 use Rattle.written_model.specs.Written.{Writing, Answer, Answers, Writes, wrote, refused, written}
 use Rattle.install_laws.proofs.DatabaseLaw.{frames_are_moved}
-use Rattle.install_laws.proofs.NamesLaw.{labels_are_put_in}
+use Rattle.install_laws.proofs.NamesLaw.{labels_are_put_in, symbols_stay}
 use Rattle.install_model.specs.declared.install.NewTheorem.{NewTheorem}
 use Rattle.install_model.specs.Installed.{new_theorem}
 use Rattle.installed_laws.specs.FinishedCanBePutIn.{FinishedCanBePutIn}
@@ -29,6 +29,7 @@ module _ (can_be : FinishedCanBePutIn) (no_fault : InstalledTextHasNoFault) wher
         database = record {
           sound = no_fault text w.bound.place (new_theorem db options w) sound can short;
           in_order = labels_are_put_in text w.bound.place (new_theorem db options w) can.within can.plain;
+          same_symbols = symbols_stay text w.bound.place (new_theorem db options w) can.within can.plain;
           frames = λ name h. frames_are_moved text w.bound.place (new_theorem db options w) can.within can.plain can.outside can.labels_new name h;
         };
         proofs = record {
