@@ -1,0 +1,11 @@
+//! The reference of a step that lists no places: the first assertion and the first earlier steps that serve it.
+#![tactic(auto)]
+
+mod completing;
+mod filling;
+mod labelling;
+mod matching;
+mod sought;
+mod walking;
+
+pub use filling::fill_ref;
