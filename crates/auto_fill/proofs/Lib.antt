@@ -1,0 +1,2 @@
+pub mod TupleLaws
+pub mod WalkLaws
