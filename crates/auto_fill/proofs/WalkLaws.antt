@@ -2,6 +2,7 @@
 use Rattle.std.proofs.Common.{◌≡◌, ℕ, zero, suc, ◌+◌, ◌<◌, ◌≤◌, Bool, true, false, List, [], ◌∷◌, length, map, take, drop, get_or}
 use Rattle.std.proofs.Common.{Option, Some, None, option_map, refl, sym, ap, subst, ◌∙◌, inl, inr, arith, Result, Ok, Err, IfOk}
 use Rattle.std.specs.Prelude.{slice_get}
+use Rattle.std.proofs.lemmas.List.{take_all}
 use Rattle.std.specs.List.{AllByRecursion, flat_map}
 use Rattle.mm_base.specs.declared.errors.Memory.{Memory}
 use Rattle.mm_base.specs.declared.symbols.Sym.{Sym}
@@ -148,3 +149,37 @@ end_placed frame vars given bs other hyps wanted places (Err m) e f h = h
 end_placed frame vars given bs other hyps wanted places (Ok o) e f h =
     subst (λ xs. (a : Assertion) → IsRule a frame vars → AreBound vars bs → IsFirstFit a given bs xs wanted (tuples (length xs) places) o) (sym (no_elements hyps e))
     (λ a rule bound. subst (λ b. IsFirstFit a given b [] wanted ([] ∷ []) o) f (h a wanted rule (subst (λ b. AreBound vars b) (sym f) bound)))
+
+pub ground_at : (wanted : List Tree) (k : ℕ) (t : Tree) → t ≡ get_or wanted k no_tree → IsPlace wanted k → is_ground t ≡ true
+ground_at wanted k t e p = subst (λ x. is_ground x ≡ true) (sym e) p.ground
+
+module _ (vars : List Sym) (bs new : List Binding) (h : Tree) (wanted : List Tree) (places : List ℕ) (i : ℕ) (t : Tree) where
+  pub one_differs : i < length places → t ≡ get_or wanted (get_or places i 0) no_tree → BecomesNone vars bs h wanted (take i places)
+      → IsMatched vars (Becomes h t) bs new false → BecomesNone vars bs h wanted (take (i + 1) places)
+  one_differs inside e none m = record {
+    each = one_more_of (Differs vars bs h wanted) places i 0 inside none.each
+        (differs_there vars bs h wanted (get_or places i 0) new (subst (λ x. IsMatched vars (Becomes h x) bs new false) e m));
+  }
+
+pub none_at_all : (vars : List Sym) (bs : List Binding) (h : Tree) (wanted : List Tree) (places : List ℕ) (i : ℕ) → length places ≤ i → BecomesNone vars bs h wanted (take i places)
+    → BecomesNone vars bs h wanted places
+none_at_all vars bs h wanted places i le none = record { each = subst (AllByRecursion (Differs vars bs h wanted)) (take_all i places le) none.each }
+
+pub cannot_place_there : (vars : List Sym) (bs other : List Binding) (hyps wanted : List Tree) (places : List ℕ) (i : ℕ) (h : Tree) → slice_get hyps i ≡ Some h → other ≡ bs
+    → BecomesNone vars other h wanted places → CannotPlace vars bs hyps wanted places
+cannot_place_there vars bs other hyps wanted places i h e same none = record {
+  number = i;
+  hyp = h;
+  there = e;
+  none = subst (λ b. BecomesNone vars b h wanted places) same none;
+}
+
+pub refused_whole : (a : Assertion) (given : Option (List Pair)) (frame : Frame) (vars others : List Sym) (bs : List Binding) (hyps : List Tree) (h : Tree) (hs wanted : List Tree) (places : List ℕ)
+    → IsRule a frame vars → others ≡ vars → hyps ≡ h ∷ hs → CannotPlace others bs hs wanted places → IsFirstFit a given bs hyps wanted (tuples (length hyps) places) None
+refused_whole a given frame vars others bs hyps h hs wanted places rule e whole c =
+    of_whole a given bs hyps h hs wanted places None whole
+    (cannot_place a given frame vars rule bs wanted h hs places (subst (λ vs. CannotPlace vs bs hs wanted places) e c))
+
+pub begins : (frame : Frame) (vars : List Sym) (old now : List Binding) (h : Tree) (hs wanted : List Tree) (places : List ℕ) (given : Option (List Pair)) → now ≡ old
+    → IsWalkedTo frame vars old now h hs wanted places given 0
+begins frame vars old now h hs wanted places given e = record { same = e; first = λ a rule bound. record { first = λ o k. k } }
