@@ -98,19 +98,28 @@ ORDER = [
         ("Installed", "where a theorem goes, and the text with it", "FORMAT, Theorems put into a database"),
         ("InstallAnswers", "the answer to a worksheet whose theorem is to be put in", "FORMAT, Theorems put into a database"),
     ]),
+    ("select_model", "The assertions that a step of a written worksheet fits. No command reaches it yet.", [
+        ("Selected", "the answer to a worksheet of which one step is asked about", ""),
+    ]),
+    ("auto_model", "Steps that are filled with the first assertion that serves. No command reaches it yet.", [
+        ("AutoFilled", "the worksheet with its steps filled", ""),
+    ]),
     ("call_answers", "What a call of the program answers.", [
         ("CommandLine", "the words of the command line", "FORMAT, Command words"),
         ("Verified", "what `verify` says of a label", "FORMAT, The proof code, The stack machine"),
         ("Endings", "what an answer has for the output and for the log, and its status", "FORMAT, Statuses"),
         ("Trial", "the trial of the program by itself", "FORMAT, The trial"),
+        ("Exportable", "which proofs become finished worksheets", "PROVED, What it means for a worksheet"),
+        ("Finishes", "what becomes of a worksheet that is finished as it stands, but for its size", ""),
         ("Exports", "what `export` answers to an accepted proof", "FORMAT, Proofs as worksheets"),
+        ("Kept", "what a text with a theorem in it keeps of the text", "PROVED, What it means for a worksheet"),
         ("PutsIn", "what `install` answers to a worksheet", "FORMAT, Theorems put into a database"),
         ("CallAnswers", "the answer by cases: the main theorem", "FORMAT, Statuses"),
         ("Given", "what a call leaves behind of its answer in files, output and log", "FORMAT, Statuses"),
     ]),
 ]
 
-LAWS = ["model_laws", "theorem_laws", "proof_laws", "solve_laws", "sheet_laws", "chain_laws", "again_laws", "answer_laws", "push_laws", "writing_laws", "headline_laws", "phase_laws", "filling_laws", "whole_laws", "install_laws", "installed_laws", "fitting_laws", "export_laws", "kept_laws"]
+LAWS = ["model_laws", "theorem_laws", "proof_laws", "solve_laws", "sheet_laws", "chain_laws", "again_laws", "answer_laws", "push_laws", "writing_laws", "headline_laws", "phase_laws", "filling_laws", "whole_laws", "install_laws", "installed_laws", "select_laws", "fitting_laws", "export_laws", "kept_laws"]
 
 # The statements that no contract names, by crate and file.
 STATED = []

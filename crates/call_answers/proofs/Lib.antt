@@ -1,1 +1,2 @@
 mod CallExamples
+mod ExportableExample

@@ -5,7 +5,7 @@ use Rattle.proof_model.specs.ExampleFrames.{split}
 use Rattle.written_model.specs.declared.options.DvMode.TheVariants as dv
 use Rattle.written_model.specs.declared.options.Options.{Options}
 use Rattle.written_model.specs.declared.options.ProofStyle.TheVariants as style
-use Rattle.call_answers.specs.CommandLine.{Command, unify, verify, trial, export, install, sheet_command, theorem_command, trial_number, command_of}
+use Rattle.call_answers.specs.CommandLine.{Command, unify, verify, trial, export, install, select, sheet_command, theorem_command, trial_number, command_of}
 
 abbrev command : List ℕ → Option Command
 command line = command_of (split line)
@@ -42,6 +42,10 @@ exported_in_any_order = refl
 pub installed : command (codes "install P.mm r.mmp") ≡ Some (install (sheet_command compressed (codes "P.mm") (codes "r.mmp")))
 installed = refl
 
+pub selected : command (codes "select --dv=given P.mm r.mmp qed")
+    ≡ Some (select (sheet_command (record compressed { dv = dv.Given }) (codes "P.mm") (codes "r.mmp")) (codes "qed"))
+selected = refl
+
 pub tried : command (codes "trial 12") ≡ Some (trial 12)
 unfolding digits trial_number
 tried = refl
@@ -58,8 +62,9 @@ no_options = refl
 
 -- `--in-place` of another command than `unify`; an option twice; names too few or too many
 pub no_further_command : map is_command (codes "export --in-place V.mm good" ∷ codes "install --in-place P.mm r.mmp" ∷ codes "export --dv=add --dv=given V.mm good"
-    ∷ codes "install --provable=wff P.mm r.mmp" ∷ codes "export V.mm" ∷ codes "export V.mm good bad" ∷ codes "export V.mm --good" ∷ codes "install P.mm" ∷ codes "install P.mm r.mmp s" ∷ [])
-    ≡ false ∷ false ∷ false ∷ false ∷ false ∷ false ∷ false ∷ false ∷ false ∷ []
+    ∷ codes "install --provable=wff P.mm r.mmp" ∷ codes "export V.mm" ∷ codes "export V.mm good bad" ∷ codes "export V.mm --good" ∷ codes "install P.mm" ∷ codes "install P.mm r.mmp s"
+    ∷ codes "select P.mm r.mmp" ∷ codes "select P.mm r.mmp qed 1" ∷ codes "select P.mm r.mmp --qed" ∷ codes "select --in-place P.mm r.mmp qed" ∷ [])
+    ≡ false ∷ false ∷ false ∷ false ∷ false ∷ false ∷ false ∷ false ∷ false ∷ false ∷ false ∷ false ∷ false ∷ []
 no_further_command = refl
 
 -- options of `verify` and `trial`; a name too few or too many; another command; an empty one

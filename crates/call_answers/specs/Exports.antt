@@ -2,8 +2,10 @@
 use Rattle.std.specs.Prelude.{◌≡◌, ℕ, Bool, true, false, List, [], ◌∷◌, Some, None, codes}
 use Rattle.call_answers.specs.declared.ending.Ending.{Ending}
 use Rattle.call_answers.specs.Endings.{Refuses, Shows}
+use Rattle.call_answers.specs.Exportable.{IsExportable}
+use Rattle.call_answers.specs.Finishes.{BecomesFinished}
 use Rattle.call_answers.specs.Verified.{theorem_named}
-use Rattle.export_model.specs.Exported.{export_text}
+use Rattle.export_model.specs.Exported.{export_sheet, export_text}
 use Rattle.fault_lines.specs.FaultLines.{refusal_line}
 use Rattle.mm_base.specs.declared.status.Status.TheVariants as status
 use Rattle.mm_model.specs.Book.{Database}
@@ -41,10 +43,11 @@ GivesExport db options name (refused r) end = Refuses end status.Proof (refusal_
 GivesExport db options name (wrote w) end = ShowsFinished db options name w w.finished end
 
 -- the worksheet of a theorem and of its proof is unified over the database: what is printed is finished, carries a proof that is
--- accepted for it, and again it is written as it is
+-- accepted for it, and again it is written as it is; and that of an exportable proof is finished, but for its size
 pub record Exports (db : Database) (options : Options) (name : Name) (theorem : Theorem) (code : Code) (end : Ending) : Type 0 where
   pub answer : Answer
   pub answers : Answers db (export_text db theorem name code) options answer
   pub gives : GivesExport db options name answer end
   pub proves : end.status ≡ status.Finished → ProvesItself db options end.out
   pub again : end.status ≡ status.Finished → IsFixed db options end.out true
+  pub finishes : IsExportable db theorem name code → BecomesFinished db (export_sheet db theorem name code) answer

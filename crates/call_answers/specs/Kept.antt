@@ -1,5 +1,5 @@
 -- What the text of a database with a theorem put in keeps of the text that it was.
-use Rattle.std.specs.Prelude.{◌≡◌, ℕ, ◌≤◌, Bool, true, false, List, ◌++◌, length, take, drop, if◌then◌else◌, Some, None, option_map}
+use Rattle.std.specs.Prelude.{◌≡◌, ℕ, ◌≤◌, Bool, true, false, List, ◌++◌, length, take, drop, if◌then◌else◌, None, option_map}
 use Rattle.std.specs.List.{join_with_byte}
 use Rattle.std.specs.Option.{option_map_or}
 use Rattle.call_answers.specs.Verified.{accepted, theorem_named, IsVerdict}

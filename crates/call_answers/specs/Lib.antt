@@ -1,8 +1,11 @@
+pub mod Asks
 pub mod CallAnswers
 pub mod CommandLine
 pub mod CommandLineExamples
 pub mod Endings
+pub mod Exportable
 pub mod Exports
+pub mod Finishes
 pub mod Given
 pub mod GivenExamples
 pub mod Kept

@@ -2,6 +2,7 @@
 use Rattle.std.specs.Prelude.{◌≡◌, ℕ, List, [], flat_map}
 use Rattle.call_answers.specs.declared.ending.Ending.{Ending}
 use Rattle.call_answers.specs.Endings.{Refuses}
+use Rattle.call_answers.specs.Kept.{KeepsAll}
 use Rattle.fault_lines.specs.FaultLines.{refusal_line}
 use Rattle.install_model.specs.InstallAnswers.{InstallAnswer, Installs, bad_sheet, theorem_there, unfinished, too_large, put_in, theorem_there_line, database_too_large_line}
 use Rattle.mm_base.specs.declared.status.Status.TheVariants as status
@@ -30,8 +31,14 @@ GivesInstall db options (unfinished w) end = ShowsReport db options w end
 GivesInstall db options (too_large n) end = Refuses end status.Sheet (database_too_large_line n)
 GivesInstall db options (put_in w new) end = ShowsText db options w new end
 
+-- a text with the theorem keeps what the text of the database had, and proves the theorem
+abbrev pub KeepsIfPutIn : Database → Options → List ℕ → InstallAnswer → Type 0
+KeepsIfPutIn db options text (put_in w new) = KeepsAll db options text w
+KeepsIfPutIn db options text answer = Unit {0}
+
 -- the theorem of a worksheet is put into the text of the database
 pub record PutsIn (db : Database) (options : Options) (text sheet : List ℕ) (end : Ending) : Type 0 where
   pub answer : InstallAnswer
   pub installs : Installs db options text sheet answer
   pub gives : GivesInstall db options answer end
+  pub keeps : KeepsIfPutIn db options text answer

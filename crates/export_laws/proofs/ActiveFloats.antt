@@ -1,5 +1,6 @@
 -- Each active `$f` of a text without a fault is one of a declared variable, and the `$e` of a frame are all that are active.
-use Rattle.std.specs.Prelude.{◌≡◌, ◌<◌, ◌≤◌, ◌==◌, ◌&&◌, ℕ, Bool, true, false, not, List, [], ◌∷◌, ◌++◌, length, drop, map, flat_map, filter, find, reverse, take, Contains, is_some, Option, Some, None, option_map, codes, refl}
+use Rattle.std.specs.Prelude.{◌≡◌, ◌<◌, ◌≤◌, ◌==◌, ◌&&◌, ℕ, Bool, true, false, not, List, [], ◌∷◌, ◌++◌, length, drop, map, flat_map, filter, find, reverse, take}
+use Rattle.std.specs.Prelude.{Contains, is_some, Option, Some, None, option_map, codes, refl}
 use Rattle.std.specs.List.{AllByRecursion, list_any}
 use Rattle.std.specs.Cmp.{both_ways as same_tests}
 use Rattle.std.proofs.Common.{sym, ap, subst, ◌∙◌, cond, arith, inl, inr}

@@ -17,7 +17,7 @@ use Rattle.proof_laws.proofs.AcceptedLaw.{formulas_are}
 use Rattle.export_model.specs.Exported.{is_provable}
 use Rattle.push_laws.proofs.Lists.{later, all_in, filter_contains, contains_get, map_get, get_mapped}
 use Rattle.push_laws.proofs.TreeProofs.{tree_symbols}
-use Rattle.export_laws.specs.Exportable.{has_no_provable_float}
+use Rattle.call_answers.specs.Exportable.{has_no_provable_float}
 use Rattle.export_laws.proofs.GoodTrees.{IsGoodAs}
 use Rattle.export_laws.proofs.FloatValues.{IsFloatEntry, IsEntryOf}
 use Rattle.export_laws.proofs.PushPairs.{mapped_none}

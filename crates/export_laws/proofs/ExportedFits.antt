@@ -1,5 +1,6 @@
 -- The worksheet of an accepted and exportable proof fits as it is written; so it becomes finished.
-use Rattle.std.specs.Prelude.{◌≡◌, ◌≤◌, ◌+◌, ℕ, suc, Bool, true, false, not, List, [], ◌∷◌, ◌++◌, length, map, filter, take, filter_map, slice_get, All, Contains, Option, Some, None, option_and_then, refl}
+use Rattle.std.specs.Prelude.{◌≡◌, ◌≤◌, ◌+◌, ℕ, suc, Bool, true, false, not, List, [], ◌∷◌, ◌++◌, length, map, filter, take, filter_map, slice_get, All, Contains}
+use Rattle.std.specs.Prelude.{Option, Some, None, option_and_then, refl}
 use Rattle.std.specs.List.{AllZip, AllByRecursion, list_any, list_all, last_or}
 use Rattle.std.specs.Option.{option_map_or}
 use Rattle.std.proofs.Common.{sym, ap, subst, ◌∙◌, cond, arith, inl, inr}
@@ -40,14 +41,15 @@ use Rattle.push_laws.proofs.TreeProofs.{tree_symbols}
 use Rattle.written_model.specs.Found.{valued as valued_by}
 use Rattle.fitting_laws.specs.FitsAsWritten.{IsWhole, IsHypStep, FitsAsListed, IsActivePair, FitsAsWritten, numbered_name}
 use Rattle.fitting_laws.specs.FittingBecomesFinished.{FittingBecomesFinished}
-use Rattle.export_laws.specs.Accepted.{IsAccepted}
-use Rattle.export_laws.specs.Exportable.{IsExportable, IsReadable, gives_theorem}
+use Rattle.call_answers.specs.Exports.{IsAccepted}
+use Rattle.call_answers.specs.Exportable.{IsExportable, IsReadable, gives_theorem}
 use Rattle.export_laws.specs.ExportLaw.{ExportedFits, LawOfExport}
 use Rattle.export_laws.proofs.ActiveFloats.{floats_declared}
 use Rattle.export_laws.proofs.PushPairs.{given_of, kept_in}
 use Rattle.export_laws.proofs.Reading.{active_tokens}
 use Rattle.export_laws.proofs.Run.{AreFine, StepIsFine, Base, all_fine, IsDeclaredFloat}
-use Rattle.export_laws.proofs.SheetSteps.{EachFits, fits_at, pushes_fit, hyps_fit, AreNamed, named_at, pushes_named, hyps_named, some_rest, last_push, last_of_all, hyps_are, IsActiveStep, pushes_active, hyps_active}
+use Rattle.export_laws.proofs.SheetSteps.{EachFits, fits_at, pushes_fit, hyps_fit, AreNamed, named_at, pushes_named, hyps_named, some_rest, last_push, last_of_all}
+use Rattle.export_laws.proofs.SheetSteps.{hyps_are, IsActiveStep, pushes_active, hyps_active}
 use Rattle.export_laws.proofs.TheoremFacts.{IsTheoremOf, is_theorem, rows_other, pair_is_active}
 
 -- ---- lists

@@ -1,5 +1,6 @@
 -- What the label of an assertion pushes: the text of a tree; and where it is provable, a step that fits over formulas given or pushed before.
-use Rattle.std.specs.Prelude.{◌≡◌, ◌<◌, ◌≤◌, ◌==◌, ◌||◌, ℕ, Bool, true, false, List, [], ◌∷◌, length, map, reverse, take, drop, zip, slice_get, Contains, nat_lt, Option, Some, None, Ok, Err, refl}
+use Rattle.std.specs.Prelude.{◌≡◌, ◌<◌, ◌≤◌, ◌==◌, ◌||◌, ℕ, Bool, true, false, List, [], ◌∷◌, length, map, reverse, take, drop, zip, slice_get, Contains, nat_lt}
+use Rattle.std.specs.Prelude.{Option, Some, None, Ok, Err, refl}
 use Rattle.std.specs.List.{AllZip, AllByRecursion, list_any}
 use Rattle.std.proofs.Common.{sym, ap, subst, ◌∙◌, cond, arith, inl, inr}
 use Rattle.std.proofs.lemmas.Bool.{ltb-false, and_parts, or_cases, or_left}
@@ -31,7 +32,7 @@ use Rattle.push_laws.proofs.Facts.{IsBook, IsOwnFormula, FrameIsApart, Begins}
 use Rattle.push_laws.proofs.Lists.{zip_left, zip_weaker, any_contains, contains_get, filter_contains, map_get, get_mapped, get_contains}
 use Rattle.push_laws.proofs.TreeProofs.{tree_symbols}
 use Rattle.push_laws.proofs.Values.{beside}
-use Rattle.export_laws.specs.Exportable.{has_no_provable_float}
+use Rattle.call_answers.specs.Exportable.{has_no_provable_float}
 use Rattle.export_laws.proofs.GoodTrees.{IsGood, IsGoodAs, valued}
 use Rattle.export_laws.proofs.FrameTrees.{IsOwnTree, parsed_tree}
 use Rattle.export_laws.proofs.FloatValues.{HasValues, has_values, value, taken, value_good, IsSubstituted, is_substituted}

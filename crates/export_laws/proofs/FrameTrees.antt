@@ -1,5 +1,6 @@
 -- Trees of the formulas of a frame, over the variables of its `$f`.
-use Rattle.std.specs.Prelude.{◌≡◌, ◌<◌, ◌≤◌, ◌==◌, ℕ, Bool, true, false, List, [], ◌∷◌, ◌++◌, drop, map, filter_map, position, slice_get, slice_index_or, Contains, is_some, Option, Some, None, option_map, refl}
+use Rattle.std.specs.Prelude.{◌≡◌, ◌<◌, ◌≤◌, ◌==◌, ℕ, Bool, true, false, List, [], ◌∷◌, ◌++◌, drop, map, filter_map, position, slice_get, slice_index_or, Contains}
+use Rattle.std.specs.Prelude.{is_some, Option, Some, None, option_map, refl}
 use Rattle.std.specs.List.{AllByRecursion, list_any, cons_option}
 use Rattle.std.proofs.Common.{sym, ap, subst, ◌∙◌, cond}
 use Rattle.std.proofs.lemmas.Bool.{both_ways, eq-eqb}

@@ -1,5 +1,6 @@
 -- Where the machine finds no fault of an assertion's entries, nothing clashes, and the needed pairs are active.
-use Rattle.std.specs.Prelude.{◌≡◌, ◌<◌, ◌==◌, ◌&&◌, ℕ, Bool, true, false, not, List, [], ◌∷◌, length, map, flat_map, filter, filter_map, find, fold, zip, slice_get, Contains, nat_lt, Option, Some, None, option_map, refl}
+use Rattle.std.specs.Prelude.{◌≡◌, ◌<◌, ◌==◌, ◌&&◌, ℕ, Bool, true, false, not, List, [], ◌∷◌, length, map, flat_map, filter, filter_map, find, fold, zip}
+use Rattle.std.specs.Prelude.{slice_get, Contains, nat_lt, Option, Some, None, option_map, refl}
 use Rattle.std.specs.List.{AllZip, AllByRecursion, list_any, cons_option}
 use Rattle.std.specs.Option.{option_or}
 use Rattle.std.proofs.Common.{sym, ap, subst, ◌∙◌, cond, arith, inl, inr}

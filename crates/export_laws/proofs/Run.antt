@@ -1,5 +1,6 @@
 -- Along the machine's run each entry of the stack is the text of a tree, or a formula given or pushed before; and each push fits.
-use Rattle.std.specs.Prelude.{◌≡◌, ◌<◌, ◌≤◌, ℕ, Bool, true, false, not, ◌&&◌, List, [], ◌∷◌, ◌++◌, length, map, flat_map, zip, drop, take, find, slice_get, slice_index_or, Contains, nat_lt, is_some, Option, Some, None, Result, Ok, Err, refl}
+use Rattle.std.specs.Prelude.{◌≡◌, ◌<◌, ◌≤◌, ℕ, Bool, true, false, not, ◌&&◌, List, [], ◌∷◌, ◌++◌, length, map, flat_map, zip, drop, take, find, slice_get}
+use Rattle.std.specs.Prelude.{slice_index_or, Contains, nat_lt, is_some, Option, Some, None, Result, Ok, Err, refl}
 use Rattle.std.specs.List.{AllByRecursion}
 use Rattle.std.specs.Str.{bytes_eq}
 use Rattle.std.proofs.Common.{sym, ap, subst, ◌∙◌, cond, arith, inl, inr}
@@ -27,7 +28,8 @@ use Rattle.proof_model.specs.declared.code.What.{What}
 use Rattle.proof_model.specs.declared.code.What.TheVariants as what
 use Rattle.proof_model.specs.declared.code.Step.{Step}
 use Rattle.proof_model.specs.declared.theorem.Theorem.{Theorem}
-use Rattle.proof_model.specs.Machine.{Formula, substituted, MachineFault, State, not_earlier, push, and_then, apply_frame, use_kept, keep_top, use_frame, use_hyp, use_label, use_what, use_step}
+use Rattle.proof_model.specs.Machine.{Formula, substituted, MachineFault, State, not_earlier, push, and_then, apply_frame, use_kept, keep_top, use_frame, use_hyp}
+use Rattle.proof_model.specs.Machine.{use_label, use_what, use_step}
 use Rattle.written_model.specs.ProofsPush.{leaf_symbols}
 use Rattle.written_model.specs.Written.{frames_of}
 use Rattle.install_laws.specs.TwoDatabases.{label_named_by}
@@ -38,7 +40,7 @@ use Rattle.push_laws.proofs.ActiveHyps.{all_taken}
 use Rattle.push_laws.proofs.Facts.{IsBook}
 use Rattle.push_laws.proofs.Lists.{all_of, get_contains}
 use Rattle.push_laws.proofs.TreeProofs.{tree_symbols}
-use Rattle.export_laws.specs.Exportable.{IsBefore, MayName, hypothesis, production, usable, other, HasTreeBefore, NamesNoProvableFloat, has_no_provable_float}
+use Rattle.call_answers.specs.Exportable.{IsBefore, MayName, hypothesis, production, usable, other, HasTreeBefore, NamesNoProvableFloat, has_no_provable_float}
 use Rattle.export_laws.proofs.GoodTrees.{IsVariable, good-Var}
 use Rattle.export_laws.proofs.FrameTrees.{IsOwnTree, parsed_tree, row_tree}
 use Rattle.export_laws.proofs.Entries.{IsEntry, of_tree, of_step, entry_later}

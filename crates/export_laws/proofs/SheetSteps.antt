@@ -1,5 +1,6 @@
 -- The steps of an exported worksheet, where each push fits over the formulas before it.
-use Rattle.std.specs.Prelude.{◌≡◌, ◌<◌, ◌+◌, ◌==◌, ◌||◌, ℕ, zero, suc, Bool, true, false, List, [], ◌∷◌, ◌++◌, length, map, filter, take, slice_get, Contains, Option, Some, None, option_map, decimal, codes, refl}
+use Rattle.std.specs.Prelude.{◌≡◌, ◌<◌, ◌+◌, ◌==◌, ◌||◌, ℕ, zero, suc, Bool, true, false, List, [], ◌∷◌, ◌++◌, length, map, filter, take, slice_get, Contains}
+use Rattle.std.specs.Prelude.{Option, Some, None, option_map, decimal, codes, refl}
 use Rattle.std.specs.List.{AllZip, AllByRecursion, list_any, last_or}
 use Rattle.std.specs.Option.{option_map_or}
 use Rattle.std.proofs.Common.{sym, ap, subst, ◌∙◌, cond, arith, inl, inr}

@@ -1,5 +1,6 @@
 -- The theorem of a text with an accepted proof: its frame, its place, its pairs; and the typecodes of productions.
-use Rattle.std.specs.Prelude.{◌≡◌, ◌<◌, ◌==◌, ◌&&◌, ℕ, zero, suc, Bool, true, false, not, List, [], ◌∷◌, length, map, filter, Contains, nat_lt, slice_get, slice_index_or, Option, Some, None, option_map, option_and_then, codes, refl}
+use Rattle.std.specs.Prelude.{◌≡◌, ◌<◌, ◌==◌, ◌&&◌, ℕ, zero, suc, Bool, true, false, not, List, [], ◌∷◌, length, map, filter, Contains, nat_lt, slice_get}
+use Rattle.std.specs.Prelude.{slice_index_or, Option, Some, None, option_map, option_and_then, codes, refl}
 use Rattle.std.specs.List.{AllByRecursion, list_any, position_or_len}
 use Rattle.std.specs.Option.{option_map_or}
 use Rattle.std.specs.Str.{bytes_eq}
@@ -210,7 +211,9 @@ module _ (kinds : Kinds) (text : List ℕ) (db : Database) (is : IsDatabaseOf ki
         other = symbol_name db (symbol_in names from.0.1);
         names = refl;
         differ = false_from_ne_true _ (λ e. q.differ
-            (sym (back place from.0.0 (in_names place from.0.0 q.one)) ∙ same_names (symbol_name db (symbol_in names from.0.0)) (symbol_name db (symbol_in names from.0.1)) e ∙ back place from.0.1 (in_names place from.0.1 q.other)));
+            (sym (back place from.0.0 (in_names place from.0.0 q.one))
+            ∙ same_names (symbol_name db (symbol_in names from.0.0)) (symbol_name db (symbol_in names from.0.1)) e
+            ∙ back place from.0.1 (in_names place from.0.1 q.other)));
         active = and_from _ _ (is_active place from.0.0 q.one) (and_from _ _ (is_active place from.0.1 q.other) refl);
       })
     where

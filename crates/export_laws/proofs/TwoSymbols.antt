@@ -7,7 +7,8 @@ use Rattle.std.proofs.lemmas.Bool.{cases_Bool, or_parts, or_cases, and_parts, bo
 use Rattle.std.proofs.lemmas.List.{append_assoc}
 use Rattle.mm_model.specs.Names.{Name}
 use Rattle.mm_model.specs.Words.{Word}
-use Rattle.mm_model.specs.Statements.{Statement, is, is_one_of, is_word, is_empty, is_label_alone, unended, ended, ends_statement, body, has_keyword, symbols_in, in_proof, bad_hypothesis, can_stand, labelled, rank}
+use Rattle.mm_model.specs.Statements.{Statement, is, is_one_of, is_word, is_empty, is_label_alone, unended, ended, ends_statement, body, has_keyword, symbols_in}
+use Rattle.mm_model.specs.Statements.{in_proof, bad_hypothesis, can_stand, labelled, rank}
 use Rattle.mm_model.proofs.Lists.{ended-on, ended-end}
 use Rattle.model_laws.proofs.Checked.{rules_fail, At, IsChecked}
 use Rattle.model_laws.proofs.Listed.{same_names}

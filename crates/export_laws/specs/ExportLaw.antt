@@ -10,16 +10,16 @@ use Rattle.written_model.specs.declared.options.Options.{Options}
 use Rattle.written_model.specs.Written.{Answer, Answers}
 use Rattle.export_model.specs.Exported.{export_sheet, export_text}
 use Rattle.fitting_laws.specs.FitsAsWritten.{FitsAsWritten}
-use Rattle.fitting_laws.specs.FittingBecomesFinished.{BecomesFinished}
-use Rattle.export_laws.specs.Accepted.{IsAccepted}
-use Rattle.export_laws.specs.Exportable.{IsExportable}
+use Rattle.call_answers.specs.Finishes.{BecomesFinished}
+use Rattle.call_answers.specs.Exports.{IsAccepted}
+use Rattle.call_answers.specs.Exportable.{IsExportable}
 
 -- an accepted proof that is exportable becomes a worksheet in which each step fits as it is given and none has a clash, and which
 -- is finished, or has a fault of size
 abbrev pub LawOfExport : Type 0
 LawOfExport = (options : Options) (text : List ℕ) (db : Database) (name : Name) (theorem : Theorem) (code : Code) (answer : Answer)
     → database_fault text ≡ None → IsDatabaseOf options.kinds text db → IsAccepted text db name theorem code → IsExportable db theorem name code
-    → Answers db (export_text db theorem name code) options answer → BecomesFinished (export_sheet db theorem name code) answer
+    → Answers db (export_text db theorem name code) options answer → BecomesFinished db (export_sheet db theorem name code) answer
 
 -- its worksheet fits as it is written
 abbrev pub ExportedFits : Type 0

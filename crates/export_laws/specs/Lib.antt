@@ -1,4 +1,1 @@
-pub mod Accepted
-pub mod Exportable
-pub mod ExportableExamples
 pub mod ExportLaw

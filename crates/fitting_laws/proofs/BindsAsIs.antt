@@ -1,6 +1,6 @@
 -- A worksheet that fits has no fault over its database.
-use Rattle.std.specs.Prelude.{◌≡◌, ◌⊎◌, ◌<◌, ◌≤◌, ◌^◌, ◌==◌, ◌&&◌, ◌||◌, not, nat_lt, nat_le, ℕ, zero, suc, Bool, true, false, List, [], ◌∷◌, length, map, take, filter}
-use Rattle.std.specs.Prelude.{codes, Contains, slice_get, is_some, Option, Some, None, refl}
+use Rattle.std.specs.Prelude.{◌≡◌, ◌<◌, ◌≤◌, ◌^◌, ◌==◌, ◌&&◌, ◌||◌, not, nat_lt, nat_le, ℕ, zero, suc, Bool, true, false, List, [], ◌∷◌, length, take, filter}
+use Rattle.std.specs.Prelude.{codes, Contains, slice_get, is_some, Option, Some, refl}
 use Rattle.std.specs.List.{AllByRecursion, AllZip, list_all, list_any}
 use Rattle.std.specs.Option.{option_map_or}
 use Rattle.std.specs.Str.{bytes_eq}
@@ -8,34 +8,32 @@ use Rattle.std.proofs.Common.{sym, ap, subst, ◌∙◌, arith, inl, inr}
 use Rattle.std.proofs.lemmas.Bool.{cases_Bool, and_parts}
 use Rattle.std.proofs.lemmas.Bool.Decides.{nat_tests}
 use Rattle.std.proofs.lemmas.Slice.Eq.{bytes_eq-Decides}
-use Rattle.mm_base.specs.declared.symbols.Sym.{Sym}
 use Rattle.mm_base.specs.declared.tree.Tree.{Tree}
 use Rattle.mm_base.specs.Limits.{most_formula_tokens}
 use Rattle.mm_model.specs.declared.frames.Hyp.{Hyp}
 use Rattle.mm_model.specs.declared.frames.Frame.{Frame}
-use Rattle.mm_model.specs.declared.rows.Leaf.{Leaf}
 use Rattle.mm_model.specs.Labels.{is_label, is_label_byte}
 use Rattle.mm_model.specs.Names.{Name}
 use Rattle.mm_model.specs.Productions.{essentials}
-use Rattle.mm_model.specs.Book.{Database, label_of, symbol_of, declared_leaf}
+use Rattle.mm_model.specs.Book.{Database, label_of}
 use Rattle.model_laws.proofs.Listed.{Pairwise}
 use Rattle.sheet_text.specs.declared.sheet.Sheet.{Sheet}
 use Rattle.sheet_text.specs.declared.sheet.SheetStep.{SheetStep}
-use Rattle.sheet_text.specs.declared.sheet.PairLine.{PairLine}
 use Rattle.sheet_text.specs.Layout.{steps}
 use Rattle.solve_model.specs.declared.bound.Bound.{Bound}
 use Rattle.solve_model.specs.declared.bound.BoundStep.{BoundStep}
 use Rattle.solve_model.specs.Bound.{Binds, IsBoundStep}
-use Rattle.solve_model.specs.Binding.{existing, is_new, place_of, given_hyps, given_pairs, theorem_of, names_of, same_tokens, hyps_before, has_label, is_hyp, is_qed, hyp_differs, qed_differs}
-use Rattle.solve_model.specs.BindFaults.{BindFaultAt, header_rules, step_rules, loc_unknown, theorem_taken, theorem_name, hyps_differ, hyp_label_taken, hyp_with_hyps, is_blank, begins_with_token, not_provable}
-use Rattle.solve_model.specs.BindFaults.{unknown_symbol, wants_formula, formula_long, hyp_label_twice, not_variable, is_variable_at, asks_for_tree}
-use Rattle.solve_model.specs.Formulas.{leaf_of, leaf_by, is_known, HasNoTree, HasTwoTrees}
-use Rattle.again_laws.proofs.Lists.{all_at, contains_get, get_contains, get_within, some_same, zip_right, zip_left, zip_long}
+use Rattle.solve_model.specs.Binding.{existing, is_new, place_of, given_hyps, given_pairs, theorem_of, names_of, same_tokens, hyps_before, has_label, is_hyp}
+use Rattle.solve_model.specs.Binding.{is_qed, hyp_differs, qed_differs}
+use Rattle.solve_model.specs.BindFaults.{BindFaultAt, header_rules, step_rules, hyp_with_hyps, is_blank, begins_with_token, not_provable}
+use Rattle.solve_model.specs.BindFaults.{unknown_symbol, formula_long, hyp_label_twice}
+use Rattle.solve_model.specs.Formulas.{leaf_by, is_known}
+use Rattle.again_laws.proofs.Lists.{all_at, contains_get, get_contains, get_within, some_same, zip_left, zip_long}
 use Rattle.push_laws.proofs.Facts.{NamesUnlike}
-use Rattle.push_laws.proofs.Lists.{filter_contains, any_contains}
+use Rattle.push_laws.proofs.Lists.{any_contains}
 use Rattle.fitting_laws.specs.FitsAsWritten.{FitsAsWritten, IsWhole, IsHypStep, IsActivePair, is_active, numbered_name}
 use Rattle.fitting_laws.proofs.Numbered.{numbered_qed}
-use Rattle.fitting_laws.proofs.Stated.{theorem_of_sheet, label_listed, active_symbol, whole_at, source_of, hyp_step}
+use Rattle.fitting_laws.proofs.Stated.{theorem_of_sheet, label_listed, active_symbol, whole_at}
 
 -- ---- tests
 
@@ -186,7 +184,10 @@ module _ (db : Database) (sheet : Sheet) (F : FitsAsWritten db sheet) (labels : 
       not_below n m e = grind (arith, nat_tests, e)
 
       by : (b : Bool) → is_qed t ≡ b → qed_differs db sheet i t ≡ false
-      by false e = ap (λ b. b && (nat_lt (hyps_before sheet i) (length (given_hyps db sheet)) || option_map_or (λ (f : Frame). not (same_tokens t.formula (names_of db f.formula))) (existing db sheet) false)) e
+      by false e =
+          ap
+          (λ b. b && (nat_lt (hyps_before sheet i) (length (given_hyps db sheet)) || option_map_or (λ (f : Frame). not (same_tokens t.formula (names_of db f.formula))) (existing db sheet) false))
+          e
       by true e =
           let q = qed_is i t at e in
           let no_hyp : t.hyp ≡ false = ap (λ (x : SheetStep). x.hyp) q.1 ∙ F.qed_no_hyp in
@@ -265,7 +266,9 @@ module _ (db : Database) (sheet : Sheet) (F : FitsAsWritten db sheet) (labels : 
   steps_fail = (
     (λ i t at. or_both (hyp_differs db sheet i t) (qed_differs db sheet i t) (hyp_same i t at) (qed_same i t at)),
     (
-      (λ i t at. ap (λ b. b && t.hyp && nat_le (length (given_hyps db sheet)) (hyps_before sheet i) && option_map_or (λ l. is_some (label_of db l) || bytes_eq l sheet.theorem) t.reference false) not_new),
+      (λ i t at. ap
+          (λ b. b && t.hyp && nat_le (length (given_hyps db sheet)) (hyps_before sheet i) && option_map_or (λ l. is_some (label_of db l) || bytes_eq l sheet.theorem) t.reference false)
+          not_new),
       (
         no_places,
         (

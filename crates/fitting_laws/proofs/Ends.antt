@@ -1,17 +1,17 @@
 -- A worksheet whose steps fit as they are written is finished.
-use Rattle.std.specs.Prelude.{◌≡◌, ◌<◌, ◌≤◌, ◌==◌, ◌&&◌, ◌||◌, ◌↔◌, IsTrue, nat_lt, ℕ, zero, suc, Bool, true, false, List, [], ◌∷◌, length, map, take, is_none, Contains, slice_get, Option, Some, None, refl}
+use Rattle.std.specs.Prelude.{◌≡◌, ◌<◌, ◌≤◌, ◌==◌, ◌&&◌, ◌||◌, ℕ, suc, true, List, [], ◌∷◌, length, take, is_none, Contains, slice_get, Some, None, refl}
 use Rattle.std.specs.List.{AllZip, list_all}
-use Rattle.std.proofs.Common.{sym, ap, subst, ◌∙◌, arith, inl, inr, eq-eqb}
+use Rattle.std.proofs.Common.{sym, ap, subst, ◌∙◌, arith, eq-eqb}
 use Rattle.mm_base.specs.declared.symbols.Pair.{Pair}
 use Rattle.mm_base.specs.declared.tree.Tree.{Tree}
 use Rattle.mm_base.specs.Limits.{most_formula_tokens}
+use Rattle.mm_model.specs.Names.{Name}
 use Rattle.mm_model.specs.Book.{Database}
 use Rattle.sheet_text.specs.declared.sheet.Given.{Given}
 use Rattle.sheet_text.specs.declared.sheet.Given.TheVariants as given
 use Rattle.sheet_text.specs.declared.sheet.SheetStep.{SheetStep}
 use Rattle.solve_model.specs.declared.bound.Bound.{Bound}
 use Rattle.solve_model.specs.Formulas.{IsTheTree, HasTwoTrees}
-use Rattle.solve_model.specs.Firsts.{IsFirstIn}
 use Rattle.solve_model.specs.Solutions.{names_step}
 use Rattle.solve_model.specs.Trees.{Open, open_leaves}
 use Rattle.solve_laws.specs.Instances.{IsClosedTree}
@@ -22,14 +22,11 @@ use Rattle.written_model.specs.declared.report.ReportVerdict.TheVariants as repo
 use Rattle.written_model.specs.Found.{is_ground}
 use Rattle.written_model.specs.Pairs.{clash_of, lack_of}
 use Rattle.written_model.specs.ProofTrees.{is_complete_use, is_complete, Finished}
-use Rattle.written_model.specs.Report.{step_clash}
 use Rattle.written_model.specs.Written.{formula_tokens}
 use Rattle.written_model.specs.WrittenSteps.{Use, WrittenStep}
-use Rattle.again_laws.proofs.Lists.{contains_get, get_contains, some_same, zip_long}
-use Rattle.again_laws.proofs.Orders.{first_stands}
-use Rattle.fitting_laws.specs.FitsAsWritten.{FitsAsListed}
-use Rattle.fitting_laws.specs.FittingBecomesFinished.{FitsAsGiven, fitting_verdict}
-use Rattle.fitting_laws.proofs.Expected.{step_of, IsExpected}
+use Rattle.again_laws.proofs.Lists.{contains_get, some_same, zip_long}
+use Rattle.call_answers.specs.Finishes.{FitsAsGiven, fitting_verdict}
+use Rattle.fitting_laws.proofs.Expected.{IsExpected}
 use Rattle.fitting_laws.proofs.Scenes.{Scene, AreBelow}
 
 ground_of : (t : Tree) → IsClosedTree t → is_ground t ≡ true
@@ -59,12 +56,19 @@ zip_from R (x ∷ xs) (y ∷ ys) f h =
 
 module _ (db : Database) (bound : Bound) (pairs : List Pair) (ss : List SheetStep) (ts : List Tree) (es : List WrittenStep) (S : Scene db bound pairs ss ts es) where
   -- each step is written as it is given
-  pub given_as_is : AllZip FitsAsGiven ss es
-  given_as_is = zip_from FitsAsGiven ss es (λ k e at. let r = S.view.rows k e at in (r.source, r.source_at, from k r.source r.tree e r.is)) S.view.there
+  pub given_as_is : ((k : ℕ) (s : SheetStep) (t : Tree) → slice_get ss k ≡ Some s → slice_get ts k ≡ Some t → formula_tokens db t ≡ s.formula) → AllZip (FitsAsGiven db) ss es
+  given_as_is tokens =
+      zip_from (FitsAsGiven db) ss es
+      (λ k e at. let r = S.view.rows k e at in (r.source, r.source_at, from k r.source r.tree (tokens k r.source r.tree r.source_at r.tree_at) e r.is)) S.view.there
     where
-      from : (k : ℕ) (s : SheetStep) (t : Tree) (x : WrittenStep) → IsExpected db bound.place pairs (take k ts) s t x → FitsAsGiven s x
-      from k s t _ (IsExpected.hyp h) = record { name = refl; places = refl; reference = refl; verdict = (let e : report.Hyp ≡ fitting_verdict s.hyp = rw h refl in e); no_clash = refl }
-      from k s t _ (IsExpected.fits h f) = record { name = refl; places = refl; reference = refl; verdict = (let e : report.Fits ≡ fitting_verdict s.hyp = rw h refl in e); no_clash = f.no_clash }
+      with_formula : SheetStep → List Name → SheetStep
+      with_formula s f = record s { line = 0; formula = f }
+
+      from : (k : ℕ) (s : SheetStep) (t : Tree) → formula_tokens db t ≡ s.formula → (x : WrittenStep) → IsExpected db bound.place pairs (take k ts) s t x → FitsAsGiven db s x
+      from k s t same _ (IsExpected.hyp h) =
+          record { as_it_is = ap (with_formula s) same; verdict = (let e : report.Hyp ≡ fitting_verdict s.hyp = rw h refl in e); no_clash = refl }
+      from k s t same _ (IsExpected.fits h f) =
+          record { as_it_is = ap (with_formula s) same; verdict = (let e : report.Fits ≡ fitting_verdict s.hyp = rw h refl in e); no_clash = f.no_clash }
 
   -- ---- finished
 

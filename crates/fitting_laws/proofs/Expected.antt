@@ -1,5 +1,5 @@
 -- The steps that a worksheet which fits is written with.
-use Rattle.std.specs.Prelude.{◌≡◌, ℕ, zero, suc, Bool, true, false, List, [], ◌∷◌, map, take, slice_get, Option, Some, None, refl}
+use Rattle.std.specs.Prelude.{◌≡◌, ℕ, zero, suc, Bool, true, false, List, [], ◌∷◌, take, slice_get, Option, Some, None, refl}
 use Rattle.std.specs.List.{AllZip}
 use Rattle.std.proofs.Common.{ap, subst, ◌∙◌}
 use Rattle.mm_base.specs.declared.symbols.Pair.{Pair}

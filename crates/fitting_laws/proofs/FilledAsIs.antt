@@ -1,8 +1,8 @@
 -- Nothing is filled where every step fits as it is written.
-use Rattle.std.specs.Prelude.{◌≡◌, ◌⊎◌, ◌<◌, ◌≤◌, ◌+◌, nat_lt, ℕ, zero, suc, Bool, true, false, List, [], ◌∷◌, ◌++◌, length, map, take, drop, Contains, slice_get, slice_index_or, Option, Some, None, refl}
+use Rattle.std.specs.Prelude.{◌≡◌, ◌<◌, ◌+◌, nat_lt, ℕ, zero, suc, Bool, true, false, List, [], ◌∷◌, length, map, take, Contains, slice_get, slice_index_or}
+use Rattle.std.specs.Prelude.{Option, Some, None, refl}
 use Rattle.std.specs.List.{AllByRecursion, AllZip}
 use Rattle.std.proofs.Common.{sym, ap, subst, ◌∙◌, arith, inl, inr, append-nil, drop_of_length-le, ltb-true, ltb-false}
-use Rattle.std.proofs.lemmas.Bool.{cases_Bool}
 use Rattle.mm_base.specs.declared.symbols.Pair.{Pair}
 use Rattle.mm_base.specs.declared.tree.Tree.{Tree}
 use Rattle.mm_model.specs.Book.{Database}
@@ -10,9 +10,8 @@ use Rattle.sheet_text.specs.declared.sheet.Given.{Given}
 use Rattle.sheet_text.specs.declared.sheet.Given.TheVariants as given
 use Rattle.sheet_text.specs.declared.sheet.SheetStep.{SheetStep}
 use Rattle.solve_model.specs.declared.bound.Bound.{Bound}
-use Rattle.solve_model.specs.declared.verdict.Verdict.TheVariants as verdict
 use Rattle.solve_model.specs.Solutions.{Valuation, Solves, formula, instance}
-use Rattle.solve_model.specs.Verdicts.{Judgement, accepted, stands, asked, accepted_in}
+use Rattle.solve_model.specs.Verdicts.{Judgement, asked, accepted_in}
 use Rattle.solve_laws.proofs.Elements.{nothing}
 use Rattle.written_model.specs.declared.report.ReportVerdict.TheVariants as report
 use Rattle.written_model.specs.Filled.{filled_step, wanted_by, written_place, use_of}
@@ -21,8 +20,7 @@ use Rattle.written_model.specs.Again.{judgement_by, judgements_from}
 use Rattle.again_laws.proofs.Filling.{IsFilling, IsOwn, IsMade, FillsAt}
 use Rattle.again_laws.proofs.Lists.{get_below, get_within, index_from_get, some_same, zip_long}
 use Rattle.again_laws.proofs.Setting.{SameStep}
-use Rattle.again_laws.proofs.ValuesStay.{judgement_there, judgement_here}
-use Rattle.fitting_laws.specs.FitsAsWritten.{FitsAsListed}
+use Rattle.again_laws.proofs.ValuesStay.{judgement_there}
 use Rattle.fitting_laws.proofs.Expected.{step_of, IsExpected}
 use Rattle.fitting_laws.proofs.Scenes.{Scene, AreBelow, formula_stays}
 use Rattle.fitting_laws.proofs.Values.{use_is}
@@ -145,9 +143,9 @@ module _ (db : Database) (bound : Bound) (pairs : List Pair) (ss : List SheetSte
         j.0,
         j.1,
         o.is ∙ ap (λ m. filled_step (take k numbers) m o.source (formula bound g k) g o.judgement) more
-        ∙ ap (λ p. filled_step (take k numbers) [] o.source (formula bound g k) g p) j.2
-        ∙ ap (λ t. filled_step (take k numbers) [] o.source t g (judgement_by k j.0 j.0.by)) tree
-        ∙ filled_is k within r.source r.tree j.0 j.1 (S.below k r.source r.source_at) o.source (subst (λ x. SameStep x o.source) source s.2) r.is,
+            ∙ ap (λ p. filled_step (take k numbers) [] o.source (formula bound g k) g p) j.2
+            ∙ ap (λ t. filled_step (take k numbers) [] o.source t g (judgement_by k j.0 j.0.by)) tree
+            ∙ filled_is k within r.source r.tree j.0 j.1 (S.below k r.source r.source_at) o.source (subst (λ x. SameStep x o.source) source s.2) r.is,
       )
     where
       none : (ws : List Tree) (ms : List ℕ) → ws ≡ [] → AllZip (FillsAt (trees ds) k) ws ms → ms ≡ []
@@ -168,21 +166,24 @@ module _ (db : Database) (bound : Bound) (pairs : List Pair) (ss : List SheetSte
           made : List Given → Option Use → Bool → List ℕ → Option (List ℕ) → WrittenStep
           made gs o h n f = record { hyp = h; name = n; places = gs; reference = f; tree = t; verdict = report.Fits; by = o }
 
+          made_hyp : List Given → Bool → List ℕ → Option (List ℕ) → WrittenStep
+          made_hyp gs h n f = record { hyp = h; name = n; places = gs; reference = f; tree = t; verdict = report.Hyp; by = None }
+
           from : (y : WrittenStep) → slice_get es k ≡ Some y → IsExpected db bound.place pairs (take k ts) s t y → filled_step (take k numbers) [] r t g (judgement_by k y y.by) ≡ y
           from _ y_at (IsExpected.hyp h) =
-              ap (λ gs. let z : WrittenStep = record { hyp = r.hyp; name = r.name; places = gs; reference = r.reference; tree = t; verdict = report.Hyp; by = None } in z) stay
-              ∙ ap (λ b. let z : WrittenStep = record { hyp = b; name = r.name; places = s.places; reference = r.reference; tree = t; verdict = report.Hyp; by = None } in z) (sym q.hyp)
-              ∙ ap (λ n. let z : WrittenStep = record { hyp = s.hyp; name = n; places = s.places; reference = r.reference; tree = t; verdict = report.Hyp; by = None } in z) (sym q.name)
-              ∙ ap (λ f. let z : WrittenStep = record { hyp = s.hyp; name = s.name; places = s.places; reference = f; tree = t; verdict = report.Hyp; by = None } in z) (sym q.reference)
+              ap (λ gs. made_hyp gs r.hyp r.name r.reference) stay
+              ∙ ap (λ b. made_hyp s.places b r.name r.reference) (sym q.hyp)
+              ∙ ap (λ n. made_hyp s.places s.hyp n r.reference) (sym q.name)
+              ∙ ap (λ f. made_hyp s.places s.hyp s.name f) (sym q.reference)
           from _ y_at (IsExpected.fits h f) =
               let e : WrittenStep = step_of s t report.Fits (Some f.by) in
               let value : use_of g (asked k f.by.assertion s.places) ≡ f.by = use_is db bound pairs ss ts es S g solved k e f.by y_at refl in
-              ap (λ gs. let z : WrittenStep = record { hyp = r.hyp; name = r.name; places = gs; reference = r.reference; tree = t; verdict = report.Fits; by = Some (use_of g (asked k f.by.assertion s.places)) } in z)
+              ap (λ gs. made gs (Some (use_of g (asked k f.by.assertion s.places))) r.hyp r.name r.reference)
               (append-nil (map (written_place (take k numbers)) s.places) ∙ ap (map (written_place (take k numbers))) q.places ∙ stay)
-              ∙ ap (λ u. let z : WrittenStep = record { hyp = r.hyp; name = r.name; places = s.places; reference = r.reference; tree = t; verdict = report.Fits; by = Some u } in z) value
-              ∙ ap (λ b. let z : WrittenStep = record { hyp = b; name = r.name; places = s.places; reference = r.reference; tree = t; verdict = report.Fits; by = Some f.by } in z) (sym q.hyp)
-              ∙ ap (λ n. let z : WrittenStep = record { hyp = s.hyp; name = n; places = s.places; reference = r.reference; tree = t; verdict = report.Fits; by = Some f.by } in z) (sym q.name)
-              ∙ ap (λ x. let z : WrittenStep = record { hyp = s.hyp; name = s.name; places = s.places; reference = x; tree = t; verdict = report.Fits; by = Some f.by } in z) (sym q.reference)
+              ∙ ap (λ u. made s.places (Some u) r.hyp r.name r.reference) value
+              ∙ ap (λ b. made s.places (Some f.by) b r.name r.reference) (sym q.hyp)
+              ∙ ap (λ n. made s.places (Some f.by) s.hyp n r.reference) (sym q.name)
+              ∙ ap (λ x. made s.places (Some f.by) s.hyp s.name x) (sym q.reference)
 
   there : (i : ℕ) (d : WrittenStep) → slice_get ds i ≡ Some d → slice_get es i ≡ Some d
   there i d at =
@@ -203,7 +204,7 @@ module _ (db : Database) (bound : Bound) (pairs : List Pair) (ss : List SheetSte
       let d_at : slice_get ds k ≡ Some own.0 = subst (λ x. slice_get ds x ≡ Some own.0) place own.1 in
       let r = own_is k own.0 (subst (λ x. IsOwn bound g J read (trees ds) numbers k x own.0) place own.2) in
       let same_e : r.0 ≡ e = some_same r.0 e (sym r.1 ∙ at) in
-      d_at ∙ ap (λ x. Some x) (r.2 ∙ same_e)
+      subst (λ x. slice_get ds k ≡ Some x) (r.2 ∙ same_e) d_at
 
   pub filled_as_is : ds ≡ es
   filled_as_is = lists_same ds es there back

@@ -1,17 +1,16 @@
 -- The `$e` of a frame have labels of the database, and these differ.
 use Rattle.std.specs.Prelude.{◌≡◌, ◌&&◌, ◌||◌, not, ℕ, Bool, true, false, List, [], ◌∷◌, map, filter, reverse, take, Contains, Some, None, codes, refl}
 use Rattle.std.specs.List.{AllByRecursion, list_any}
-use Rattle.std.proofs.Common.{sym, ap, subst, ◌∙◌, inl, inr}
-use Rattle.std.proofs.lemmas.Bool.{cases_Bool, and_parts, or_cases, or_left, or_right, both_ways}
+use Rattle.std.proofs.Common.{sym, subst, ◌∙◌, inl, inr}
+use Rattle.std.proofs.lemmas.Bool.{and_parts, or_cases, or_left, or_right, both_ways}
 use Rattle.mm_base.specs.declared.symbols.Label.{Label}
 use Rattle.mm_base.specs.declared.kinds.Kinds.{Kinds}
 use Rattle.mm_model.specs.declared.frames.Hyp.{Hyp}
 use Rattle.mm_model.specs.declared.frames.Frame.{Frame}
 use Rattle.mm_model.specs.Names.{Name}
-use Rattle.mm_model.specs.Labels.{is_label}
 use Rattle.mm_model.specs.Words.{Word}
-use Rattle.mm_model.specs.Statements.{Statement, statements, database_fault, is, is_one_of, body, has_keyword, has_one_of, symbols_in, second, contains, active}
-use Rattle.mm_model.specs.Frames.{symbols, below, is_hypothesis, hypothesis_of, mandatory_variables, mandatory_hypotheses, active_at}
+use Rattle.mm_model.specs.Statements.{Statement, statements, database_fault, is, is_one_of, body, has_keyword, symbols_in, second, contains, active}
+use Rattle.mm_model.specs.Frames.{symbols, below, is_hypothesis, hypothesis_of, mandatory_variables, mandatory_hypotheses}
 use Rattle.mm_model.specs.Productions.{essentials}
 use Rattle.mm_model.specs.Book.{Database, IsDatabaseOf}
 use Rattle.model_laws.proofs.FrameFacts.{frame_known}
@@ -65,7 +64,7 @@ module _ (kinds : Kinds) (text : List ℕ) (db : Database) (its : IsDatabaseOf k
   book = is_book kinds text db its sound
 
   pub names_differ : (l : Label) (f : Frame) → db.frame l ≡ Some f → Pairwise NamesUnlike (essentials f.hyps)
-  names_differ l f i = 
+  names_differ l f i =
       let k = frame_known ss l f (sym (its.frame l) ∙ i) in
       let mandatory = mandatory_variables (symbols ss) (below ss k.at) k.statement in
       let placed : Pairwise NamesUnlike (map (hypothesis_of (symbols ss)) (filter is_hypothesis (reverse (active (below ss k.at))))) =
@@ -74,7 +73,8 @@ module _ (kinds : Kinds) (text : List ℕ) (db : Database) (its : IsDatabaseOf k
       pairs_sub (hypothesis_of (symbols ss)) _ is_hypothesis (λ h c. hypothesis mandatory h c) NamesUnlike (reverse (active (below ss k.at))) placed in
       pairwise-filter NamesUnlike (λ (h : Hyp). not h.floating) f.hyps (subst (λ (x : Frame). Pairwise NamesUnlike x.hyps) k.frame own)
     where
-      hypothesis : (mandatory : List Name) (h : Statement) → (has_keyword (codes "$e") h || (has_keyword (codes "$f") h && list_any (contains mandatory) (second (symbols_in h)))) ≡ true → is_hypothesis h ≡ true
+      hypothesis : (mandatory : List Name) (h : Statement)
+          → (has_keyword (codes "$e") h || (has_keyword (codes "$f") h && list_any (contains mandatory) (second (symbols_in h)))) ≡ true → is_hypothesis h ≡ true
       hypothesis mandatory h c = elim (or_cases (has_keyword (codes "$e") h) (has_keyword (codes "$f") h && list_any (contains mandatory) (second (symbols_in h))) c) [
         | inl e ↦ other_of (codes "$f") (codes "$e") (take 1 (body h)) e
         | inr f ↦ one_of (codes "$f") (codes "$e") (take 1 (body h)) (and_parts (has_keyword (codes "$f") h) (list_any (contains mandatory) (second (symbols_in h))) f).0

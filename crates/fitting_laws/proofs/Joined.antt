@@ -1,31 +1,25 @@
 -- A worksheet that fits as it is written becomes finished, or has a fault of size.
-use Rattle.std.specs.Prelude.{◌≡◌, ◌<◌, ◌≤◌, ◌^◌, ◌⊎◌, ℕ, suc, Bool, true, false, List, [], ◌∷◌, ◌++◌, length, map, flat_map, filter_map, take, nat_lt, Contains, slice_get, is_some, Option, Some, None, codes, refl}
+use Rattle.std.specs.Prelude.{◌≡◌, ◌<◌, ◌≤◌, ◌^◌, ℕ, Bool, true, false, List, [], ◌∷◌, ◌++◌, length, map, flat_map, filter_map, take, nat_lt, Contains, slice_get}
+use Rattle.std.specs.Prelude.{is_some, Option, Some, None, codes, refl}
 use Rattle.std.specs.List.{AllByRecursion, AllZip, list_all}
 use Rattle.std.proofs.Common.{sym, ap, subst, ◌∙◌, cond, arith, inl, inr}
 use Rattle.std.proofs.lemmas.Bool.{and_parts, and_from, ltb-false}
 use Rattle.std.proofs.lemmas.List.{length-append, length-map}
 use Rattle.std.proofs.lemmas.Slice.Eq.{bytes_eq-Decides}
-use Rattle.std.specs.Str.{bytes_eq}
 use Rattle.fault_lines.specs.Refusals.{Refusal, at_line}
 use Rattle.mm_base.specs.declared.symbols.Pair.{Pair}
 use Rattle.mm_base.specs.declared.symbols.Sym.{Sym}
-use Rattle.mm_base.specs.declared.symbols.Typecode.{Typecode}
 use Rattle.mm_base.specs.declared.tree.Tree.{Tree}
 use Rattle.mm_base.specs.Limits.{most_formula_tokens, most_sheet_bytes}
-use Rattle.mm_model.specs.declared.frames.Hyp.{Hyp}
 use Rattle.mm_model.specs.declared.rows.Leaf.{Leaf}
 use Rattle.mm_model.specs.declared.rows.Leaf.TheVariants as leaf
 use Rattle.mm_model.specs.Faults.{Fault, fault}
 use Rattle.mm_model.specs.Names.{Name}
-use Rattle.mm_model.specs.Labels.{is_label}
 use Rattle.mm_model.specs.Statements.{database_fault}
-use Rattle.mm_model.specs.Texts.{text}
 use Rattle.mm_model.specs.Typed.{IsTyped}
-use Rattle.mm_model.specs.Productions.{essentials}
-use Rattle.mm_model.specs.Book.{Database, IsDatabaseOf, symbol_of, declared_leaf}
+use Rattle.mm_model.specs.Book.{Database, IsDatabaseOf, declared_leaf}
 use Rattle.mm_model.specs.BookFacts.{IsDatabase}
-use Rattle.model_laws.specs.DatabaseLaws.{HasDatabaseFacts, NamesAreWords, IsSymbolName}
-use Rattle.model_laws.proofs.Listed.{Pairwise}
+use Rattle.model_laws.specs.DatabaseLaws.{HasDatabaseFacts, NamesAreWords}
 use Rattle.sheet_text.specs.declared.sheet.Sheet.{Sheet}
 use Rattle.sheet_text.specs.declared.sheet.SheetItem.{SheetItem}
 use Rattle.sheet_text.specs.declared.sheet.SheetItem.TheVariants as item
@@ -40,14 +34,13 @@ use Rattle.solve_model.specs.declared.bound.BoundStep.{BoundStep}
 use Rattle.solve_model.specs.Binding.{place_of, given_pairs}
 use Rattle.solve_model.specs.BindFaults.{BindFaultAt, begins_with_token}
 use Rattle.solve_model.specs.Bound.{Binds, IsBoundStep, HasTree}
-use Rattle.solve_model.specs.Firsts.{IsFirstOrNone}
 use Rattle.solve_model.specs.Formulas.{IsTheTree, leaf_of, leaf_by, is_known, expression_of}
 use Rattle.solve_model.specs.Solutions.{Solves}
-use Rattle.solve_model.specs.Trees.{Open, work, fresh, Occurs}
+use Rattle.solve_model.specs.Trees.{work, fresh}
 use Rattle.solve_model.specs.Verdicts.{Judgement, accepted_in}
 use Rattle.solve_laws.specs.Instances.{IsClosedTree}
 use Rattle.solve_laws.specs.OneJudgement.{JudgementsAreOne}
-use Rattle.solve_laws.proofs.Elements.{first, later, parted}
+use Rattle.solve_laws.proofs.Elements.{parted}
 use Rattle.solve_laws.proofs.NoFresh.{no_fresh_leaf}
 use Rattle.written_model.specs.declared.options.Options.{Options}
 use Rattle.written_model.specs.Again.{judgements_from}
@@ -56,20 +49,23 @@ use Rattle.written_model.specs.Named.{name_step}
 use Rattle.written_model.specs.Opened.{IsOpened}
 use Rattle.written_model.specs.ProofTrees.{Finished}
 use Rattle.written_model.specs.ReadBack.{ReadIsSpellable}
-use Rattle.written_model.specs.Written.{Writing, Writes, Answer, Answers, refused, wrote, bad_text, unbound, much, late, written, IsLate, LateFault, IsTooLong, IsAmbiguous, formula_tokens, after_filling}
+use Rattle.written_model.specs.Written.{Writing, Writes, Answer, Answers, refused, bad_text, unbound, much, late, written, LateFault, IsTooLong, IsAmbiguous}
+use Rattle.written_model.specs.Written.{formula_tokens, after_filling}
 use Rattle.written_model.specs.WrittenSteps.{WrittenStep, steps_in}
 use Rattle.again_laws.specs.Second.{BindsWithoutLines}
 use Rattle.again_laws.specs.Whole.{AssertionsAreWhole}
 use Rattle.again_laws.proofs.Filling.{IsFilling}
 use Rattle.again_laws.proofs.Lists.{from_filter_map, zip_left, zip_right, zip_long}
-use Rattle.again_laws.proofs.Setting.{Setting, SameStep, setting, step_there, filling_of}
+use Rattle.again_laws.proofs.Orders.{first_stands}
+use Rattle.again_laws.proofs.Setting.{Setting, setting, step_there, filling_of}
 use Rattle.again_laws.proofs.TextLeaves.{work_shown}
 use Rattle.again_laws.proofs.TokenLaws.{declared_no_work}
 use Rattle.again_laws.proofs.TokensStay.{tokens_back}
 use Rattle.push_laws.proofs.Books.{is_book}
 use Rattle.push_laws.proofs.Facts.{IsBook}
-use Rattle.fitting_laws.specs.FitsAsWritten.{IsWhole, FitsAsListed, FitsAsWritten, is_active}
-use Rattle.fitting_laws.specs.FittingBecomesFinished.{IsOfSize, long_text, BecomesFinished, FitsAsGiven, FittingBecomesFinished}
+use Rattle.fitting_laws.specs.FitsAsWritten.{IsWhole, FitsAsWritten, is_active}
+use Rattle.call_answers.specs.Finishes.{IsOfSize, long_text, BecomesFinished, FitsAsGiven}
+use Rattle.fitting_laws.specs.FittingBecomesFinished.{FittingBecomesFinished}
 use Rattle.fitting_laws.proofs.BindsAsIs.{binds_as_is}
 use Rattle.fitting_laws.proofs.Ends.{given_as_is, finished as ends_finished, none_long, none_ambiguous}
 use Rattle.fitting_laws.proofs.Expected.{View, Fitting, expected}
@@ -248,7 +244,8 @@ module _ (laws : Laws) (options : Options) (base : List ℕ) (db : Database) (sh
           let s = source_of db sheet F k t t_at in
           let b = zip_right (IsBoundStep db (place_of db sheet)) ss w.bound.steps binds.steps k s.0 s.1 in
           (b.0, b.1);
-      bound_long = sym (zip_long (IsBoundStep db (place_of db sheet)) ss w.bound.steps binds.steps) ∙ zip_long (λ (s : SheetStep) (t : Tree). IsWhole db (place_of db sheet) s.formula t) ss F.trees F.whole
+      bound_long = sym (zip_long (IsBoundStep db (place_of db sheet)) ss w.bound.steps binds.steps)
+          ∙ zip_long (λ (s : SheetStep) (t : Tree). IsWhole db (place_of db sheet) s.formula t) ss F.trees F.whole
           ∙ sym (ap length view.1.trees_are) ∙ length-map es (λ (e : WrittenStep). e.tree);
       below = below_at db sheet F;
       typed = λ k t t_at. subst (λ n. IsTyped db.rows n t) (sym same_place) (source_of db sheet F k t t_at).2.one_tree.parses.typed;
@@ -287,12 +284,10 @@ module _ (laws : Laws) (options : Options) (base : List ℕ) (db : Database) (sh
     as_written = searched_as_is db w.bound pairs ss F.trees es scene place options.dv w.bound.pairs es (steps_in w.items)
         (subst (λ xs. AllZip (IsSearched db place options.dv w.bound.pairs xs) xs (steps_in w.items)) named set.searched)
 
-    is_given : AllZip FitsAsGiven ss (steps_in w.items)
-    is_given = subst (AllZip FitsAsGiven ss) (sym as_written) (given_as_is db w.bound pairs ss F.trees es scene)
-
     is_finished : w.finished ≡ true
     is_finished = writes.finished.1
-        (subst (λ xs. Finished options.dv w.bound.pairs xs) (sym as_written) (subst (λ ps. Finished options.dv ps es) (sym binds.pairs) (ends_finished db w.bound pairs ss F.trees es scene options.dv)))
+        (subst (λ xs. Finished options.dv w.bound.pairs xs) (sym as_written)
+        (subst (λ ps. Finished options.dv ps es) (sym binds.pairs) (ends_finished db w.bound pairs ss F.trees es scene options.dv)))
 
     abbrev Tokens : Type 0
     Tokens = (k : ℕ) (s : SheetStep) (t : Tree) → slice_get ss k ≡ Some s → slice_get F.trees k ≡ Some t → formula_tokens db t ≡ s.formula
@@ -307,17 +302,14 @@ module _ (laws : Laws) (options : Options) (base : List ℕ) (db : Database) (sh
     tokens : Tokens
     tokens k s t s_at t_at = whole_tokens db facts (place_of db sheet) s.formula t (whole_here k s t s_at t_at)
 
+    is_given : AllZip (FitsAsGiven db) ss (steps_in w.items)
+    is_given = subst (AllZip (FitsAsGiven db) ss) (sym as_written) (given_as_is db w.bound pairs ss F.trees es scene tokens)
+
     short : (k : ℕ) (s : SheetStep) → slice_get ss k ≡ Some s → length s.formula ≤ most_formula_tokens
     short k s s_at = (whole_at db sheet F k s s_at).2.short
 
     one_tree : (k : ℕ) (s : SheetStep) (t : Tree) → slice_get ss k ≡ Some s → slice_get F.trees k ≡ Some t → IsTheTree db place s.formula t
     one_tree k s t s_at t_at = subst (λ n. IsTheTree db n s.formula t) (sym same_place) (whole_here k s t s_at t_at).one_tree
-
-    -- the first of some is one of them, and passes
-    first_stands : {X : Type 0} (P : X → Type 0) (xs : List X) (x : X) → IsFirstOrNone P xs (Some x) → Contains xs x × P x
-    first_stands P [] x h = absurd cc
-    first_stands P (y ∷ ys) x (inl h) = let same : x ≡ y = cc in (first x y ys (sym same), subst P (sym same) h.1)
-    first_stands P (y ∷ ys) x (inr h) = let r = first_stands P ys x h.1 in (later x y ys r.0, r.1)
 
     late_size : (k : ℕ) (r : Refusal) → LateFault db options w k r → IsOfSize r
     late_size _ _ (LateFault.long e h) =
@@ -330,7 +322,7 @@ module _ (laws : Laws) (options : Options) (base : List ℕ) (db : Database) (sh
     late_size _ _ (LateFault.proof f s h) = IsOfSize.long_proof _
     late_size _ _ (LateFault.large h) = IsOfSize.large _
 
-  answered : (answer : Answer) → Answers db the_text options answer → BecomesFinished sheet answer
+  answered : (answer : Answer) → Answers db the_text options answer → BecomesFinished db sheet answer
   answered _ (bad_text {f = f} e) = let bad : None ≡ Some f = sym reads_only.0 ∙ e in absurd cc
   answered _ (unbound {s = s} {f = f} none r i) = absurd (no_fault s f r i.stands)
   answered _ (much none r b over) = BecomesFinished.of_size (IsOfSize.much _)
@@ -350,13 +342,13 @@ fitting_finished laws options base db sheet answer sound is F answers = by (nat_
         let both : Some (fault 1 50) ≡ None = sym (ap (λ (b : Bool). cond b (Some (fault 1 50)) (line_fault (layout sheet None))) e) ∙ h in
         cc
 
-    too_long : nat_lt most_sheet_bytes (length (layout sheet None)) ≡ true → (a : Answer) → Answers db (layout sheet None) options a → BecomesFinished sheet a
-    too_long e _ (bad_text {f = f} h) = subst (λ (x : Fault). BecomesFinished sheet (refused (at_line x))) (long_fault e h) (BecomesFinished.of_size long_text)
+    too_long : nat_lt most_sheet_bytes (length (layout sheet None)) ≡ true → (a : Answer) → Answers db (layout sheet None) options a → BecomesFinished db sheet a
+    too_long e _ (bad_text {f = f} h) = subst (λ (x : Fault). BecomesFinished db sheet (refused (at_line x))) (long_fault e h) (BecomesFinished.of_size long_text)
     too_long e _ (unbound none r i) = absurd (no_long e none)
     too_long e _ (much none r b over) = absurd (no_long e none)
     too_long e _ (late none writes l) = absurd (no_long e none)
     too_long e _ (written none writes l) = absurd (no_long e none)
 
-    by : (b : Bool) → nat_lt most_sheet_bytes (length (layout sheet None)) ≡ b → BecomesFinished sheet answer
+    by : (b : Bool) → nat_lt most_sheet_bytes (length (layout sheet None)) ≡ b → BecomesFinished db sheet answer
     by true e = too_long e answer answers
     by false e = answered laws options base db sheet sound is F (ltb-false most_sheet_bytes (length (layout sheet None)) e) answer answers

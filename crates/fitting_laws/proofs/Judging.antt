@@ -1,9 +1,10 @@
 -- The steps of a worksheet that fits are accepted with their places as they are listed.
-use Rattle.std.specs.Prelude.{◌≡◌, ◌<◌, ◌≤◌, ◌+◌, nat_lt, nat_le, ℕ, zero, suc, Bool, true, false, List, [], ◌∷◌, ◌++◌, length, map, take, Contains, slice_get, Option, Some, None, refl}
-use Rattle.std.specs.List.{AllByRecursion, AllZip}
+use Rattle.std.specs.Prelude.{◌≡◌, ◌≤◌, ◌+◌, nat_lt, nat_le, ℕ, suc, Bool, true, false, List, [], ◌∷◌, ◌++◌, length, take, drop, Contains, slice_get, Some, None, refl}
+use Rattle.std.specs.List.{AllZip}
 use Rattle.std.proofs.Common.{sym, ap, subst, ◌∙◌, arith, inl, inr, cond}
 use Rattle.std.proofs.lemmas.Bool.Decides.{nat_tests}
-use Rattle.std.proofs.lemmas.List.Elements.{Contains-append_cases}
+use Rattle.std.proofs.lemmas.List.Elements.{Contains-append_left, Contains-append_cases}
+use Rattle.std.proofs.lemmas.List.{take-append-drop}
 use Rattle.mm_base.specs.declared.symbols.Sym.{Sym}
 use Rattle.mm_base.specs.declared.symbols.Pair.{Pair}
 use Rattle.mm_base.specs.declared.symbols.Typecode.{Typecode}
@@ -18,12 +19,13 @@ use Rattle.sheet_text.specs.declared.sheet.SheetStep.{SheetStep}
 use Rattle.solve_model.specs.declared.bound.Bound.{Bound}
 use Rattle.solve_model.specs.declared.bound.BoundStep.{BoundStep}
 use Rattle.solve_model.specs.declared.verdict.Verdict.TheVariants as verdict
-use Rattle.solve_model.specs.Bound.{Standing, settled, candidate, standing, standing_of_reference, has_places_for}
+use Rattle.solve_model.specs.Bound.{settled, standing, standing_of_reference}
 use Rattle.solve_model.specs.Firsts.{IsFirstIn, orders}
-use Rattle.solve_model.specs.Trees.{leaf_tree, replace, work, open_leaves}
-use Rattle.solve_model.specs.Solutions.{Unknown, named, blank, copy, Valuation, Asked, IsUnknown, IsValuation, PlacesFit, Solves, formula, instance, unknown_code, is_free, orders_of}
+use Rattle.solve_model.specs.Trees.{leaf_tree, work, open_leaves}
+use Rattle.solve_model.specs.Solutions.{Unknown, named, blank, copy, Valuation, Asked, IsUnknown, IsValuation, PlacesFit, Solves, formula, instance, unknown_code}
+use Rattle.solve_model.specs.Solutions.{is_free, orders_of}
 use Rattle.solve_model.specs.Verdicts.{Judgement, accepted, stands, asked, asked_of, accepted_in, FitsIn, IsJudgement, AreJudged}
-use Rattle.solve_laws.proofs.Elements.{only, first, later}
+use Rattle.solve_laws.proofs.Elements.{only}
 use Rattle.solve_laws.proofs.ReplaceLaws.{replace-agree}
 use Rattle.written_model.specs.declared.report.ReportVerdict.TheVariants as report
 use Rattle.written_model.specs.Found.{valued}
@@ -32,9 +34,9 @@ use Rattle.written_model.specs.Again.{judgement_by, judgements_from, use_at, val
 use Rattle.again_laws.proofs.Candidates.{IsCandidate, candidate_standing}
 use Rattle.again_laws.proofs.Lists.{from_filter_map, into_filter_map, get_contains, all_from, some_same, zip_long}
 use Rattle.again_laws.proofs.Orders.{first_order}
-use Rattle.again_laws.proofs.ValuesStay.{judgement_there, judgement_here, IsAskedAgain, asked_again}
+use Rattle.again_laws.proofs.ValuesStay.{judgement_there, judgement_here, asked_again}
 use Rattle.fitting_laws.specs.FitsAsWritten.{FitsAsListed, earlier_tree}
-use Rattle.fitting_laws.proofs.Expected.{step_of, IsExpected, View, Row}
+use Rattle.fitting_laws.proofs.Expected.{step_of, IsExpected}
 use Rattle.fitting_laws.proofs.Scenes.{Scene, IsBoundAs, IsUsed, used, taken, formula_stays, conclusion, hyps, value_code, value_typed}
 
 -- the places as they are listed are the first of their orders
@@ -50,13 +52,7 @@ judgements_long n [] = refl
 judgements_long n (e ∷ es) = ap (λ k. suc k) (judgements_long (n + 1) es)
 
 taken_in : {X : Type 0} (n : ℕ) (os : List X) (o : X) → Contains (take n os) o → Contains os o
-taken_in zero os o m = absurd (none m)
-  where
-    none : Contains [] o → ⊥
-    none q = let less = q.1 in omega (arith, less)
-taken_in (suc n) [] o m = m
-taken_in (suc n) (x ∷ os) o (zero, l, q) = first o x os q
-taken_in (suc n) (x ∷ os) o (suc j, l, q) = later o x os (taken_in n os o (j, omega (arith, l), q))
+taken_in n os o m = subst (λ xs. Contains xs o) (take-append-drop n os) (Contains-append_left (take n os) (drop n os) o m)
 
 module _ (db : Database) (bound : Bound) (pairs : List Pair) (ss : List SheetStep) (ts : List Tree) (es : List WrittenStep) (S : Scene db bound pairs ss ts es) where
   abbrev J : List Judgement

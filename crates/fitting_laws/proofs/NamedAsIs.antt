@@ -1,7 +1,7 @@
 -- Nothing is named and nothing searched where every step fits as it is written.
-use Rattle.std.specs.Prelude.{◌≡◌, ◌&&◌, not, ℕ, zero, suc, Bool, true, false, List, [], ◌∷◌, map, take, is_none, Contains, slice_get, Option, Some, None, refl}
+use Rattle.std.specs.Prelude.{◌≡◌, ◌&&◌, not, ℕ, true, false, List, [], ◌∷◌, map, take, is_none, Contains, slice_get, Some, None, refl}
 use Rattle.std.specs.List.{AllZip, list_all}
-use Rattle.std.proofs.Common.{sym, ap, subst, ◌∙◌, inl, inr}
+use Rattle.std.proofs.Common.{sym, ap, ◌∙◌}
 use Rattle.mm_base.specs.declared.symbols.Pair.{Pair}
 use Rattle.mm_base.specs.declared.tree.Tree.{Tree}
 use Rattle.mm_base.specs.declared.tree.Tree.TheVariants.{Var}
@@ -17,7 +17,7 @@ use Rattle.written_model.specs.declared.report.ReportVerdict.TheVariants as repo
 use Rattle.written_model.specs.WrittenSteps.{Use, WrittenStep}
 use Rattle.written_model.specs.Named.{Naming, name_leaf, name_tree, name_use, name_step}
 use Rattle.written_model.specs.Found.{is_ground, is_ground_place, is_to_be_searched, IsSearched}
-use Rattle.again_laws.proofs.Lists.{contains_get, get_contains}
+use Rattle.again_laws.proofs.Lists.{contains_get}
 use Rattle.fitting_laws.proofs.Expected.{step_of, IsExpected}
 use Rattle.fitting_laws.proofs.Scenes.{Scene, used, values_closed}
 

@@ -1,13 +1,13 @@
 -- The names of numbered steps are labels and differ.
-use Rattle.std.specs.Prelude.{◌≡◌, ◌<◌, ◌≤◌, ◌^◌, ◌==◌, ◌&&◌, ◌||◌, not, ℕ, zero, suc, Bool, true, false, List, [], ◌∷◌, length, map, decimal, codes, Contains, slice_get, Option, Some, None, option_map, refl}
+use Rattle.std.specs.Prelude.{◌≡◌, ◌<◌, ◌^◌, ◌==◌, ◌||◌, not, ℕ, suc, Bool, true, false, List, [], ◌∷◌, length, map, decimal, codes, slice_get, Option, Some, None}
+use Rattle.std.specs.Prelude.{option_map, refl}
 use Rattle.std.specs.List.{list_all, last_or}
-use Rattle.std.specs.Str.{bytes_eq, all_ascii_digits}
+use Rattle.std.specs.Str.{all_ascii_digits}
 use Rattle.std.specs.Char.{is_ascii_digit}
 use Rattle.std.proofs.Common.{sym, ap, subst, ◌∙◌, arith, inl, inr, cond, eqb-true, eq-eqb}
 use Rattle.std.proofs.lemmas.Bool.{cases_Bool, and_parts, and_from}
 use Rattle.std.proofs.lemmas.Bool.Decides.{nat_tests}
 use Rattle.std.proofs.lemmas.Fmt.{decimal_injective, decimal_nonempty}
-use Rattle.std.proofs.lemmas.Slice.Eq.{bytes_eq-Decides}
 use Rattle.mm_model.specs.Labels.{is_label, is_label_byte}
 use Rattle.mm_model.specs.Names.{Name, contains, has_twice}
 use Rattle.sheet_text.specs.Forms.{marked_name}

@@ -1,12 +1,10 @@
 -- A bound worksheet whose steps fit as they are written.
-use Rattle.std.specs.Prelude.{◌≡◌, ◌<◌, ◌+◌, ℕ, zero, suc, Bool, true, false, List, [], ◌∷◌, length, map, take, Contains, slice_get, slice_index_or, Option, Some, None, refl}
-use Rattle.std.specs.List.{AllByRecursion, AllZip}
+use Rattle.std.specs.Prelude.{◌≡◌, ◌<◌, ℕ, zero, suc, false, List, [], ◌∷◌, length, map, take, Contains, slice_get, slice_index_or, Some, refl}
+use Rattle.std.specs.List.{AllZip}
 use Rattle.std.proofs.Common.{sym, ap, subst, ◌∙◌, arith, inl, inr}
 use Rattle.std.proofs.lemmas.List.{length-map}
-use Rattle.mm_base.specs.declared.symbols.Sym.{Sym}
 use Rattle.mm_base.specs.declared.symbols.Pair.{Pair}
 use Rattle.mm_base.specs.declared.symbols.Label.{Label}
-use Rattle.mm_base.specs.declared.symbols.Typecode.{Typecode}
 use Rattle.mm_base.specs.declared.tree.Tree.{Tree}
 use Rattle.mm_base.specs.declared.tree.Tree.TheVariants.{Var}
 use Rattle.mm_base.specs.Trees.{code_of}
@@ -20,21 +18,19 @@ use Rattle.sheet_text.specs.declared.sheet.SheetStep.{SheetStep}
 use Rattle.solve_model.specs.declared.bound.Bound.{Bound}
 use Rattle.solve_model.specs.declared.bound.BoundStep.{BoundStep}
 use Rattle.solve_model.specs.Trees.{leaf_tree, replace}
-use Rattle.solve_model.specs.Solutions.{Valuation, Asked, PlacesFit, Solves, copy, formula, formula_value, instance, open_value, no_step}
-use Rattle.solve_model.specs.Verdicts.{asked, accepted_in}
+use Rattle.solve_model.specs.Solutions.{Valuation, formula, formula_value, open_value, no_step}
 use Rattle.solve_laws.specs.Instances.{IsClosedTree}
 use Rattle.solve_laws.proofs.ReplaceLaws.{replace-agree, replace-self}
 use Rattle.written_model.specs.declared.report.ReportVerdict.TheVariants as report
 use Rattle.written_model.specs.Found.{valued}
 use Rattle.written_model.specs.WrittenSteps.{Use, WrittenStep, value_of}
-use Rattle.again_laws.specs.Leaves.{typed_leaves}
 use Rattle.again_laws.specs.Whole.{IsWhole, StandsIn}
 use Rattle.again_laws.proofs.LeafLaws.{part_typed, passes}
 use Rattle.again_laws.proofs.Lists.{contains_get, contains_mapped, get_map, get_mapped, index_from_get, some_same, zip_right}
 use Rattle.again_laws.proofs.Values.{value_at}
 use Rattle.answer_laws.proofs.SearchedAlike.{values_are}
 use Rattle.fitting_laws.specs.FitsAsWritten.{FitsAsListed, earlier_tree}
-use Rattle.fitting_laws.proofs.Expected.{step_of, IsExpected, View, Row}
+use Rattle.fitting_laws.proofs.Expected.{step_of, IsExpected, View}
 
 -- the step of the worksheet, as it is bound
 pub record IsBoundAs (s : SheetStep) (b : BoundStep) : Type 0 where

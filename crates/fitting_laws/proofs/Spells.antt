@@ -1,6 +1,7 @@
 -- A worksheet that fits can be spelled.
-use Rattle.std.specs.Prelude.{◌≡◌, ◌<◌, ◌^◌, ◌+◌, ◌==◌, ◌&&◌, ◌||◌, not, nat_lt, ℕ, zero, suc, Bool, true, false, List, [], ◌∷◌, length, map, filter_map, codes, Contains, slice_get, slice_index_or, Option, Some, None, refl}
-use Rattle.std.specs.List.{AllByRecursion, AllZip, list_all, list_any, last_or}
+use Rattle.std.specs.Prelude.{◌≡◌, ◌<◌, ◌^◌, ◌+◌, ◌==◌, ◌&&◌, ◌||◌, not, nat_lt, ℕ, zero, suc, Bool, true, false, List, [], ◌∷◌, length, map, codes, Contains}
+use Rattle.std.specs.Prelude.{slice_get, slice_index_or, Option, Some, None, refl}
+use Rattle.std.specs.List.{AllByRecursion, list_all, list_any}
 use Rattle.std.specs.Option.{option_map_or}
 use Rattle.std.specs.Str.{bytes_eq}
 use Rattle.std.proofs.Common.{sym, ap, subst, ◌∙◌, arith, inl, inr}
@@ -10,17 +11,16 @@ use Rattle.std.proofs.lemmas.Slice.Eq.{bytes_eq-Decides}
 use Rattle.mm_base.specs.declared.symbols.Sym.{Sym}
 use Rattle.mm_model.specs.declared.frames.Hyp.{Hyp}
 use Rattle.mm_model.specs.Labels.{is_label, is_label_byte}
-use Rattle.mm_model.specs.Names.{Name, contains, has_twice}
+use Rattle.mm_model.specs.Names.{Name, has_twice}
 use Rattle.mm_model.specs.Words.{is_white}
 use Rattle.mm_model.specs.Productions.{essentials}
-use Rattle.mm_model.specs.Book.{Database, label_of, symbol_of}
+use Rattle.mm_model.specs.Book.{Database, symbol_of}
 use Rattle.model_laws.specs.DatabaseLaws.{IsSymbolName}
 use Rattle.sheet_laws.proofs.Tests.{label_byte_no_white, all_more}
 use Rattle.sheet_text.specs.declared.sheet.Given.{Given}
 use Rattle.sheet_text.specs.declared.sheet.Given.TheVariants as given
 use Rattle.sheet_text.specs.declared.sheet.PairLine.{PairLine}
 use Rattle.sheet_text.specs.declared.sheet.Sheet.{Sheet}
-use Rattle.sheet_text.specs.declared.sheet.SheetItem.{SheetItem}
 use Rattle.sheet_text.specs.declared.sheet.SheetItem.TheVariants as item
 use Rattle.sheet_text.specs.declared.sheet.SheetStep.{SheetStep}
 use Rattle.sheet_text.specs.Forms.{marked_name}
@@ -29,9 +29,9 @@ use Rattle.sheet_text.specs.Spellable.{IsSpellable, is_token, is_place_below, is
 use Rattle.sheet_text.specs.TextFaults.{is_end, is_bad_distinct}
 use Rattle.solve_model.specs.Binding.{place_of}
 use Rattle.solve_model.specs.BindFaults.{is_variable_at}
-use Rattle.again_laws.proofs.Lists.{all_at, get_contains, get_mapped, get_within, some_same}
+use Rattle.again_laws.proofs.Lists.{get_mapped, get_within}
 use Rattle.again_laws.proofs.TokenLaws.{symbol_told}
-use Rattle.fitting_laws.specs.FitsAsWritten.{FitsAsWritten, IsWhole, IsActivePair, is_active, numbered_name}
+use Rattle.fitting_laws.specs.FitsAsWritten.{FitsAsWritten, IsActivePair, is_active}
 use Rattle.fitting_laws.proofs.Numbered.{IsGoodName, numbered_good, numbered_last, numbered_differ, none_twice, last_at, last_map}
 use Rattle.fitting_laws.proofs.Scenes.{AreBelow}
 use Rattle.fitting_laws.proofs.Stated.{theorem_of_sheet, label_listed, active_symbol, whole_at, hyp_step, below_at}
@@ -116,7 +116,8 @@ module _ (db : Database) (sheet : Sheet) (F : FitsAsWritten db sheet) (labels : 
       let tokens = tokens_pass s.formula (whole_at db sheet F k s at).2.active in
       and_from _ (list_all is_token s.formula)
       (and_from _ (option_map_or is_label s.reference (not s.hyp))
-      (and_from (is_label s.name && (s.hyp || not (marked_name s.name).0)) (list_all (is_place_below k) s.places) (and_from (is_label s.name) (s.hyp || not (marked_name s.name).0) name.label marked) places)
+      (and_from (is_label s.name && (s.hyp || not (marked_name s.name).0)) (list_all (is_place_below k) s.places)
+      (and_from (is_label s.name) (s.hyp || not (marked_name s.name).0) name.label marked) places)
       (reference_pass k s at)) tokens
     where
       last : (a b : Bool) → b ≡ true → (a || b) ≡ true
@@ -152,7 +153,8 @@ module _ (db : Database) (sheet : Sheet) (F : FitsAsWritten db sheet) (labels : 
       let end_one = no_end h.one one in
       let end_other = no_end h.other other in
       let good : is_bad_distinct (h.one ∷ h.other ∷ []) ≡ false = rw (differ, end_one, end_other) refl in
-      subst (λ ns. (list_all is_token ns && not (is_bad_distinct ns)) ≡ true) (sym h.names) (and_from (list_all is_token (h.one ∷ h.other ∷ [])) (not (is_bad_distinct (h.one ∷ h.other ∷ []))) tokens (ap not good))
+      subst (λ ns. (list_all is_token ns && not (is_bad_distinct ns)) ≡ true) (sym h.names)
+      (and_from (list_all is_token (h.one ∷ h.other ∷ [])) (not (is_bad_distinct (h.one ∷ h.other ∷ []))) tokens (ap not good))
     where
       variable : (n : Name) → is_variable_at db (place_of db sheet) n ≡ true → IsSymbolName n
       variable n k = by (symbol_of db n) refl k

@@ -1,15 +1,13 @@
 -- What the record of a worksheet that fits says of its steps, one by one.
-use Rattle.std.specs.Prelude.{◌≡◌, ◌<◌, ℕ, zero, suc, Bool, true, false, List, [], ◌∷◌, length, filter, take, Contains, slice_get, if◌then◌else◌, option_and_then, is_some, Option, Some, None, refl}
-use Rattle.std.specs.List.{AllZip, list_all}
+use Rattle.std.specs.Prelude.{◌≡◌, ℕ, Bool, true, false, List, [], ◌∷◌, filter, take, Contains, slice_get, if◌then◌else◌, option_and_then, is_some, Option, Some, None, refl}
+use Rattle.std.specs.List.{AllZip}
 use Rattle.std.specs.Option.{option_map_or}
-use Rattle.std.proofs.Common.{sym, ap, subst, ◌∙◌, cond}
-
+use Rattle.std.proofs.Common.{sym, subst, ◌∙◌, cond}
 use Rattle.mm_base.specs.declared.symbols.Sym.{Sym}
 use Rattle.mm_base.specs.declared.symbols.Label.{Label}
 use Rattle.mm_base.specs.declared.tree.Tree.{Tree}
 use Rattle.mm_model.specs.declared.frames.Hyp.{Hyp}
 use Rattle.mm_model.specs.declared.frames.Frame.{Frame}
-use Rattle.mm_model.specs.Labels.{is_label}
 use Rattle.mm_model.specs.Names.{Name}
 use Rattle.mm_model.specs.Productions.{essentials}
 use Rattle.mm_model.specs.Book.{Database, label_of, symbol_of, declared_leaf}
@@ -20,7 +18,7 @@ use Rattle.sheet_text.specs.declared.sheet.SheetStep.{SheetStep}
 use Rattle.sheet_text.specs.Layout.{steps}
 use Rattle.solve_model.specs.Binding.{existing, place_of, given_pairs}
 use Rattle.written_model.specs.Found.{valued}
-use Rattle.again_laws.proofs.Lists.{get_contains, some_same, zip_left, zip_right}
+use Rattle.again_laws.proofs.Lists.{get_contains, zip_left, zip_right}
 use Rattle.push_laws.proofs.ActiveHyps.{label_stands_at}
 use Rattle.push_laws.proofs.Lists.{filter_contains, contains_get}
 use Rattle.fitting_laws.specs.FitsAsWritten.{IsWhole, IsHypStep, FitsAsListed, FitsAsWritten, earlier_tree, is_active}

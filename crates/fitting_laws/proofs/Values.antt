@@ -1,16 +1,15 @@
 -- The values of the steps that fit are those of their substitutions, whatever solves them.
-use Rattle.std.specs.Prelude.{◌≡◌, ◌+◌, ℕ, zero, suc, List, [], ◌∷◌, length, map, take, Contains, slice_get, Option, Some, None, refl}
+use Rattle.std.specs.Prelude.{◌≡◌, ◌+◌, ℕ, zero, suc, List, [], ◌∷◌, map, take, Contains, slice_get, Some, None, refl}
 use Rattle.std.specs.List.{AllByRecursion, AllZip}
 use Rattle.std.proofs.Common.{sym, ap, subst, ◌∙◌, arith, inl, inr}
 use Rattle.mm_base.specs.declared.symbols.Pair.{Pair}
 use Rattle.mm_base.specs.declared.tree.Tree.{Tree}
 use Rattle.mm_model.specs.Productions.{TypedVariable}
-use Rattle.mm_model.specs.Book.{Database, Assertion}
+use Rattle.mm_model.specs.Book.{Database}
 use Rattle.sheet_text.specs.declared.sheet.Given.{Given}
 use Rattle.sheet_text.specs.declared.sheet.Given.TheVariants as given
 use Rattle.sheet_text.specs.declared.sheet.SheetStep.{SheetStep}
 use Rattle.solve_model.specs.declared.bound.Bound.{Bound}
-use Rattle.solve_model.specs.declared.bound.BoundStep.{BoundStep}
 use Rattle.solve_model.specs.Trees.{leaf_tree}
 use Rattle.solve_model.specs.Solutions.{copy, Valuation, Asked, PlacesFit, Solves, formula, instance}
 use Rattle.solve_model.specs.Verdicts.{accepted, asked, asked_of, accepted_in}
@@ -25,7 +24,7 @@ use Rattle.again_laws.proofs.LeafLaws.{told-replace}
 use Rattle.again_laws.proofs.Lists.{into_filter_map, get_contains, all_of, some_same}
 use Rattle.again_laws.proofs.ValuesStay.{judgement_here}
 use Rattle.fitting_laws.specs.FitsAsWritten.{earlier_tree}
-use Rattle.fitting_laws.proofs.Scenes.{Scene, IsBoundAs, IsUsed, used, taken, formula_stays, conclusion, hyps, use_whole, values_listed}
+use Rattle.fitting_laws.proofs.Scenes.{Scene, IsUsed, used, taken, formula_stays, conclusion, hyps, use_whole, values_listed}
 
 maps_same : {X Y : Type 0} (f g : X → Y) (xs : List X) → ((x : X) → Contains xs x → f x ≡ g x) → map f xs ≡ map g xs
 maps_same f g [] h = refl

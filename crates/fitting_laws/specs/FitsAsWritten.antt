@@ -1,6 +1,7 @@
 -- Worksheets that fit as they are written: of a theorem of the database, with whole formulas, and a reference for each step that
 -- fits over the places that it lists.
-use Rattle.std.specs.Prelude.{◌≡◌, ℕ, suc, ◌<◌, ◌≤◌, ◌==◌, Bool, true, false, List, [], ◌∷◌, length, map, filter, take, if◌then◌else◌, decimal, slice_get, Option, Some, None, is_some, codes}
+use Rattle.std.specs.Prelude.{◌≡◌, ℕ, suc, ◌<◌, ◌≤◌, ◌==◌, Bool, true, false, List, [], ◌∷◌, length, map, filter, take, if◌then◌else◌, decimal, slice_get, Option}
+use Rattle.std.specs.Prelude.{Some, None, is_some, codes}
 use Rattle.std.specs.List.{AllByRecursion, AllZip, list_all, last_or}
 use Rattle.std.specs.Option.{option_map_or}
 use Rattle.std.specs.Str.{bytes_eq}

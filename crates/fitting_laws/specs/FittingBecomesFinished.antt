@@ -1,47 +1,16 @@
 -- What worksheets become that fit as they are written.
-use Rattle.std.specs.Prelude.{◌≡◌, ℕ, Bool, true, if◌then◌else◌, List, None}
-use Rattle.std.specs.List.{AllZip}
-use Rattle.fault_lines.specs.Refusals.{Refusal, at_line, too_much, too_much_written, proof_too_long, too_large, told_number}
-use Rattle.mm_model.specs.Faults.{fault}
+use Rattle.std.specs.Prelude.{◌≡◌, ℕ, List, None}
+use Rattle.call_answers.specs.Finishes.{BecomesFinished}
 use Rattle.mm_model.specs.Statements.{database_fault}
 use Rattle.mm_model.specs.Book.{Database, IsDatabaseOf}
 use Rattle.sheet_text.specs.declared.sheet.Sheet.{Sheet}
-use Rattle.sheet_text.specs.declared.sheet.SheetStep.{SheetStep}
-use Rattle.sheet_text.specs.Layout.{layout, steps}
+use Rattle.sheet_text.specs.Layout.{layout}
 use Rattle.written_model.specs.declared.options.Options.{Options}
-use Rattle.written_model.specs.declared.report.ReportVerdict.{ReportVerdict}
-use Rattle.written_model.specs.declared.report.ReportVerdict.TheVariants as report
-use Rattle.written_model.specs.Report.{step_clash}
-use Rattle.written_model.specs.Written.{Writing, Answer, Answers, refused, wrote}
-use Rattle.written_model.specs.WrittenSteps.{WrittenStep, steps_in}
+use Rattle.written_model.specs.Written.{Answer, Answers}
 use Rattle.fitting_laws.specs.FitsAsWritten.{FitsAsWritten}
-
--- a fault of size: 50, 74, 76, 77 and 79
-pub data IsOfSize : Refusal → Type 0 where
-  long_text : IsOfSize (at_line (fault 1 50))
-  much : (n : ℕ) → IsOfSize (too_much (told_number n))
-  large : (n : ℕ) → IsOfSize (too_large (told_number n))
-  much_written : (n : ℕ) → IsOfSize (too_much_written (told_number n))
-  long_proof : (n : ℕ) → IsOfSize (proof_too_long (told_number n))
-
-abbrev pub fitting_verdict : Bool → ReportVerdict
-fitting_verdict hyp = if hyp then report.Hyp else report.Fits
-
--- a step is written with its name, its places and its reference as they are, fits, and has no clash
-pub record FitsAsGiven (s : SheetStep) (e : WrittenStep) : Type 0 where
-  pub name : e.name ≡ s.name
-  pub places : e.places ≡ s.places
-  pub reference : e.reference ≡ s.reference
-  pub verdict : e.verdict ≡ fitting_verdict s.hyp
-  pub no_clash : step_clash e.by ≡ None
-
--- it is finished with its steps as they are, or has a fault of size
-pub data BecomesFinished (sheet : Sheet) : Answer → Type 0 where
-  finished : {w : Writing} → AllZip FitsAsGiven (steps sheet) (steps_in w.items) → w.finished ≡ true → BecomesFinished sheet (wrote w)
-  of_size : {r : Refusal} → IsOfSize r → BecomesFinished sheet (refused r)
 
 -- a worksheet that fits as it is written, laid out, becomes finished
 abbrev pub FittingBecomesFinished : Type 0
 FittingBecomesFinished = (options : Options) (text : List ℕ) (db : Database) (sheet : Sheet) (answer : Answer)
     → database_fault text ≡ None → IsDatabaseOf options.kinds text db → FitsAsWritten db sheet
-    → Answers db (layout sheet None) options answer → BecomesFinished sheet answer
+    → Answers db (layout sheet None) options answer → BecomesFinished db sheet answer

@@ -7,6 +7,7 @@ use Rattle.proof_model.specs.declared.code.Code.{Code}
 use Rattle.proof_model.specs.declared.theorem.Theorem.{Theorem}
 use Rattle.push_laws.specs.WrittenProof.{WrittenProofIsAccepted}
 use Rattle.answer_laws.specs.WrittenReads.{AnswerIsFixed}
+use Rattle.export_laws.specs.ExportLaw.{LawOfExport}
 use Rattle.headline_laws.specs.Exported.{AnswerIsExported}
 use Rattle.headline_laws.proofs.Unified.{IsSound, sound_of}
 use Rattle.written_model.specs.declared.options.Options.{Options}
@@ -33,7 +34,7 @@ is_shown db options name w true end shows e = record { done = refl; shows = show
 is_shown db options name w false end refuses e = absurd (not_finished (sym refuses.status ∙ e))
 
 module _ (accepted : (db : Database) (text : List ℕ) (options : Options) (w : Writing) → WrittenProofIsAccepted db text options w)
-    (fixed : (db : Database) (text : List ℕ) (options : Options) (w : Writing) → AnswerIsFixed db text options w) where
+    (fixed : (db : Database) (text : List ℕ) (options : Options) (w : Writing) → AnswerIsFixed db text options w) (finished : LawOfExport) where
   proves : (db : Database) (text : List ℕ) (options : Options) (w : Writing) (end : Ending) → IsOpened options.kinds db → IsSound db text options w
       → IsShown db options w w.finished end → ProvesItself db options end.out
   proves db text options w end opened sound s =
@@ -45,10 +46,11 @@ module _ (accepted : (db : Database) (text : List ℕ) (options : Options) (w : 
       subst (λ (b : Bool). IsFixed db options end.out b) s.done
       (subst (λ (t : List ℕ). IsFixed db options t w.finished) (sym s.shows.out) (fixed db text options w opened sound.writes sound.late))
 
-  pub answer_is_exported : (db : Database) (options : Options) (name : Name) (theorem : Theorem) (code : Code) (answer : Answer) (end : Ending)
-      → AnswerIsExported db options name theorem code answer end
-  answer_is_exported db options name theorem code (wrote w) end opened answers gives =
+  pub answer_is_exported : (book : List ℕ) (db : Database) (options : Options) (name : Name) (theorem : Theorem) (code : Code) (answer : Answer) (end : Ending)
+      → AnswerIsExported book db options name theorem code answer end
+  answer_is_exported book db options name theorem code (wrote w) end no_fault is_database accepted_proof answers gives =
       let text = export_text db theorem name code in
+      let opened : IsOpened options.kinds db = record { text = book; sound = no_fault; is_database = is_database } in
       let sound = sound_of db text options w answers in
       record {
         answer = wrote w;
@@ -56,11 +58,13 @@ module _ (accepted : (db : Database) (text : List ℕ) (options : Options) (w : 
         gives = gives;
         proves = λ e. proves db text options w end opened sound (is_shown db options name w w.finished end gives e);
         again = λ e. again db text options w end opened sound (is_shown db options name w w.finished end gives e);
+        finishes = λ x. finished options book db name theorem code (wrote w) no_fault is_database accepted_proof x answers;
       }
-  answer_is_exported db options name theorem code (refused r) end opened answers gives = record {
+  answer_is_exported book db options name theorem code (refused r) end no_fault is_database accepted_proof answers gives = record {
     answer = refused r;
     answers = answers;
     gives = gives;
     proves = λ e. absurd (not_finished (sym gives.status ∙ e));
     again = λ e. absurd (not_finished (sym gives.status ∙ e));
+    finishes = λ x. finished options book db name theorem code (refused r) no_fault is_database accepted_proof x answers;
   }

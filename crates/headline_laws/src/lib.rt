@@ -13,6 +13,7 @@ ghost use Rattle.headline_laws.specs.Exported.{AnswerIsExported};
 ghost use Rattle.headline_laws.specs.Unified.{AnswerIsUnified};
 
 use answer_laws::answer_is_fixed;
+use export_laws::export_is_finished;
 use push_laws::{written_proof_is_accepted, written_without_proof};
 
 /// A call that gives the answer to a worksheet says all that is said of it: a finished worksheet carries a proof that is
@@ -26,11 +27,13 @@ pub fn answer_is_unified()
 }
 
 /// A call that gives the answer to the worksheet of an accepted proof says all that is said of `export`: what is printed carries
-/// a proof that is accepted, and unifying it writes it again.
+/// a proof that is accepted, and unifying it writes it again; and the worksheet of an exportable proof is finished, or has a
+/// fault of size.
 pub fn answer_is_exported()
-    ensures { (db : Database) (options : Options) (name : Name) (theorem : Theorem) (code : Code) (answer : Answer) (end : Ending)
-        → AnswerIsExported db options name theorem code answer end }
+    ensures { (text : List ℕ) (db : Database) (options : Options) (name : Name) (theorem : Theorem) (code : Code) (answer : Answer) (end : Ending)
+        → AnswerIsExported text db options name theorem code answer end }
 {
     written_proof_is_accepted();
     answer_is_fixed();
+    export_is_finished();
 }

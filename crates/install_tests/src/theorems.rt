@@ -8,8 +8,7 @@ use mm_frames::{Frames, read};
 use mm_tokens::tokens;
 use std::alloc::Global;
 
-const WITHOUT_HYPOTHESES: &[u8] =
-    b"$c |- wff $. $v ph $. wph $f wff ph $. ax $a |- ph $.
+const WITHOUT_HYPOTHESES: &[u8] = b"$c |- wff $. $v ph $. wph $f wff ph $. ax $a |- ph $.
 ";
 
 // The lines stand before the LF behind the last statement.

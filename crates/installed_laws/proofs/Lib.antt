@@ -3,9 +3,15 @@ mod BlockWalk
 mod BlockWords
 mod ByteFaults
 mod ConstantsApart
+mod FinishedFormulas
+mod FinishedLabels
+mod FinishedPairs
+mod FinishedPlain
+mod FinishedTheorem
 mod MeantTokens
 mod NoFaultLaw
 mod OutsidePlaces
+mod PlainNames
 mod ProofBytes
 mod RuleTable
 mod Walks

@@ -1,5 +1,5 @@
 -- The place of a new theorem is one of the text, where no block is open.
-use Rattle.std.specs.Prelude.{◌≡◌, ◌≤◌, ◌<◌, ◌+◌, ◌-◌, ℕ, zero, suc, Bool, true, false, not, List, [], ◌∷◌, length, take, reverse, find, unwrap_or, Option, Some, None, option_and_then, if◌then◌else◌, refl}
+use Rattle.std.specs.Prelude.{◌≡◌, ◌≤◌, ◌<◌, ◌⊎◌, ◌+◌, ◌-◌, ℕ, zero, suc, Bool, true, false, not, List, [], ◌∷◌, length, reverse, find, unwrap_or, Option, Some, None, option_and_then, refl}
 use Rattle.std.specs.List.{range_with_len}
 use Rattle.std.specs.Option.{option_map_or}
 use Rattle.std.proofs.Common.{sym, ap, subst, ◌∙◌, cond, arith, inl, inr}
@@ -8,12 +8,11 @@ use Rattle.std.proofs.lemmas.List.{take_all, reverse-reverse}
 use Rattle.mm_base.specs.declared.symbols.Label.{Label}
 use Rattle.mm_base.specs.declared.kinds.Kinds.{Kinds}
 use Rattle.mm_model.specs.declared.frames.Frame.{Frame}
-use Rattle.mm_model.specs.Faults.{fault, Fault}
-use Rattle.mm_model.specs.Names.{Name}
+use Rattle.mm_model.specs.Faults.{fault}
 use Rattle.mm_model.specs.Tokens.{tokens}
 use Rattle.mm_model.specs.Words.{Word}
 use Rattle.mm_model.specs.Statements.{Statement, statements, path, is_empty, ended, unended, end_fault, statement_fault}
-use Rattle.mm_model.specs.Frames.{below, position_of, place_after, end_of}
+use Rattle.mm_model.specs.Frames.{below, position_of, place_after}
 use Rattle.mm_model.specs.Book.{Database, IsDatabaseOf, label_of}
 use Rattle.sheet_text.specs.declared.sheet.Sheet.{Sheet}
 use Rattle.solve_model.specs.Binding.{existing, place_of, new_place}
@@ -25,7 +24,7 @@ found_in : (p : ℕ → Bool) (a n k : ℕ) → find p (range_with_len a n) ≡ 
 found_in p a zero k e = absurd cc
 found_in p a (suc n) k e = elim (cases_Bool (p a)) [
   | inl d ↦ let same : a ≡ k = (let one : Some a ≡ Some k = subst (λ (b : Bool). cond b (Some a) (find p (range_with_len (a + 1) n)) ≡ Some k) d e in cc) in
-    (ap p (sym same) ∙ d, omega (arith, same))
+      (ap p (sym same) ∙ d, omega (arith, same))
   | inr d ↦
       let rest : find p (range_with_len (a + 1) n) ≡ Some k = subst (λ (b : Bool). cond b (Some a) (find p (range_with_len (a + 1) n)) ≡ Some k) d e in
       let r = found_in p (a + 1) n k rest in
@@ -55,10 +54,10 @@ no_end_fault len before e = go (is_empty (unended before)) (is_empty (path (ende
 end_outside : (text : List ℕ) → statement_fault text ≡ None → IsOutsidePlace (statements text) (length (statements text))
 end_outside text sound =
     let ends = (or_else_none _ (end_fault (length text) (reverse (tokens text))) sound).1 in
-    let open = no_end_fault (length text) (reverse (tokens text)) ends in
+    let shut = no_end_fault (length text) (reverse (tokens text)) ends in
     let whole : below (statements text) (length (statements text)) ≡ ended (reverse (tokens text)) =
     ap (λ xs. reverse xs) (take_all (length (statements text)) (statements text) (omega arith)) ∙ reverse-reverse (ended (reverse (tokens text))) in
-    record { within = omega arith; outside = ap path whole ∙ open }
+    record { within = omega arith; outside = ap path whole ∙ shut }
 
 -- ---- behind a label
 
@@ -73,7 +72,7 @@ module _ (text : List ℕ) (sound : statement_fault text ≡ None) where
       let less = r.1 in
       record { within = within (cases_lt at (length ss)) less; outside = empty_path (path (below ss k)) r.0 }
     where
-      within : _ → k < suc at + (length ss - at) → k ≤ length ss
+      within : (at < length ss) ⊎ (length ss ≤ at) → k < suc at + (length ss - at) → k ≤ length ss
       within (inl l) h = omega (arith, l, h)
       within (inr l) h =
           let none : length ss - at ≡ 0 = omega (arith, l) in

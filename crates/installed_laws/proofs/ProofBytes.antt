@@ -1,8 +1,8 @@
 -- The bytes of a written proof may stand in a database, and none is a dollar.
-use Rattle.std.specs.Prelude.{◌≡◌, ◌≤◌, ◌||◌, ◌&&◌, ◌==◌, ◌-◌, ◌+◌, ◌*◌, nat_le, ℕ, Bool, true, false, not, List, [], ◌∷◌, ◌++◌, length, Contains, Option, Some, None, option_map, option_and_then, codes, refl}
+use Rattle.std.specs.Prelude.{◌≡◌, ◌≤◌, ◌||◌, ◌&&◌, ◌==◌, ◌-◌, ◌+◌, ◌*◌, ℕ, Bool, true, false, not, List, [], ◌∷◌, ◌++◌, length, Contains, Option, Some, None, option_map, option_and_then, codes, refl}
 use Rattle.std.specs.List.{AllByRecursion, list_any, list_all}
 use Rattle.std.specs.Str.{bytes_eq}
-use Rattle.std.proofs.Common.{sym, ap, subst, ◌∙◌, cond, arith}
+use Rattle.std.proofs.Common.{sym, subst, cond, arith}
 use Rattle.std.proofs.lemmas.Bool.{and_from, and_parts}
 use Rattle.std.proofs.lemmas.Bool.Decides.{nat_tests}
 use Rattle.std.proofs.lemmas.Slice.Eq.{bytes_eq-Decides}
@@ -13,14 +13,13 @@ use Rattle.mm_model.specs.Frames.{without_repeats}
 use Rattle.mm_model.specs.Labels.{is_label, is_label_byte}
 use Rattle.mm_model.specs.Names.{Name, contains}
 use Rattle.mm_model.specs.Tokens.{is_bad_byte}
-use Rattle.mm_model.specs.Words.{is_white}
 use Rattle.mm_model.specs.Book.{Database, label_of}
 use Rattle.proof_model.specs.declared.code.Step.{Step}
 use Rattle.proof_model.specs.declared.code.What.{What}
 use Rattle.proof_model.specs.declared.code.What.TheVariants as what
 use Rattle.proof_model.specs.declared.theorem.Theorem.{Theorem}
 use Rattle.proof_model.specs.Arities.{HasArities, HaveArities}
-use Rattle.proof_model.specs.Codes.{code_of_proof, listed_labels}
+use Rattle.proof_model.specs.Codes.{code_of_proof}
 use Rattle.proof_model.specs.Machine.{Frames}
 use Rattle.proof_model.specs.ProofCode.{is_last, is_leading, EndsNumber, SpellsWhat, SpellsSteps, mark, steps_letters}
 use Rattle.proof_model.specs.Proofs.{Proof, Proofs, by, none, next, listed, postorder, postorders}

@@ -7,8 +7,7 @@ ghost use Rattle.installed_laws.specs.InstalledFault.{InstalledTextHasNoFault};
 
 use again_laws::written_sheet_binds;
 use answer_laws::written_reads_back;
-use model_laws::{databases_have_places, names_are_words};
-use push_laws::step_proof_pushes;
+use model_laws::names_are_words;
 
 /// A text without a fault has none with a theorem in it that can be put in at the place, where it does not become too long.
 pub fn installed_text_has_no_fault()
@@ -21,7 +20,5 @@ pub fn finished_can_be_put_in()
 {
     written_reads_back();
     written_sheet_binds();
-    step_proof_pushes();
-    databases_have_places();
     names_are_words();
 }

@@ -74,8 +74,8 @@ sheet_at options text name d l code is p sheet e =
 -- ---- what came of it
 
 abbrev pub AllExport : Type 0
-AllExport = (db : Database) (options : Options) (name : Name) (theorem : Theorem) (code : Code) (answer : Answer) (end : Ending)
-    → AnswerIsExported db options name theorem code answer end
+AllExport = (text : List ℕ) (db : Database) (options : Options) (name : Name) (theorem : Theorem) (code : Code) (answer : Answer) (end : Ending)
+    → AnswerIsExported text db options name theorem code answer end
 
 module _ (law : AllExport) (options : Options) (text name : List ℕ) (d : Opened) (l : Label) (code : Code) (is : IsOpened options.kinds text d) (p : IsAcceptedProof text name l code)
     (sheet : List ℕ) (sheet_is : sheet ≡ export_text (book options text d) (theorem_at text name l code p) name code) where
@@ -83,7 +83,7 @@ module _ (law : AllExport) (options : Options) (text name : List ℕ) (d : Opene
       → GivesExport (book options text d) options name answer end → IsExported options text name end
   with_answer answer end answers gives =
       exported {db = book options text d} {t = theorem_at text name l code p} {code = code} is.database (is_accepted options text name d l code p)
-      (law (book options text d) options name (theorem_at text name l code p) code answer end (record { text = text; sound = is.no_fault; is_database = is.database })
+      (law text (book options text d) options name (theorem_at text name l code p) code answer end is.no_fault is.database (is_accepted options text name d l code p)
       (subst (λ (t : List ℕ). Answers (book options text d) t options answer) sheet_is answers) gives)
 
   pub outcome_exports : (outcome : Outcome) (end : Result Ending memory.Memory) → IsOutcome (book options text d) sheet options outcome

@@ -1,6 +1,7 @@
 -- From what came of a worksheet to the ending of `install`.
 use Rattle.std.proofs.Common.{◌≡◌, ℕ, List, length, true, false, Option, Some, None, Result, Ok, Err, IfOk, IfSome, IsSome, ◌∙◌, sym}
 use Rattle.call_answers.specs.declared.ending.Ending.{Ending}
+use Rattle.call_answers.specs.Kept.{LawOfInstalling}
 use Rattle.call_answers.specs.PutsIn.{PutsIn, ShowsReport}
 use Rattle.fault_lines.specs.FaultLines.{refusal_line}
 use Rattle.fault_lines.specs.Refusals.{Refusal}
@@ -10,7 +11,8 @@ use Rattle.install_model.specs.Installed.{installed_text}
 use Rattle.mm_base.specs.declared.errors.Memory as memory
 use Rattle.mm_base.specs.declared.status.Status.TheVariants as status
 use Rattle.mm_database.specs.Opened.{Opened, IsOpened}
-use Rattle.mm_model.specs.Book.{Database}
+use Rattle.mm_model.specs.Book.{Database, IsDatabaseOf}
+use Rattle.mm_model.specs.Statements.{database_fault}
 use Rattle.mmp_run.specs.Installed.{IsInstalled, TellsInstall, TellsText}
 use Rattle.mmp_run.specs.Installed as made
 use Rattle.mmp_run.specs.Refusals.{refusal}
@@ -29,34 +31,37 @@ tells_open db options w text outcome (Err e) is new not_done shows = tt
 tells_open db options w text outcome (Ok end) is new not_done shows =
     made.is_open (sym is.existing ∙ new) (sym is.finished ∙ not_done) shows
 
-puts_text : (db : Database) (options : Options) (text sheet : List ℕ) (w : Writing) (end : Ending) → Answers db sheet options (wrote w) → w.bound.existing ≡ false → w.finished ≡ true
-    → TellsText db options w text end → PutsIn db options text sheet end
-puts_text db options text sheet w end is new done (made.large long says) = record {
+puts_text : (law : LawOfInstalling) (db : Database) (options : Options) (text sheet : List ℕ) (w : Writing) (end : Ending) → database_fault text ≡ None
+    → IsDatabaseOf options.kinds text db → Answers db sheet options (wrote w) → w.bound.existing ≡ false → w.finished ≡ true → TellsText db options w text end → PutsIn db options text sheet end
+puts_text law db options text sheet w end sound book is new done (made.large long says) = record {
   answer = answers.too_large (length (installed_text db options w text));
   installs = answers.is_large is new done long;
   gives = refuses end status.Sheet (database_too_large_line (length (installed_text db options w text))) says;
+  keeps = tt;
 }
-puts_text db options text sheet w end is new done (made.put_in short shows) = record {
+puts_text law db options text sheet w end sound book is new done (made.put_in short shows) = record {
   answer = answers.put_in w (installed_text db options w text);
   installs = answers.is_put_in is new done short;
   gives = shows;
+  keeps = law options text sheet db w sound book is new done short;
 }
 
-puts : (db : Database) (options : Options) (text sheet : List ℕ) (w : Writing) (end : Ending) → Answers db sheet options (wrote w) → TellsInstall db options w text end
-    → PutsIn db options text sheet end
-puts db options text sheet w end is (made.is_there there says) =
-    record { answer = answers.theorem_there; installs = answers.is_there is there; gives = refuses end status.Sheet theorem_there_line says }
-puts db options text sheet w end is (made.is_open new not_done shows) = record { answer = answers.unfinished w; installs = answers.is_open is new not_done; gives = shows }
-puts db options text sheet w end is (made.done new done tells) = puts_text db options text sheet w end is new done tells
+puts : (law : LawOfInstalling) (db : Database) (options : Options) (text sheet : List ℕ) (w : Writing) (end : Ending) → database_fault text ≡ None
+    → IsDatabaseOf options.kinds text db → Answers db sheet options (wrote w) → TellsInstall db options w text end → PutsIn db options text sheet end
+puts law db options text sheet w end sound book is (made.is_there there says) =
+    record { answer = answers.theorem_there; installs = answers.is_there is there; gives = refuses end status.Sheet theorem_there_line says; keeps = tt }
+puts law db options text sheet w end sound book is (made.is_open new not_done shows) =
+    record { answer = answers.unfinished w; installs = answers.is_open is new not_done; gives = shows; keeps = tt }
+puts law db options text sheet w end sound book is (made.done new done tells) = puts_text law db options text sheet w end sound book is new done tells
 
-pub outcome_installs : (options : Options) (text sheet : List ℕ) (d : Opened) (outcome : Outcome) (end : Result Ending memory.Memory) → IsOpened options.kinds text d
-    → IsOutcome (book options text d) sheet options outcome
+pub outcome_installs : (law : LawOfInstalling) (options : Options) (text sheet : List ℕ) (d : Opened) (outcome : Outcome) (end : Result Ending memory.Memory)
+    → IsOpened options.kinds text d → IsOutcome (book options text d) sheet options outcome
     → ((w : Writing) → IsWritten (book options text d) options w outcome → IfOk end (TellsInstall (book options text d) options w text)) → IfOk end (IsInstalled options text sheet)
-outcome_installs options text sheet d outcome (Err e) opened is tells = tt
-outcome_installs options text sheet d outcome (Ok end) opened is tells = record {
+outcome_installs law options text sheet d outcome (Err e) opened is tells = tt
+outcome_installs law options text sheet d outcome (Ok end) opened is tells = record {
   db = book options text d;
   is_database = opened.database;
-  puts_in = puts (book options text d) options text sheet is.writing end is.answers (tells is.writing is.written);
+  puts_in = puts law (book options text d) options text sheet is.writing end opened.no_fault opened.database is.answers (tells is.writing is.written);
 }
 
 told : (options : Options) (text sheet : List ℕ) (d : Opened) (r : Option Refusal) (end : Ending) → IsOpened options.kinds text d → IsSome r
@@ -65,7 +70,7 @@ told options text sheet d None end opened some is says = let clash : false ≡ t
 told options text sheet d (Some r) end opened some is says = record {
   db = book options text d;
   is_database = opened.database;
-  puts_in = record { answer = answers.bad_sheet r; installs = answers.refuses is; gives = refuses end status.Sheet (refusal_line r) says };
+  puts_in = record { answer = answers.bad_sheet r; installs = answers.refuses is; gives = refuses end status.Sheet (refusal_line r) says; keeps = tt };
 }
 
 pub fault_installs : (options : Options) (text sheet : List ℕ) (d : Opened) (fault : UnifyFault) (end : Result Ending memory.Memory) → IsOpened options.kinds text d

@@ -1,3 +1,4 @@
+mod Asked
 mod Blocks
 mod Delivered
 mod Exported

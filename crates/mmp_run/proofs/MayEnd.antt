@@ -3,8 +3,8 @@ use Rattle.std.proofs.Common.{◌≡◌, ◌≢◌, ◌⊎◌, ◌≤◌, ℕ, B
 use Rattle.std.proofs.Common.{refl, sym, ◌∙◌, ap, subst, inl, inr, arith}
 use Rattle.std.specs.Option.{option_and_then}
 use Rattle.call_answers.specs.declared.ending.Ending.{Ending}
-use Rattle.call_answers.specs.CallAnswers.{CallAnswer, bad_database, bad_worksheet, unified, verdict, tried, not_exported, exported, installed, HasDatabase, HasSheet, database_of, sheet_of, no_files}
-use Rattle.call_answers.specs.CommandLine.{Command, SheetCommand, TheoremCommand, unify, verify, trial, export, install}
+use Rattle.call_answers.specs.CallAnswers.{CallAnswer, bad_database, bad_worksheet, unified, verdict, tried, not_exported, exported, installed, selected, HasDatabase, HasSheet, database_of, sheet_of, no_files}
+use Rattle.call_answers.specs.CommandLine.{Command, SheetCommand, TheoremCommand, unify, verify, trial, export, install, select}
 use Rattle.call_answers.specs.Endings.{Tells}
 use Rattle.call_answers.specs.Given.{ReadsFile, HasSoundDatabase, read_fault}
 use Rattle.call_answers.specs.Trial.{IsTried}
@@ -16,6 +16,7 @@ use Rattle.mm_base.specs.declared.status.Status.{Status}
 use Rattle.mm_base.specs.declared.status.Status.TheVariants.{Words, Read, Write, Memory, Proof}
 use Rattle.mm_model.specs.Names.{Name}
 use Rattle.mmp_run.specs.Answers.{MayEnd}
+use Rattle.mmp_run.specs.Asked.{IsAsked}
 use Rattle.mmp_run.specs.Exported as made
 use Rattle.mmp_run.specs.Exported.{IsExported}
 use Rattle.mmp_run.specs.Installed.{IsInstalled}
@@ -59,6 +60,7 @@ reads_none (verify command) name read none = some_not_none command.database none
 reads_none (trial count) name read none = read
 reads_none (export options command) name read none = some_not_none command.database none
 reads_none (install command) name read none = some_not_none command.database none
+reads_none (select command step) name read none = some_not_none command.database none
 
 module _ (command : Command) (told : Option Files) (before now : Name → ℕ) where
   may_from_due : (end : Ending) → IsTextEnding end → IfSome told (λ files. CallAnswer files (Some command) end)
@@ -141,6 +143,9 @@ unify_reads command is_in_place = record { database_is = refl; sheet_is = refl; 
 pub install_reads : (command : SheetCommand) → ReadsBoth (install command) command.database command.sheet
 install_reads command = record { database_is = refl; sheet_is = refl; reads_database = inl refl; reads_sheet = inr refl }
 
+pub select_reads : (command : SheetCommand) (step : Name) → ReadsBoth (select command step) command.database command.sheet
+select_reads command step = record { database_is = refl; sheet_is = refl; reads_database = inl refl; reads_sheet = inr refl }
+
 module _ (command : Command) (name file : Name) (reads : ReadsBoth command name file) where
   due_bad_sheet : (files : Files) (end : Ending) (database : List ℕ) (found : Option (List ℕ)) → files file ≡ found → IsOpen (Some files) name database
       → IsSomeAnd found (λ text. IsSheetRefusal text end) → CallAnswer files (Some command) end
@@ -179,6 +184,11 @@ module _ (command : SheetCommand) (database : List ℕ) where
   due_installed None text end opened has is = tt
   due_installed (Some files) text end opened has is = installed {database = database} {sheet = text} {db = is.db} opened.has opened.accepted.no_fault has is.is_database is.puts_in
 
+  due_selected : (step : Name) (told : Option Files) (text : List ℕ) (end : Ending) → IsOpen told command.database database → Has told command.sheet text
+      → IsAsked command.options database text step end → IfSome told (λ files. CallAnswer files (Some (select command step)) end)
+  due_selected step None text end opened has is = tt
+  due_selected step (Some files) text end opened has is = selected {database = database} {sheet = text} {db = is.db} opened.has opened.accepted.no_fault has is.is_database is.asks
+
   -- the worksheet is unified
   pub may_unify : (is_in_place : Bool) (told : Option Files) (before now : Name → ℕ) (sheet : sheets.Sheet) (end : Result Ending memory.Memory)
       → IsOpen told command.database database → IsOpenSheet told command.sheet sheet
@@ -199,6 +209,17 @@ module _ (command : SheetCommand) (database : List ℕ) where
   may_install told before now sheet (Ok end) opened read is st =
       may_from_due (install command) told before now end st
       (due_installed told read.text end opened read.has (is read.text (record { sound = read.readable.no_fault; reads = read.reads })))
+      (λ none. absurd (some_not_none command.database none))
+
+  -- a step of it is asked about
+  pub may_select : (step : Name) (told : Option Files) (before now : Name → ℕ) (sheet : sheets.Sheet) (end : Result Ending memory.Memory)
+      → IsOpen told command.database database → IsOpenSheet told command.sheet sheet
+      → ((text : List ℕ) → SaysSheet text sheet → IfOk end (IsAsked command.options database text step)) → IfOk end IsTextEnding
+      → IfOk end (MayEnd (select command step) told before now)
+  may_select step told before now sheet (Err e) opened read is st = tt
+  may_select step told before now sheet (Ok end) opened read is st =
+      may_from_due (select command step) told before now end st
+      (due_selected step told read.text end opened read.has (is read.text (record { sound = read.readable.no_fault; reads = read.reads })))
       (λ none. absurd (some_not_none command.database none))
 
 -- ---- theorems

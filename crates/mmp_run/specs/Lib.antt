@@ -1,4 +1,5 @@
 pub mod Answers
+pub mod Asked
 pub mod Exported
 pub mod Found
 pub mod Installed

@@ -40,6 +40,14 @@ names_in _ = None
 abbrev pub names_shown : Bor Name × Bor Name → Name × Name
 names_shown p = (p.0.now, p.1.now)
 
+-- three names
+abbrev pub three_in : List Name → Option (Name × Name × Name)
+three_in (first ∷ second ∷ third ∷ []) = if list_all words.is_name (first ∷ second ∷ third ∷ []) then Some (first, second, third) else None
+three_in _ = None
+
+abbrev pub three_shown : Bor Name × Bor Name × Bor Name → Name × Name × Name
+three_shown p = (p.0.now, p.1.now, p.2.now)
+
 abbrev pub unify_command : Choice → List ℕ → List ℕ → words.Command
 unify_command choice database sheet = words.unify (words.sheet_command (options_shown choice) database sheet) choice.in_place
 
@@ -52,9 +60,13 @@ export_command choice database theorem = words.export (options_shown choice) (wo
 abbrev pub install_command : Choice → List ℕ → List ℕ → words.Command
 install_command choice database sheet = words.install (words.sheet_command (options_shown choice) database sheet)
 
+abbrev pub select_command : Choice → List ℕ → List ℕ → List ℕ → words.Command
+select_command choice database sheet step = words.select (words.sheet_command (options_shown choice) database sheet) step
+
 abbrev pub shown : Command → words.Command
 shown (command.Unify choice database sheet) = unify_command choice database.now sheet.now
 shown (command.Verify database theorem) = verify_command database.now theorem.now
 shown (command.Trial blocks) = words.trial blocks
 shown (command.Export choice database theorem) = export_command choice database.now theorem.now
 shown (command.Install choice database sheet) = install_command choice database.now sheet.now
+shown (command.Select choice database sheet step) = select_command choice database.now sheet.now step.now

@@ -8,7 +8,7 @@ ghost use Rattle.call_answers.specs.Given.{told, target, in_place_of, IsSettled,
 ghost use Rattle.mm_base.specs.Outside.{Files, NoneFell, Rose};
 ghost use Rattle.mmp_run.specs.Answers.{MayEnd, MayEndFor};
 ghost use Rattle.mmp_run.specs.OpenedBoth.{HasTexts, IsOpenedBoth};
-ghost use Rattle.mmp_run.specs.Shown.{shown, options_shown, unify_command, verify_command, export_command, install_command};
+ghost use Rattle.mmp_run.specs.Shown.{shown, options_shown, unify_command, verify_command, export_command, install_command, select_command};
 
 use crate::both::{OpenedBoth, open_both};
 use crate::command::{Command, read_words};
@@ -18,6 +18,7 @@ use crate::export::end_proof;
 use crate::install::end_put_in;
 use crate::opening::{Opened, open};
 use crate::options::{Choice, make_options};
+use crate::select::end_step;
 use crate::trial::end_trial;
 use crate::unify::end_sheet;
 use crate::verify::end_theorem;
@@ -49,6 +50,25 @@ fn install_both(alloc: Global, opened: OpenedBoth, options: &Options) -> Result<
     match opened {
         OpenedBoth::Both(text, frames, sheet) => {
             end_put_in(alloc, text.as_slice(), frames, &sheet, options)
+        }
+        OpenedBoth::Refused(end) => Ok(end),
+    }
+}
+
+// Tells which assertions fit a step of the worksheet of two files that were opened.
+fn select_both(
+    alloc: Global,
+    opened: OpenedBoth,
+    options: &Options,
+    step: &str,
+) -> Result<Ending, Memory>
+    requires { HasTexts opened }
+    ensures { (told : Option Files) (before now : List ℕ → ℕ) (choice : Choice) (database sheet : List ℕ) → options_shown choice ≡ options.now
+        → IsOpenedBoth told before now database sheet opened → IfOk result (MayEnd (select_command choice database sheet step.now) told before now) }
+{
+    match opened {
+        OpenedBoth::Both(text, frames, sheet) => {
+            end_step(alloc, text.as_slice(), frames, &sheet, options, step)
         }
         OpenedBoth::Refused(end) => Ok(end),
     }
@@ -88,6 +108,26 @@ fn end_install<S: Store>(
     let options = make_options(alloc, choice)?;
     match open_both(alloc, store, database, sheet) {
         Ok(opened) => install_both(alloc, opened, &options),
+        Err(_) => Err(Memory),
+    }
+}
+
+// Tells which assertions of the database of a file fit a step of the worksheet of another.
+fn end_select<S: Store>(
+    alloc: Global,
+    store: &mut S,
+    choice: Choice<'_>,
+    database: &str,
+    sheet: &str,
+    step: &str,
+) -> Result<Ending, Memory>
+    ensures answer { IfOk result (MayEnd (select_command choice.entry database.now sheet.now step.now) (S.told store.old) (S.read_faults store.old) (S.read_faults store.new)) }
+    ensures same_files { S.told store.new ≡ S.told store.old }
+    ensures replace_faults { NoneFell (S.replace_faults store.old) (S.replace_faults store.new) }
+{
+    let options = make_options(alloc, choice)?;
+    match open_both(alloc, store, database, sheet) {
+        Ok(opened) => select_both(alloc, opened, &options, step),
         Err(_) => Err(Memory),
     }
 }
@@ -159,6 +199,12 @@ fn end_command<S: Store>(
             database,
             sheet,
         } => end_install(alloc, store, choice, database, sheet),
+        Command::Select {
+            choice,
+            database,
+            sheet,
+            step,
+        } => end_select(alloc, store, choice, database, sheet, step),
     }
 }
 
@@ -178,7 +224,7 @@ fn end_words<S: Store>(
         None => refuse(
             alloc,
             Status::Words,
-            "usage: mmp unify [--proof=normal|compressed] [--in-place] [--dv=add|given] [--provable=T] [--logic=T] DB SHEET | mmp verify DB LABEL | mmp trial N | mmp export [options] DB LABEL | mmp install [options] DB SHEET",
+            "usage: mmp unify [--proof=normal|compressed] [--in-place] [--dv=add|given] [--provable=T] [--logic=T] DB SHEET | mmp verify DB LABEL | mmp trial N | mmp export [options] DB LABEL | mmp install [options] DB SHEET | mmp select [options] DB SHEET STEP",
         ),
     }
 }
@@ -220,9 +266,10 @@ fn place_of<'a>(command: Option<Command<'a>>, status: Status) -> Option<&'a str>
 /// one line in `log`. For `trial` `Finished` and `Unfinished`: four lines are in `out`. For `export` `Finished`: the worksheet is
 /// in `out`, and the report in `log`; `Proof`: as for `verify`, or the proof gives no finished worksheet, by one line in `log`.
 /// For `install` `Finished`: the text of the database with the theorem in it is in `out`, and the report in `log`; `Unfinished`:
-/// the report is in `log`, and nothing in `out`. `Database` and `Sheet`: the file is refused, by one line in `log`; `Sheet` is also
-/// that of an `install` whose theorem is one of the database, or whose text would be too large. `Words`: the words fit no command,
-/// and `log` has the usage line. `Read`: a file could not be read, and `log` names it. `Write`: a sink failed, or the store where
+/// the report is in `log`, and nothing in `out`. For `select` `Finished`: the labels that fit are in `out`, one on each line.
+/// `Database` and `Sheet`: the file is refused, by one line in `log`; `Sheet` is also that of an `install` whose theorem is one of
+/// the database, or whose text would be too large, and of a `select` whose step is not there or is open. `Words`: the words fit no
+/// command, and `log` has the usage line. `Read`: a file could not be read, and `log` names it. `Write`: a sink failed, or the store where
 /// the worksheet was to be put, and two texts are cut short; over told files, and for `trial` and words that fit no command over
 /// every store, they are those of one of the other statuses.
 /// Nothing is in `log` unless the first text is whole. `Memory`: memory ran out, and nothing was written.

@@ -6,7 +6,7 @@ ghost use Rattle.std.specs.Option.{option_map, option_and_then};
 ghost use Rattle.call_answers.specs.CommandLine as line;
 ghost use Rattle.call_answers.specs.CommandLine.{command_of, is_option, is_name, leading, behind};
 ghost use Rattle.mm_model.specs.Names.{contains};
-ghost use Rattle.mmp_run.specs.Shown.{names_in, names_shown, options_shown, shown};
+ghost use Rattle.mmp_run.specs.Shown.{names_in, names_shown, options_shown, shown, three_in, three_shown};
 
 use crate::options::{Choice, choose};
 use itoa::Buffer;
@@ -40,9 +40,16 @@ pub enum Command<'a> {
         database: &'a str,
         sheet: &'a str,
     },
+    /// To tell the assertions that fit a step of a worksheet.
+    Select {
+        choice: Choice<'a>,
+        database: &'a str,
+        sheet: &'a str,
+        step: &'a str,
+    },
 }
 
-// A word that may name a file or a label.
+// A word that may name a file, a label or a step.
 fn is_name_word(word: &str) -> bool
     ensures { result ≡ is_name word.now }
 {
@@ -93,6 +100,22 @@ fn two_names(words: &[String]) -> Option<(&str, &str)>
         return None;
     }
     Some((first.as_str(), second.as_str()))
+}
+
+// The three names that a command takes.
+fn three_names(words: &[String]) -> Option<(&str, &str, &str)>
+    ensures { option_map three_shown result ≡ three_in (map string_bytes words.now) }
+{
+    let [first, second, third] = words else {
+        return None;
+    };
+    if !is_name_word(first.as_str())
+        || !is_name_word(second.as_str())
+        || !is_name_word(third.as_str())
+    {
+        return None;
+    }
+    Some((first.as_str(), second.as_str(), third.as_str()))
 }
 
 // What is to be unified, by the words behind the options.
@@ -194,6 +217,32 @@ fn read_install(words: &[String]) -> Option<Command<'_>>
     }
 }
 
+// The step that is asked about, by the words behind the options.
+fn read_step<'a>(choice: Choice<'a>, words: &'a [String]) -> Option<Command<'a>>
+    ensures { option_map shown result ≡ line.select_of (map string_bytes words.entry.now) (options_shown choice.entry) }
+{
+    match three_names(words) {
+        None => None,
+        Some((database, sheet, step)) => Some(Command::Select {
+            choice,
+            database,
+            sheet,
+            step,
+        }),
+    }
+}
+
+// The command `select` with these words behind it.
+fn read_select(words: &[String]) -> Option<Command<'_>>
+    ensures { option_map shown result ≡ line.with_options line.select_of (map string_bytes words.now) }
+{
+    let (options, names) = words.split_at(count_options(words));
+    match choose(false, options) {
+        None => None,
+        Some(choice) => read_step(choice, names),
+    }
+}
+
 // The command of that name with these words behind it.
 fn read_by_name<'a>(word: &str, words: &'a [String]) -> Option<Command<'a>>
     ensures { option_map shown result ≡ line.of_word word.now (map string_bytes words.entry.now) }
@@ -208,6 +257,8 @@ fn read_by_name<'a>(word: &str, words: &'a [String]) -> Option<Command<'a>>
         read_export(words)
     } else if word == "install" {
         read_install(words)
+    } else if word == "select" {
+        read_select(words)
     } else {
         None
     }

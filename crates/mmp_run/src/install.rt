@@ -22,11 +22,12 @@ use crate::endings::refuse;
 use crate::unify::{end_fault, report_log};
 use call_answers::Ending;
 use db_install::{InstallFault, install};
+use kept_laws::installing_keeps_all;
 use mm_base::{Bytes, List, Memory, Status};
 use mm_database::{Database, open_frames};
 use mm_frames::Frames;
 use sheet_text::Sheet;
-use sheet_theorem::new_theorem;
+use sheet_theorem::{new_theorem, outcomes_have_places};
 use sheet_unify::{Outcome, unify_read};
 use std::alloc::Global;
 use written_model::Options;
@@ -87,14 +88,16 @@ fn end_finished(
     text: &[u8],
     outcome: &Outcome,
 ) -> Result<Ending, Memory>
-    requires { IsOutcomeOver db.now outcome.now }
+    requires of_text { db.now.contents ≡ contents_of text.now }
+    requires over { IsOutcomeOver db.now outcome.now }
     ensures written { (options : Options) (w : Writing) → IsOpened options.kinds text.now db.now
         → IsWritten (database_of options.kinds text.now db.now.rows db.now.parsed) options w outcome.now
         → IfOk result (TellsText (database_of options.kinds text.now db.now.rows db.now.parsed) options w text.now) }
     ensures ending { IfOk result IsTextEnding }
 {
+    outcomes_have_places();
     let theorem = new_theorem(alloc, db, outcome)?;
-    match install(alloc, text, outcome.place, &theorem) {
+    match install(alloc, text, db.frames(), outcome.place, &theorem) {
         Ok(whole) => end_text(alloc, db, outcome, whole),
         Err(InstallFault::TooLarge(bytes)) => refuse_text(alloc, bytes),
         Err(InstallFault::Memory) => Err(Memory),
@@ -108,7 +111,8 @@ fn end_written(
     text: &[u8],
     outcome: &Outcome,
 ) -> Result<Ending, Memory>
-    requires { IsOutcomeOver db.now outcome.now }
+    requires of_text { db.now.contents ≡ contents_of text.now }
+    requires over { IsOutcomeOver db.now outcome.now }
     ensures written { (options : Options) (w : Writing) → IsOpened options.kinds text.now db.now
         → IsWritten (database_of options.kinds text.now db.now.rows db.now.parsed) options w outcome.now
         → IfOk result (TellsInstall (database_of options.kinds text.now db.now.rows db.now.parsed) options w text.now) }
@@ -136,6 +140,7 @@ fn end_opened(
     ensures answer { (sheet_text : List ℕ) → SaysSheet sheet_text sheet.now → IfOk result (IsInstalled options.now text.now sheet_text) }
     ensures ending { IfOk result IsTextEnding }
 {
+    installing_keeps_all();
     match unify_read(alloc, db, sheet, options) {
         Ok(outcome) => end_written(alloc, db, text, &outcome),
         Err(fault) => end_fault(alloc, Status::Sheet, fault),

@@ -11,6 +11,7 @@ mod files;
 mod install;
 mod opening;
 mod options;
+mod select;
 mod sheet;
 mod trial;
 mod unify;

@@ -75,8 +75,7 @@ const FREE_PAIR: &str = "${ $d ph ps $. self $p |- ( ph -> ( ph -> ph ) ) $= wph
 ";
 
 // A variable of the proof that is not in the theorem, and its pair.
-const INNER_PAIR: &str =
-    "${ $d x ph $. dm $p |- ( ph -> ph ) $= wph vx wph vx ax-5 drop $. $}
+const INNER_PAIR: &str = "${ $d x ph $. dm $p |- ( ph -> ph ) $= wph vx wph vx ax-5 drop $. $}
 ";
 
 // A theorem of another typecode, and one that uses it.
@@ -449,7 +448,12 @@ fn check_again(
 ) -> Result<(), Fail> {
     let words = command(alloc, "unify", row.options, ["P.mm", "r.mmp"])?;
     let again = call_over(alloc, words.as_slice(), honest(database, written))?;
-    assert_eq!(rt; text_of(again.out.bytes()), text_of(written), "again: {}", row.shows);
+    assert_eq!(rt;
+        text_of(again.out.bytes()),
+        text_of(written),
+        "again: {}",
+        row.shows
+    );
     assert_eq!(rt; again.status, Status::Finished, "again: {}", row.shows);
     Ok(())
 }

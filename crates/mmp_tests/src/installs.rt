@@ -524,13 +524,7 @@ fn some_theorems_are_not_put_in(rt: HostRuntime) -> Result<(), Fail> {
 #[test]
 fn old_proofs_are_accepted(rt: HostRuntime) -> Result<(), Fail> {
     let database = joined(rt.alloc(), &[FRONT, "\n", MODUS_PONENS_BLOCK, BEHIND])?;
-    check_accepted(
-        &rt,
-        rt.alloc(),
-        "an old proof",
-        database.as_slice(),
-        "good",
-    )
+    check_accepted(&rt, rt.alloc(), "an old proof", database.as_slice(), "good")
 }
 
 const ITS_USE: &str = "h1::s.1 |- ph
@@ -558,7 +552,13 @@ $}
         log: "1 hyp\n2 hyp\nqed fits r\nfinished\n",
     };
     compare_row(&rt, "a theorem over a new one", &ended, want);
-    check_accepted(&rt, rt.alloc(), "a theorem over a new one", written.as_slice(), "s")
+    check_accepted(
+        &rt,
+        rt.alloc(),
+        "a theorem over a new one",
+        written.as_slice(),
+        "s",
+    )
 }
 
 // What was put in is exported as the worksheet that it came from, with its proof.
@@ -566,7 +566,11 @@ $}
 fn a_new_theorem_is_exported(rt: HostRuntime) -> Result<(), Fail> {
     let database = joined(rt.alloc(), &[PROP, MODUS_PONENS_BLOCK])?;
     let words = ["export", "P.mm", "r"];
-    let ended = call_over(rt.alloc(), words.as_slice(), honest(database.as_slice(), b""))?;
+    let ended = call_over(
+        rt.alloc(),
+        words.as_slice(),
+        honest(database.as_slice(), b""),
+    )?;
     let proof = "$= ( ax-mp ) ABCDE $.\n";
     let written = sheet(rt.alloc(), "r LOC_AFTER=?", &[MODUS_PONENS, proof])?;
     let want = Want {
@@ -586,7 +590,12 @@ fn no_files_to_install_from(rt: HostRuntime) -> Result<(), Fail> {
     ] {
         let outside = honest(PROP.as_bytes(), b"");
         let ended = call_over(rt.alloc(), words.as_slice(), outside)?;
-        compare_row(&rt, "a file that is not there", &ended, refused(Status::Read, line));
+        compare_row(
+            &rt,
+            "a file that is not there",
+            &ended,
+            refused(Status::Read, line),
+        );
     }
     Ok(())
 }

@@ -98,24 +98,24 @@ orders_same e = by (nat_le 2 (length e.places)) (nat_le (length e.places) 6) ref
 
 -- ---- the first of mapped lists, and of a list of lists
 
-first_map_where : {X Y : Type 0} (P : X → Type 0) (Q R : Y → Type 0) (f : Y → X) → ((y : Y) → R y → P (f y) → Q y) → ((y : Y) → R y → Q y → P (f y)) → (ys : List Y) (o : Option Y)
+pub first_map_where : {X Y : Type 0} (P : X → Type 0) (Q R : Y → Type 0) (f : Y → X) → ((y : Y) → R y → P (f y) → Q y) → ((y : Y) → R y → Q y → P (f y)) → (ys : List Y) (o : Option Y)
     → AllByRecursion R ys → IsFirstOrNone Q ys o → IsFirstOrNone P (map f ys) (option_map f o)
 first_map_where P Q R f there back [] o r h = ap (option_map f) h
 first_map_where P Q R f there back (y ∷ ys) o r (inl h) = inl (ap (option_map f) h.0, back y r.0 h.1)
 first_map_where P Q R f there back (y ∷ ys) o r (inr h) = inr (λ p. h.0 (there y r.0 p), first_map_where P Q R f there back ys o r.1 h.1)
 
-first_is_one : {X : Type 0} (P R : X → Type 0) (xs : List X) (x : X) → AllByRecursion R xs → IsFirstOrNone P xs (Some x) → R x
+pub first_is_one : {X : Type 0} (P R : X → Type 0) (xs : List X) (x : X) → AllByRecursion R xs → IsFirstOrNone P xs (Some x) → R x
 first_is_one P R [] x r h = absurd (cc)
 first_is_one P R (y ∷ ys) x r (inl h) = let same : x ≡ y = cc in subst R (sym same) r.0
 first_is_one P R (y ∷ ys) x r (inr h) = first_is_one P R ys x r.1 h.1
 
 module _ {X : Type 0} (P : X → Type 0) (F : ℕ → List X) where
-  none_range : (a m : ℕ) → ((k : ℕ) → a ≤ k → k < a + m → IsFirstOrNone P (F k) None) → IsFirstOrNone P (flat_map F (range_with_len a m)) None
+  pub none_range : (a m : ℕ) → ((k : ℕ) → a ≤ k → k < a + m → IsFirstOrNone P (F k) None) → IsFirstOrNone P (flat_map F (range_with_len a m)) None
   none_range a zero h = refl
   none_range a (suc m) h =
       append_none P (F a) (flat_map F (range_with_len (a + 1) m)) None (h a (omega arith) (omega arith)) (none_range (a + 1) m (λ k l u. h k (omega arith) (omega arith)))
 
-  some_range : (a m k : ℕ) (x : X) → a ≤ k → k < a + m → ((j : ℕ) → a ≤ j → j < k → IsFirstOrNone P (F j) None) → IsFirstOrNone P (F k) (Some x)
+  pub some_range : (a m k : ℕ) (x : X) → a ≤ k → k < a + m → ((j : ℕ) → a ≤ j → j < k → IsFirstOrNone P (F j) None) → IsFirstOrNone P (F k) (Some x)
       → IsFirstOrNone P (flat_map F (range_with_len a m)) (Some x)
   some_range a zero k x l u before here = absurd (omega arith)
   some_range a (suc m) k x l u before here = elim (cases_Bool (a == k)) [

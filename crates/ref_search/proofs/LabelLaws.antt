@@ -52,11 +52,11 @@ none_is_none o x e f = let g : None ≡ Some x = sym e ∙ f in cc
 -- ---- the assertion of a label, from what is kept of it
 
 module _ (parsed : List (Option Parsed)) (l : Label) where
-  usable_none : (f : Option Frame) → parsed_at parsed l ≡ None → usable_with parsed l f ≡ None
+  pub usable_none : (f : Option Frame) → parsed_at parsed l ≡ None → usable_with parsed l f ≡ None
   usable_none None e = refl
   usable_none (Some f) e = ap (option_map (assertion_of l f)) e
 
-  usable_some : (f : Frame) (p : Parsed) → parsed_at parsed l ≡ Some p → usable_with parsed l (Some f) ≡ Some (assertion_of l f p)
+  pub usable_some : (f : Frame) (p : Parsed) → parsed_at parsed l ≡ Some p → usable_with parsed l (Some f) ≡ Some (assertion_of l f p)
   usable_some f p e = ap (option_map (assertion_of l f)) e
 
   pub usable_kept : (f : Option Frame) (p : Parsed) (a : Assertion) → parsed_at parsed l ≡ Some p → usable_with parsed l f ≡ Some a → (g : Frame) × (a ≡ assertion_of l g p)

@@ -12,6 +12,8 @@ mod sought;
 mod wanted;
 
 pub use closed::{is_closed, is_ground};
+pub use completing::{Conditions, complete};
 pub use fitting::all;
-pub use searching::first;
+pub use matching::matches;
+pub use searching::{first, frame_of, head};
 pub use wanted::{Found, Wanted};

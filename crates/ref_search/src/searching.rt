@@ -20,7 +20,7 @@ use model_laws::frames_are_whole;
 use std::alloc::Global;
 
 /// The frame of a label; none where it is no assertion's.
-fn frame_of(frames: &Frames, label: Label) -> Option<&Frame>
+pub fn frame_of(frames: &Frames, label: Label) -> Option<&Frame>
     ensures { option_copied result ≡ frame_at frames.now label }
 {
     match frames.frames().get(label.0 as usize) {
@@ -113,7 +113,8 @@ fn first_at(
     first_among(alloc, db, labels, bound, sought)
 }
 
-pub(crate) fn head(tree: &Tree) -> Option<Label>
+/// The label at the head of a tree; none where it is a variable.
+pub fn head(tree: &Tree) -> Option<Label>
     ensures { result ≡ head_of tree.now }
 {
     match tree {

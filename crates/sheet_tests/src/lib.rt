@@ -13,6 +13,8 @@ mod orders;
 #[cfg(test)]
 mod searching;
 #[cfg(test)]
+mod selecting;
+#[cfg(test)]
 mod sheets;
 #[cfg(test)]
 mod terms;

@@ -4,6 +4,7 @@ use crate::binding::{
     Row, heavy_sheets_are_refused, long_formulas_are_refused, one_is_bound, rows_hold,
 };
 use crate::searching::{Searched, searches_hold};
+use crate::selecting::selections_hold;
 use mm_base::{Kinds, List, MOST_DATABASE_BYTES, Memory};
 use mm_database::{Database, open_database};
 use std::alloc::Global;
@@ -16,6 +17,7 @@ pub(crate) enum Show {
     Bound,
     WorkSize,
     Searches(&'static [Searched]),
+    Selections,
 }
 
 fn kinds(alloc: Global) -> Result<Kinds, Memory> {
@@ -31,6 +33,7 @@ fn is_shown(alloc: Global, db: &Database, kinds: &Kinds, show: Show) -> bool {
         Show::Bound => one_is_bound(alloc, db, kinds),
         Show::WorkSize => heavy_sheets_are_refused(alloc, db, kinds),
         Show::Searches(rows) => searches_hold(alloc, db, rows),
+        Show::Selections => selections_hold(alloc, db, kinds),
     }
 }
 

@@ -3,6 +3,8 @@
 
 mod outer;
 mod parts;
+mod place;
 mod theorem;
 
+pub use place::outcomes_have_places;
 pub use theorem::new_theorem;

@@ -12,10 +12,10 @@ ghost use Rattle.written_model.specs.Written.{Writing};
 
 use crate::outer::outer_hyps;
 use crate::parts::{hyps_past, last_formula, pairs_of};
+use crate::place::outcomes_have_places;
 use install_model::NewTheorem;
 use mm_base::{Bytes, List, Memory};
 use mm_database::Database;
-use model_laws::frames_have_own_expressions;
 use sheet_text::Sheet;
 use sheet_unify::Outcome;
 use std::alloc::Global;
@@ -64,7 +64,7 @@ pub fn new_theorem(alloc: Global, db: &Database, outcome: &Outcome) -> Result<Ne
         → IsWritten (database_of options.kinds text db.now.rows db.now.parsed) options w outcome.now
         → IfOk result (λ theorem. theorem ≡ new_theorem (database_of options.kinds text db.now.rows db.now.parsed) options w) }
 {
-    frames_have_own_expressions();
+    outcomes_have_places();
     let frames = db.frames();
     match outer_hyps(frames, outcome.place) {
         Err(_) => Err(Memory),

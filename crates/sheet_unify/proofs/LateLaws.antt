@@ -1,6 +1,6 @@
 -- What a draft is written to: its end is decided, its steps have a proof where it is finished, and it is the answer or has a late fault.
-use Rattle.std.specs.Prelude.{◌≡◌, ◌↔◌, ℕ, Bool, true, false, IsTrue, List, refl}
-use Rattle.std.proofs.Common.{arith, inl, inr, subst, sym}
+use Rattle.std.specs.Prelude.{◌≡◌, ◌↔◌, ℕ, Bool, true, false, IsTrue, List, [], ◌∷◌, map, refl}
+use Rattle.std.proofs.Common.{arith, inl, inr, ap, subst, sym, ◌∙◌}
 use Rattle.answer_laws.specs.WrittenReads.{AnswerIsFixed}
 use Rattle.std.proofs.lemmas.Bool.{cases_lt}
 use Rattle.std.proofs.lemmas.Option.{IfSome_then}
@@ -15,7 +15,7 @@ use Rattle.written_model.specs.declared.options.Options.{Options}
 use Rattle.written_model.specs.declared.report.ReportLine.{ReportLine}
 use Rattle.written_model.specs.Opened as model
 use Rattle.written_model.specs.ProofTrees.{Finished}
-use Rattle.written_model.specs.WrittenSteps.{WrittenStep, steps_in}
+use Rattle.written_model.specs.WrittenSteps.{WrittenStep, steps_in, trees}
 use Rattle.written_model.specs.ProvesItself.{IsFixed}
 use Rattle.written_model.specs.Written.{Writing, Answers, refused, IsLate, HasNoLateFault}
 use Rattle.writing_laws.specs.HasEnd.{PlacesAreEarlier}
@@ -23,13 +23,21 @@ use Rattle.writing_laws.specs.Decisions.{Decided}
 use Rattle.writing_laws.proofs.Ending.{finished_decided}
 use Rattle.writing_laws.proofs.LongSteps.{short_not_late}
 use Rattle.written_steps.specs.declared.draft.DraftItem.{DraftItem}
-use Rattle.written_steps.specs.Drafts.{book, items_in}
+use Rattle.written_steps.specs.declared.draft.DraftItem.TheVariants as draft_item
+use Rattle.written_steps.specs.declared.draft.DraftStep.{DraftStep}
+use Rattle.written_steps.specs.Drafts.{book, drafts_in, items_in}
 use Rattle.sheet_unify.specs.declared.faults.UnifyFault.{UnifyFault}
 use Rattle.sheet_unify.specs.Answered.{IsOutcome, IsFaultOf, refusal_of}
 use Rattle.sheet_unify.specs.Made.{IsBoundSheet, IsDraft, made_of}
-use Rattle.sheet_unify.specs.Ended.{HasSoundSteps, IsPrinted, IsMadeOf, AreChecked, IsStepFault, ForMadeOf, IsTextFault, IsReported, outcome_from}
+use Rattle.sheet_unify.specs.Ended.{HasSoundSteps, IsPrinted, IsMadeOf, AreChecked, IsStepFault, ForMadeOf, IsTextFault, IsKept, IsReported, outcome_from}
+use Rattle.sheet_unify.specs.declared.kept.Kept.{Kept}
 use Rattle.sheet_unify.specs.declared.printed.Printed.{Printed}
 use Rattle.sheet_unify.proofs.AnswerLaws.{none_late}
+
+trees_drafted : (d : Opened) (items : List DraftItem) → map (λ (s : DraftStep). s.tree) (drafts_in items) ≡ trees (steps_in (items_in d items))
+trees_drafted d [] = refl
+trees_drafted d (draft_item.Comment lines ∷ items) = trees_drafted d items
+trees_drafted d (draft_item.Step s ∷ items) = ap (λ ts. s.tree ∷ ts) (trees_drafted d items)
 
 module _ (d : Opened) (options : Options) (sheet : Sheet) (bound : Bound) (items : List DraftItem) (database text : List ℕ) (opened : IsOpened options.kinds database d)
     (bound_sheet : IsBoundSheet (book options.kinds database d) text sheet bound) (draft : IsDraft (book options.kinds database d) d text options sheet bound items) where
@@ -115,10 +123,10 @@ module _ (d : Opened) (options : Options) (sheet : Sheet) (bound : Bound) (items
     fault_answered f checked h =
         IfSome_then (refusal_of f) h (λ r k. late_answer finished ends r (k database text (whole finished) made refl (sound_steps checked)))
 
-    pub outcome_answered : ((w : Writing) → AnswerIsFixed db text options w) → (p : Printed) → AreChecked d bound.place items
+    pub outcome_answered : ((w : Writing) → AnswerIsFixed db text options w) → (p : Printed) (k : Kept) → IsKept bound items k → AreChecked d bound.place items
         → ForMadeOf d options sheet bound items (λ db' w. w.finished ≡ finished → IsPrinted db' options w p)
-        → IsOutcome db text options (outcome_from bound p report finished)
-    outcome_answered fixed p checked h =
+        → IsOutcome db text options (outcome_from bound p k report finished)
+    outcome_answered fixed p k kept checked h =
         let told = h database text (whole finished) made refl in
         let t = told.text_is in
         let s = sound_steps checked in
@@ -133,6 +141,8 @@ module _ (d : Opened) (options : Options) (sheet : Sheet) (bound : Bound) (items
             proof = told.proof;
             text = t.text;
             report = reported.report_is database opened;
+            given = kept.given;
+            trees_are = kept.trees_are ∙ trees_drafted d items;
             finished = refl;
           };
           again = subst (λ (x : List ℕ). IsFixed db options x finished) (sym t.text) (fixed (whole finished) is_opened (draft.writes finished ends) none);

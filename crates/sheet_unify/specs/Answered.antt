@@ -14,6 +14,7 @@ use Rattle.sheet_unify.specs.declared.faults.UnifyFault.{UnifyFault}
 use Rattle.sheet_unify.specs.declared.outcome.Outcome.{Outcome}
 use Rattle.written_model.specs.declared.options.Options.{Options}
 use Rattle.written_model.specs.ProvesItself.{IsFixed}
+use Rattle.written_model.specs.WrittenSteps.{steps_in, trees}
 use Rattle.written_model.specs.Written.{Writing, Answers, wrote, refused, written_sheet, written_proof, written_text, written_report}
 
 -- the text has no fault, and says the sheet
@@ -21,8 +22,8 @@ pub record SaysSheet (text : List ℕ) (sheet : Sheet) : Type 0 where
   pub sound : text_fault text ≡ None
   pub reads : Reads text sheet
 
--- the place of the theorem, whether it is one of the database, the sheet, the proof, the text, the report and the end are those
--- of what the worksheet becomes
+-- the place of the theorem, whether it is one of the database, the sheet, the proof, the text, the report, the given pairs, the trees
+-- of the steps and the end are those of what the worksheet becomes
 pub record IsWritten (db : Database) (options : Options) (w : Writing) (outcome : Outcome) : Type 0 where
   pub place : outcome.place ≡ w.bound.place
   pub existing : outcome.existing ≡ w.bound.existing
@@ -30,6 +31,8 @@ pub record IsWritten (db : Database) (options : Options) (w : Writing) (outcome 
   pub proof : outcome.proof ≡ written_proof db options w
   pub text : outcome.text ≡ written_text db options w
   pub report : outcome.report ≡ written_report db options w
+  pub given : outcome.given ≡ w.bound.pairs
+  pub trees_are : outcome.trees ≡ trees (steps_in w.items)
   pub finished : outcome.finished ≡ w.finished
 
 -- the worksheet is written, and this is what came of it; unifying its text again writes the same bytes, with the same end

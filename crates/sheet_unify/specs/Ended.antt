@@ -22,9 +22,11 @@ use Rattle.written_model.specs.Written.{Writing, Writes, IsTooLong, IsAmbiguous,
 use Rattle.writing_laws.specs.HasEnd.{PlacesAreEarlier}
 use Rattle.again_laws.specs.Second.{NumbersFit}
 use Rattle.written_steps.specs.declared.draft.DraftItem.{DraftItem}
-use Rattle.written_steps.specs.Drafts.{book, items_in}
+use Rattle.written_steps.specs.declared.draft.DraftStep.{DraftStep}
+use Rattle.written_steps.specs.Drafts.{book, drafts_in, items_in}
 use Rattle.sheet_unify.specs.declared.faults.UnifyFault.{UnifyFault}
 use Rattle.sheet_unify.specs.declared.faults.UnifyFault.TheVariants as faults
+use Rattle.sheet_unify.specs.declared.kept.Kept.{Kept}
 use Rattle.sheet_unify.specs.declared.outcome.Outcome.{Outcome}
 use Rattle.sheet_unify.specs.declared.printed.Printed.{Printed}
 use Rattle.sheet_unify.specs.Answered.{refusal_of}
@@ -202,14 +204,21 @@ pub record IsReported (d : Opened) (options : Options) (bound : Bound) (items : 
 
 -- ---- what came of the worksheet
 
-abbrev pub outcome_from : Bound → Printed → List ReportLine → Bool → Outcome
-outcome_from bound p report finished = record {
+-- the given pairs and the trees of the steps
+pub record IsKept (bound : Bound) (items : List DraftItem) (k : Kept) : Type 0 where
+  pub given : k.given ≡ bound.pairs
+  pub trees_are : k.trees ≡ map (λ (s : DraftStep). s.tree) (drafts_in items)
+
+abbrev pub outcome_from : Bound → Printed → Kept → List ReportLine → Bool → Outcome
+outcome_from bound p k report finished = record {
   place = bound.place;
   existing = bound.existing;
   sheet = p.sheet;
   proof = p.proof;
   text = p.text;
   report = report;
+  given = k.given;
+  trees = k.trees;
   finished = finished;
 }
 

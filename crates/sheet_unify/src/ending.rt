@@ -10,6 +10,8 @@ ghost use Rattle.written_model.specs.WrittenSteps.{steps_in};
 ghost use Rattle.written_steps.specs.Drafts.{AreSound, items_in};
 
 use crate::faults::UnifyFault;
+use crate::keeping::kept_of;
+use crate::kept::Kept;
 use crate::outcome::Outcome;
 use crate::printed::Printed;
 use answer_laws::answer_is_fixed;
@@ -194,12 +196,14 @@ fn report_on(
 fn outcome_from(
     bound: &Bound,
     printed: Printed,
+    kept: Kept,
     report: List<ReportLine>,
     finished: bool,
 ) -> Outcome
-    ensures { result ≡ outcome_from bound.now printed report finished }
+    ensures { result ≡ outcome_from bound.now printed kept report finished }
 {
     let Printed { sheet, proof, text } = printed;
+    let Kept { given, trees } = kept;
     Outcome {
         place: bound.place,
         existing: bound.existing,
@@ -207,6 +211,8 @@ fn outcome_from(
         proof,
         text,
         report,
+        given,
+        trees,
         finished,
     }
 }
@@ -233,9 +239,12 @@ fn outcome_with(
         Err(_) => Err(UnifyFault::Memory),
         Ok((report, finished)) => match sheet_of(alloc, db, sheet, bound, options, steps) {
             Err(_) => Err(UnifyFault::Memory),
-            Ok(written) => match printed(alloc, db, options, written, items, finished) {
-                Ok(printed) => Ok(outcome_from(bound, printed, report, finished)),
-                Err(fault) => Err(fault),
+            Ok(written) => match kept_of(alloc, bound, steps) {
+                Err(_) => Err(UnifyFault::Memory),
+                Ok(kept) => match printed(alloc, db, options, written, items, finished) {
+                    Ok(printed) => Ok(outcome_from(bound, printed, kept, report, finished)),
+                    Err(fault) => Err(fault),
+                },
             },
         },
     }

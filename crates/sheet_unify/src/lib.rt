@@ -5,6 +5,8 @@ mod drafting;
 mod ending;
 mod faults;
 mod judging;
+mod keeping;
+mod kept;
 mod lines;
 mod outcome;
 mod printed;

@@ -1,8 +1,8 @@
-use mm_base::{Bytes, List};
+use mm_base::{Bytes, List, Pair, Tree};
 use sheet_text::Sheet;
 use written_model::ReportLine;
 
-/// What came of a worksheet.
+/// What came of a worksheet. Its pairs and its trees are copies, made once, when the steps are written.
 #[derive(Debug, Drop)]
 pub struct Outcome {
     /// The place of its theorem: how many statements of the database are before it.
@@ -18,6 +18,10 @@ pub struct Outcome {
     pub text: Bytes,
     /// One line for each written step, in order.
     pub report: List<ReportLine>,
+    /// The pairs of the `$d` statements that were read, each once.
+    pub given: List<Pair>,
+    /// The trees of the written steps, in order.
+    pub trees: List<Tree>,
     /// Whether it is finished: no hypothesis and no step below `qed` has a work variable, and each step below `qed` is a
     /// hypothesis, or fits or is found with all its places, no `?` and, in each pair of variables, no fault.
     pub finished: bool,

@@ -7,14 +7,13 @@ use Rattle.mm_database.specs.Books.{database_of}
 use Rattle.mm_model.specs.Productions.{essentials}
 use Rattle.model_laws.proofs.Checked.{no_statement_fault}
 use Rattle.sheet_theorem.specs.Parts.{theorem_in}
-use Rattle.sheet_theorem.proofs.OutcomeLaws.{outcome_within}
 use Rattle.sheet_theorem.proofs.TheoremLaws.{theorem_is}
 use Rattle.sheet_theorem.proofs.theorem.new_theorem.Goals as goal
 
 pub outer_hyps-requires : goal.outer_hyps-requires
 outer_hyps-requires c =
     subst (λ (x : Contents). c.args.outcome.now.place ≤ length x.entries) (sym c.frames-frames.ensures)
-    (outcome_within c.args.db.now c.args.outcome.now c.frames_have_own_expressions.ensures c.requires)
+    (c.outcomes_have_places.ensures c.args.db.now c.args.outcome.now c.requires)
 
 pub returns-in-Ok : goal.returns-in-Ok
 returns-in-Ok c = λ options text w opened is.

@@ -8,7 +8,7 @@ use Rattle.written_model.specs.Written.{written_sheet}
 use Rattle.written_steps.specs.declared.draft.DraftItem.{DraftItem}
 use Rattle.written_steps.specs.Drafts.{book}
 use Rattle.sheet_unify.specs.Answered.{IsOutcome}
-use Rattle.sheet_unify.specs.Ended.{ForMadeOf, IsReported}
+use Rattle.sheet_unify.specs.Ended.{ForMadeOf, IsKept, IsReported}
 use Rattle.sheet_unify.proofs.EndLaws.{printed_made, text_faulty}
 use Rattle.sheet_unify.proofs.LateLaws.{fault_answered, outcome_answered, provable}
 use Rattle.sheet_unify.proofs.ending.outcome_with.Goals as goal
@@ -41,7 +41,8 @@ returns-in-Ok-printed-clause-outcome c = λ database text opened bound_sheet.
     (c.requires.drafted database text opened bound_sheet) c.in-Ok.report c.in-Ok.finished
     (reported_of d options c.args.bound.now c.as_slice-steps.result.now c.args.items c.in-Ok.report c.in-Ok.finished
     c.as_slice-steps.ensures c.in-Ok.ensures)
-    (c.answer_is_fixed.ensures (book options.kinds database d) text options) c.in-Ok-printed.printed c.requires.checked
+    (c.answer_is_fixed.ensures (book options.kinds database d) text options) c.in-Ok-printed.printed c.in-Ok-kept_of.kept
+    (subst (λ is. IsKept c.args.bound.now is c.in-Ok-kept_of.kept) c.as_slice-steps.ensures c.in-Ok-kept_of.ensures) c.requires.checked
     (printed_made d options c.args.sheet.now c.args.bound.now c.args.items c.in-Ok.finished c.in-Ok-sheet_of.written
     (made_of_items d options c.args.sheet.now c.args.bound.now c.as_slice-steps.result.now c.args.items c.in-Ok-sheet_of.written c.as_slice-steps.ensures c.in-Ok-sheet_of.ensures)
     c.in-Ok-printed.printed c.in-Ok-printed.ensures.printed))

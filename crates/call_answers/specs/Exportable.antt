@@ -1,4 +1,4 @@
--- Which proofs of a database become finished worksheets.
+-- Which accepted proofs of a database become finished worksheets, but for their size.
 use Rattle.std.specs.Prelude.{◌≡◌, ℕ, ◌<◌, ◌≤◌, Bool, true, false, not, ◌&&◌, List, [], ◌∷◌, length, All, Contains, Some}
 use Rattle.std.specs.List.{list_all, list_any}
 use Rattle.mm_base.specs.declared.symbols.Label.{Label}
@@ -33,7 +33,7 @@ IsHypothesisOf theorem name h = Contains theorem.hyps h × (h.name ≡ name)
 abbrev pub IsBefore : Database → Theorem → Name → Label → Frame → Type 0
 IsBefore db theorem name l f = (label_of db name ≡ Some l) × (db.frame l ≡ Some f) × (f.at < theorem.at)
 
--- its expression has a tree of its typecode before its own position
+-- its expression has a tree of its typecode, of productions before its own position
 pub record HasTreeBefore (db : Database) (f : Frame) : Type 0 where
   pub code : Sym
   pub rest : List Sym
@@ -41,7 +41,8 @@ pub record HasTreeBefore (db : Database) (f : Frame) : Type 0 where
   pub tree : Tree
   pub parses : Parses db.rows f.at (expression_at db f.at f.formula) (typecode code) tree
 
--- an active hypothesis, a kept production, a usable assertion, or an assertion of another typecode whose expression has a tree
+-- an active hypothesis; or, before the theorem, a kept production, a usable assertion, or an assertion of another typecode whose
+-- expression has a tree
 pub data MayName (db : Database) (theorem : Theorem) (name : Name) : Type 0 where
   hypothesis : {h : Hyp} → IsHypothesisOf theorem name h → MayName db theorem name
   production : {l : Label} {f : Frame} {r : Production} → IsBefore db theorem name l f → row_of db.rows l ≡ Some r → MayName db theorem name
@@ -52,12 +53,12 @@ pub data MayName (db : Database) (theorem : Theorem) (name : Name) : Type 0 wher
 abbrev pub has_no_provable_float : Database → List Hyp → Bool
 has_no_provable_float db hyps = list_all (λ (h : Hyp). not (h.floating && is_provable db h.formula)) hyps
 
--- a label is none of a `$f` of the provable typecode, nor of an assertion that has one among its hypotheses
+-- a label is none of a `$f` of the provable typecode, nor of an assertion that has one among its mandatory hypotheses
 pub record NamesNoProvableFloat (db : Database) (theorem : Theorem) (name : Name) : Type 0 where
   pub own : (h : Hyp) → IsHypothesisOf theorem name h → has_no_provable_float db (h ∷ []) ≡ true
   pub of_frame : (l : Label) (f : Frame) → IsBefore db theorem name l f → has_no_provable_float db f.hyps ≡ true
 
--- a formula that is not too long and has one tree at the place
+-- a formula that is not too long and has exactly one tree at the place
 pub record IsReadable (db : Database) (place : ℕ) (s : SheetStep) : Type 0 where
   pub short : length s.formula ≤ most_formula_tokens
   pub tree : Tree
@@ -67,8 +68,9 @@ pub record IsReadable (db : Database) (place : ℕ) (s : SheetStep) : Type 0 whe
 abbrev pub gives_theorem : Theorem → Push → Bool
 gives_theorem theorem p = same_formula p.formula theorem.formula
 
--- a proof that becomes a finished worksheet: its labels are such; an assertion gives the theorem's formula; the theorem's `$e`
--- are provable; no label brings a `$f` of the provable typecode; and each formula of the worksheet can be read at its place
+-- an accepted proof becomes a finished worksheet, but for its size, where each label that its steps name is such; an assertion of the
+-- provable typecode gives the theorem's formula; the theorem's `$e` are of that typecode; no label that is named brings a `$f` of it;
+-- and each formula of the worksheet can be read at the theorem's position
 pub record IsExportable (db : Database) (theorem : Theorem) (name : Name) (code : Code) : Type 0 where
   pub labels : (label : Name) → Contains (labels_named theorem code) label → MayName db theorem label
   pub given : list_any (gives_theorem theorem) (pushes db theorem code) ≡ true

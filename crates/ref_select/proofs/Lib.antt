@@ -1,0 +1,5 @@
+pub mod AnswerLaws
+pub mod ChosenLaws
+pub mod ClosedLaws
+pub mod NamedLaws
+pub mod StepLists
