@@ -1,3 +1,4 @@
 pub mod FitLaws
+pub mod LabelLaws
 pub mod TupleLaws
 pub mod WalkLaws
