@@ -1,4 +1,5 @@
 pub mod FitLaws
 pub mod LabelLaws
+pub mod SearchLaws
 pub mod TupleLaws
 pub mod WalkLaws
