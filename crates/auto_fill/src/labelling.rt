@@ -3,8 +3,7 @@ ghost use Rattle.std.specs.List.{AllByRecursion};
 ghost use Rattle.std.specs.Option.{option_copied};
 ghost use Rattle.written_model.specs.WrittenSteps.{no_tree};
 ghost use Rattle.mm_database.specs.ByHead.{by_head};
-ghost use Rattle.mm_frames.specs.Contents.{frame_at};
-ghost use Rattle.ref_search.specs.Searching.{ForEachText, IsCandidate, IsSoundUse, RiseFrom, head_of};
+ghost use Rattle.ref_search.specs.Searching.{ForEachText, IsCandidate, IsSoundUse, RiseFrom};
 ghost use Rattle.auto_fill.specs.declared.walking.Fit.{Fit as FitOf};
 ghost use Rattle.auto_fill.specs.Walking.{HasFit, wanted_of};
 ghost use Rattle.auto_fill.specs.Labelling.{HasAuto, IsCount, IsFirstAmong, IsLabelFit, IsSound, at_head, last_found, of_count, of_counts, upto};
@@ -14,20 +13,9 @@ use crate::walking::{Fit, fit_to};
 use auto_model::Auto;
 use mm_base::{Label, Memory, Tree};
 use mm_database::Database;
-use mm_frames::Frames;
-use mm_model::Frame;
 use model_laws::frames_are_whole;
+use ref_search::{frame_of, head};
 use std::alloc::Global;
-
-/// The frame of a label; none where it is no assertion's.
-fn frame_of(frames: &Frames, label: Label) -> Option<&Frame>
-    ensures { option_copied result ≡ frame_at frames.now label }
-{
-    match frames.frames().get(label.0 as usize) {
-        None => None,
-        Some(frame) => frame.as_ref(),
-    }
-}
 
 /// The first tuple with which the assertion of a label serves the step.
 fn fit_label(
@@ -132,17 +120,6 @@ fn last(late: Option<Auto>, early: Option<Auto>) -> Option<Auto>
     match late {
         None => early,
         Some(auto) => Some(auto),
-    }
-}
-
-fn head(tree: &Tree) -> Option<Label>
-    ensures { result ≡ head_of tree.now }
-{
-    match tree {
-        Tree::Var(_, _) => None,
-        Tree::Work(_, _) => None,
-        Tree::Fresh(_, _) => None,
-        Tree::Node(label, _, _) => Some(*label),
     }
 }
 

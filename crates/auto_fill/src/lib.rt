@@ -1,10 +1,8 @@
 //! The reference of a step that lists no places: the first assertion and the first earlier steps that serve it.
 #![tactic(auto)]
 
-mod completing;
 mod filling;
 mod labelling;
-mod matching;
 mod sought;
 mod walking;
 

@@ -1,3 +1,4 @@
+ghost use Rattle.std.proofs.Props.{props};
 ghost use Rattle.auto_fill.specs.Ready.{IsReady};
 
 use mm_base::{List, Pair, Tree};
@@ -13,5 +14,5 @@ pub struct Sought<'w, 'p, 'g> {
     pub places: &'p [u32],
     /// The pairs that are allowed, where not all are.
     pub given: Option<&'g List<Pair>>,
-    ghost ready: { IsReady trees.now number places.now },
+    ghost ready: { IsReady trees.now number places.now } by { Prim.hlevel props },
 }

@@ -8,11 +8,10 @@ ghost use Rattle.ref_search.specs.Completing.{IsRule};
 ghost use Rattle.auto_fill.specs.Ready.{ArePlaces};
 ghost use Rattle.auto_fill.specs.Walking.{BecomesNone, CannotPlace, HasAll, IsFirstFit, IsFitOf, wanted_of};
 
-use crate::completing::{Conditions, complete};
-use crate::matching::matches;
 use crate::sought::Sought;
 use mm_base::{List, Memory, Sym, Tree};
 use mm_model::Frame;
+use ref_search::{Conditions, complete, matches};
 use std::alloc::Global;
 
 /// A tuple of steps that serve the `$e` of a frame, with the values of the frame's variables.

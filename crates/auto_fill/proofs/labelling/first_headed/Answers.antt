@@ -1,0 +1,1 @@
+use Rattle.auto_fill.proofs.labelling.first_headed.Goals as goal
