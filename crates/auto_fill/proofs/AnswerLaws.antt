@@ -52,7 +52,7 @@ use Rattle.auto_fill.specs.Answers.{IsStepOf, IsFilledBy, IsAnswer}
 use Rattle.auto_fill.specs.Labelling.{IsCount, NoTuple, HasAuto, IsSound, IsAutoAt, IsFirstAmong, upto, at_head, of_count, of_counts}
 use Rattle.auto_fill.specs.Ready.{IsPlace, ArePlaces, IsReady}
 use Rattle.auto_fill.specs.Walking.{wanted_of}
-use Rattle.auto_fill.proofs.TupleLaws.{IsTuple, all_tuples, all_flat}
+use Rattle.auto_fill.proofs.TupleLaws.{IsTuple, all_tuples, all_both_lists}
 
 -- ---- one to three places
 
@@ -61,12 +61,15 @@ pub record IsStepTuple (P : ℕ → Type 0) (xs : List ℕ) : Type 0 where
   pub count : IsCount (length xs)
   pub each : AllByRecursion P xs
 
-all_step_tuples : (P : ℕ → Type 0) (xs : List ℕ) → AllByRecursion P xs → AllByRecursion (IsStepTuple P) (step_tuples xs)
-all_step_tuples P xs h =
-    all_flat (IsStepTuple P) IsCount (λ n. tuples n xs)
-    (λ n c. all_weaker (IsTuple P n) (IsStepTuple P) (λ ys t. record { count = subst IsCount (sym t.count) c; each = t.each }) (tuples n xs) (all_tuples P n xs h))
-    (1 ∷ 2 ∷ 3 ∷ [])
-    (record { least = omega arith; most = omega arith }, (record { least = omega arith; most = omega arith }, (record { least = omega arith; most = omega arith }, tt)))
+module _ (P : ℕ → Type 0) (xs : List ℕ) (all : AllByRecursion P xs) where
+  of_many : (n : ℕ) → IsCount n → AllByRecursion (IsStepTuple P) (tuples n xs)
+  of_many n c = all_weaker (IsTuple P n) (IsStepTuple P) (λ ys t. record { count = subst IsCount (sym t.count) c; each = t.each }) (tuples n xs) (all_tuples P n xs all)
+
+  all_step_tuples : AllByRecursion (IsStepTuple P) (step_tuples xs)
+  all_step_tuples =
+      all_both_lists (IsStepTuple P) (tuples 1 xs) (tuples 2 xs ++ (tuples 3 xs ++ [])) (of_many 1 (record { least = omega arith; most = omega arith }))
+      (all_both_lists (IsStepTuple P) (tuples 2 xs) (tuples 3 xs ++ []) (of_many 2 (record { least = omega arith; most = omega arith }))
+      (all_both_lists (IsStepTuple P) (tuples 3 xs) [] (of_many 3 (record { least = omega arith; most = omega arith })) tt))
 
 all_units : {X : Type 0} (xs : List X) → AllByRecursion (λ x. Unit {0}) xs
 all_units [] = tt
@@ -104,7 +107,7 @@ module _ (kinds : Kinds) (text : List ℕ) (d : Opened) (given : Option (List Pa
         (λ order t c.
         let f = valued_by (value_of (use_of c.0 c.1)) in
         let same : length order ≡ length p.hyps =
-          sym (length-map order (λ k. get_or w.hyps k no_tree)) ∙ sym (ap length (cons_tail (f p.tree) w.formula (map f p.hyps) (trees_at w.hyps order) (fits_kept order c))) ∙ length-map p.hyps f in
+        sym (length-map order (λ k. get_or w.hyps k no_tree)) ∙ sym (ap length (cons_tail (f p.tree) w.formula (map f p.hyps) (trees_at w.hyps order) (fits_kept order c))) ∙ length-map p.hyps f in
         n (subst IsCount same t.count))
         (step_tuples places) (all_step_tuples (λ k. Unit {0}) places (all_units places))
 
@@ -316,7 +319,7 @@ module _ (db : Database) (options : Options) (w : Writing) (k : ℕ) (e : Writte
 
   chosen_of : (o : Option Choice)
       → IsFirstOrNone (Fits db w.bound.place options.dv w.bound.pairs (steps_in w.items) e)
-          (flat_map (λ n. map (choice_of (label n)) (step_tuples (ground_before formulas k))) (range_with_len 0 (length db.labels))) o
+      (flat_map (λ n. map (choice_of (label n)) (step_tuples (ground_before formulas k))) (range_with_len 0 (length db.labels))) o
       → IsAutoChoice db options w k e o
   chosen_of o h = subst (λ cs. IsFirstOrNone (Fits db w.bound.place options.dv w.bound.pairs (steps_in w.items) e) cs o) (sym listed) h
 
@@ -335,7 +338,7 @@ module _ (db : Database) (options : Options) (w : Writing) (k : ℕ) (e : Writte
         let there = (first a.label.0 (omega (arith, below, within))).0 below in
         let by = h.fits.values in
         let each = (first_is_one (FitsLabel db allowed (wanted_of formulas k) a.label) (IsStepTuple (IsPlace formulas)) (step_tuples (ground_before formulas k)) a.places
-          (tuples_are a.label) h.fits.first).each in
+        (tuples_are a.label) h.fits.first).each in
         record {
           first = chosen_of (Some (choice_of a.label a.places))
               (some_range (Fits db w.bound.place options.dv w.bound.pairs (steps_in w.items) e) (λ n. map (choice_of (label n)) (step_tuples (ground_before formulas k))) 0 (length db.labels)
