@@ -1,0 +1,1 @@
+use Rattle.sheet_filling.proofs.StepLaws.{step_filled}
