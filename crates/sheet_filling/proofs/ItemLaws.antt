@@ -1,8 +1,7 @@
 -- The items of a worksheet, filled one after the other.
-use Rattle.std.proofs.Common.{◌≡◌, ℕ, zero, suc, ◌+◌, List, [], ◌∷◌, ◌++◌, map, slice_get, Option, Some, None, refl, sym, ap, subst, ◌∙◌, arith, append_assoc}
+use Rattle.std.proofs.Common.{◌≡◌, ℕ, suc, ◌+◌, List, [], ◌∷◌, ◌++◌, length, map, slice_get, Some, None, refl, sym, ap, subst, ◌∙◌, arith, append_assoc}
 use Rattle.std.proofs.lemmas.List.{append-nil}
 use Rattle.mm_base.specs.declared.kinds.Kinds.{Kinds}
-use Rattle.mm_model.specs.Book.{Database}
 use Rattle.mm_database.specs.Books.{database_of}
 use Rattle.mm_database.specs.Opened.{Opened, IsOpened}
 use Rattle.sheet_text.specs.declared.sheet.Sheet.{Sheet}
@@ -11,11 +10,11 @@ use Rattle.sheet_text.specs.declared.sheet.SheetItem.TheVariants as item
 use Rattle.sheet_text.specs.Layout.{layout}
 use Rattle.written_model.specs.declared.options.Options.{Options}
 use Rattle.written_model.specs.Written.{Answers, Writing, written_item, written_sheet, written_step}
-use Rattle.written_model.specs.WrittenSteps.{WrittenItem, WrittenStep, comment, step, steps_in}
-use Rattle.auto_model.specs.AutoFilled.{AreFilledFrom, again, filled_sheet}
+use Rattle.written_model.specs.WrittenSteps.{WrittenItem, comment, step, steps_in}
+use Rattle.auto_model.specs.AutoFilled.{AreFilledFrom, again}
 use Rattle.sheet_filling.specs.declared.written.WrittenFormulas.{WrittenFormulas}
 use Rattle.sheet_filling.specs.Filled.{AreFilledTo, AreItemsFilled, IsItemFilled, number_after}
-use Rattle.sheet_filling.specs.Filling.{AreOfWriting, FillingIsTheAnswer, ForWriting, IsFilledSheet, IsFilledText, IsOfWriting}
+use Rattle.sheet_filling.specs.Filling.{AreOfWriting, FillingIsTheAnswer, ForWriting, IsFilledSheet, IsFilledText}
 
 -- ---- one item more
 
@@ -32,9 +31,9 @@ module _ (d : Opened) (written : WrittenFormulas) (all : List SheetItem) where
         (so_far.rest (j ∷ more) (j, more, refl, is, subst (λ n. AreItemsFilled d written n left more) next_is h)));
   }
 
-  pub all_filled : (left filled : List SheetItem) (k : ℕ) → left ≡ [] → AreFilledTo d written all left filled k → AreItemsFilled d written 0 all filled
-  all_filled left filled k none so_far =
-      subst (AreItemsFilled d written 0 all) (append-nil filled) (so_far.rest [] (subst (λ xs. AreItemsFilled d written k xs []) (sym none) refl))
+  pub all_filled : (left filled new : List SheetItem) (k : ℕ) → length left ≡ 0 → new ≡ filled → AreFilledTo d written all left filled k → AreItemsFilled d written 0 all new
+  all_filled [] filled new k none is so_far = subst (AreItemsFilled d written 0 all) (append-nil filled ∙ sym is) (so_far.rest [] refl)
+  all_filled (i ∷ left) filled new k none is so_far = absurd (omega (arith, none))
 
 -- ---- the worksheet that is written
 
@@ -53,8 +52,7 @@ module _ (kinds : Kinds) (text : List ℕ) (d : Opened) (opened : IsOpened kinds
       let db = database_of kinds text d.rows d.parsed in
       let at : slice_get (steps_in w.items) k ≡ Some e = ap (slice_get (steps_in w.items)) (let n : k ≡ k + 0 = omega arith in n) ∙ sym (same 0) in
       let f = h.3.2 kinds text options w e opened of at refl in
-      let r = filled_from (suc k) items (λ j. same (suc j) ∙ ap (slice_get (steps_in w.items)) (let n : k + suc j ≡ suc k + j = omega arith in n)) h.1 h.4 in
-      (
+      let r = filled_from (suc k) items (λ j. same (suc j) ∙ ap (slice_get (steps_in w.items)) (let n : k + suc j ≡ suc k + j = omega arith in n)) h.1 h.4 in (
         step f.0 ∷ r.0,
         (f.0, r.0, refl, f.2, r.1),
         h.2 ∙ ap (λ j. j ∷ h.1) (h.3.1 ∙ ap (λ s. item.Step s) f.1) ∙ ap (λ js. item.Step (written_step db f.0) ∷ js) r.2,

@@ -1,15 +1,14 @@
 -- What fills one step.
-use Rattle.std.proofs.Common.{◌≡◌, ℕ, ◌<◌, Bool, true, false, not, ◌&&◌, List, [], map, slice_get, Option, Some, None, option_map, refl, sym, ap, subst, ◌∙◌}
+use Rattle.std.proofs.Common.{◌≡◌, ℕ, Bool, true, false, not, ◌&&◌, List, [], map, slice_get, Option, Some, None, option_map, refl, sym, ap, subst, ◌∙◌}
 use Rattle.std.proofs.lemmas.Option.{get_or_from_slice_get, slice_get-map, slice_get_within}
 use Rattle.std.specs.Prelude.{is_none, slice_index_or}
-use Rattle.mm_base.specs.declared.kinds.Kinds.{Kinds}
 use Rattle.mm_base.specs.declared.symbols.Pair.{Pair}
 use Rattle.mm_base.specs.declared.tree.Tree.{Tree}
 use Rattle.mm_model.specs.Book.{Database}
 use Rattle.mm_model.specs.Statements.{is_empty}
-use Rattle.mm_frames.specs.Contents.{Contents, contents_of}
+use Rattle.mm_frames.specs.Contents.{Contents}
 use Rattle.mm_database.specs.Books.{database_of}
-use Rattle.mm_database.specs.Opened.{Opened, IsOpened}
+use Rattle.mm_database.specs.Opened.{Opened}
 use Rattle.sheet_text.specs.declared.sheet.Given.TheVariants as given
 use Rattle.sheet_text.specs.declared.sheet.SheetStep.{SheetStep}
 use Rattle.written_model.specs.declared.options.DvMode.{DvMode}
@@ -19,7 +18,7 @@ use Rattle.written_model.specs.Found.{is_ground}
 use Rattle.written_model.specs.Written.{Writing, written_step}
 use Rattle.written_model.specs.WrittenSteps.{WrittenStep, no_tree, steps_in}
 use Rattle.ref_search.specs.Wholes.{IsAllowed}
-use Rattle.auto_model.specs.AutoFilled.{IsFilled, choice_of, filled, is_unfilled, none, stays}
+use Rattle.auto_model.specs.AutoFilled.{choice_of, filled, is_unfilled, none, stays}
 use Rattle.auto_model.specs.declared.auto.Auto.{Auto}
 use Rattle.auto_fill.specs.Answers.{IsAnswer, IsFilledBy}
 use Rattle.auto_fill.specs.Ready.{IsPlace}
@@ -97,7 +96,7 @@ module _ (db : Database) (options : Options) (w : Writing) (k : ℕ) (e : Writte
   filled_as c labels s (Some a) is (sought h by) = (
     record e { reference = Some (slice_index_or db.labels a.label.0 []); places = map (λ j. given.Step j) a.places },
     ap (λ x. filled_with c x a) is
-    ∙ ap (λ ls. with_reference (written_step db e) (slice_index_or ls a.label.0 []) (map (λ j. given.Step j) a.places)) (sym labels),
+        ∙ ap (λ ls. with_reference (written_step db e) (slice_index_or ls a.label.0 []) (map (λ j. given.Step j) a.places)) (sym labels),
     filled (choice_of a.label a.places) h by.first,
   )
 

@@ -1,5 +1,5 @@
 -- The written worksheet with its steps filled, and the answer to a worksheet that is filled.
-use Rattle.std.specs.Prelude.{◌≡◌, ℕ, List, map, None}
+use Rattle.std.specs.Prelude.{◌≡◌, ℕ, List, None}
 use Rattle.mm_base.specs.declared.kinds.Kinds.{Kinds}
 use Rattle.mm_model.specs.Book.{Database}
 use Rattle.mm_database.specs.Books.{database_of}
