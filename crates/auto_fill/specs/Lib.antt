@@ -1,0 +1,4 @@
+pub mod Answers
+pub mod Labelling
+pub mod Ready
+pub mod Walking
