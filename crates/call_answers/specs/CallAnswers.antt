@@ -2,9 +2,10 @@
 use Rattle.std.specs.Prelude.{◌≡◌, ◌≢◌, ℕ, Bool, List, Option, Some, None, IsNone, option_and_then}
 use Rattle.call_answers.specs.declared.ending.Ending.{Ending}
 use Rattle.call_answers.specs.Asks.{Asks}
-use Rattle.call_answers.specs.CommandLine.{Command, SheetCommand, TheoremCommand, unify, verify, trial, export, install, select, command_of, usage_line}
+use Rattle.call_answers.specs.CommandLine.{Command, SheetCommand, TheoremCommand, unify, verify, trial, export, install, select, auto, command_of, usage_line}
 use Rattle.call_answers.specs.Endings.{Refuses, Tells, Unifies}
 use Rattle.call_answers.specs.Exports.{IsAccepted, Exports}
+use Rattle.call_answers.specs.Fills.{Fills}
 use Rattle.call_answers.specs.PutsIn.{PutsIn}
 use Rattle.call_answers.specs.Trial.{IsTried}
 use Rattle.call_answers.specs.Verified.{Verdict, accepted, IsVerdict}
@@ -29,12 +30,14 @@ database_of (trial count) = None
 database_of (export options command) = Some command.database
 database_of (install command) = Some command.database
 database_of (select command step) = Some command.database
+database_of (auto command) = Some command.database
 
 -- the file of the worksheet that it reads
 abbrev pub sheet_of : Command → Option Name
 sheet_of (unify command is_in_place) = Some command.sheet
 sheet_of (install command) = Some command.sheet
 sheet_of (select command step) = Some command.sheet
+sheet_of (auto command) = Some command.sheet
 sheet_of _ = None
 
 -- these files have this text
@@ -55,7 +58,8 @@ no_files name = None
 -- the words fit no command; or the database has a fault, and it is refused; or the text of the worksheet has one; or the
 -- worksheet is unified; or it is told of a proof whether it is accepted; or the program is tried by itself; or it is told of a
 -- proof that is to be exported that it is not accepted; or it is exported; or the theorem of a worksheet is put into the database;
--- or a step of a worksheet is asked about. Where a file that is looked at is missing, nothing is an answer
+-- or a step of a worksheet is asked about; or a worksheet is unified with its steps filled. Where a file that is looked at is
+-- missing, nothing is an answer
 pub data CallAnswer (files : Files) : Option Command → Ending → Type 0 where
   bad_words : {end : Ending} → Refuses end status.Words usage_line → CallAnswer files None end
   bad_database : {command : Command} {end : Ending} {database : List ℕ} {f : Fault} → HasDatabase files command database → database_fault database ≡ Some f
@@ -80,6 +84,9 @@ pub data CallAnswer (files : Files) : Option Command → Ending → Type 0 where
   selected : {command : SheetCommand} {step : Name} {end : Ending} {database sheet : List ℕ} {db : Database} → HasDatabase files (select command step) database
       → database_fault database ≡ None → HasSheet files (select command step) sheet → IsDatabaseOf command.options.kinds database db
       → Asks db command.options sheet step end → CallAnswer files (Some (select command step)) end
+  filled : {command : SheetCommand} {end : Ending} {database sheet : List ℕ} {db : Database} → HasDatabase files (auto command) database
+      → database_fault database ≡ None → HasSheet files (auto command) sheet → IsDatabaseOf command.options.kinds database db
+      → Fills db command.options sheet end → CallAnswer files (Some (auto command)) end
 
 -- the answer to these words over these files
 abbrev pub IsAnswer : Files → List Name → Ending → Type 0

@@ -11,7 +11,7 @@ use Rattle.written_model.specs.declared.options.Options.{Options}
 use Rattle.written_model.specs.declared.options.ProofStyle.TheVariants as style
 
 abbrev pub usage_line : List ℕ
-usage_line = codes "usage: mmp unify [--proof=normal|compressed] [--in-place] [--dv=add|given] [--provable=T] [--logic=T] DB SHEET | mmp verify DB LABEL | mmp trial N | mmp export [options] DB LABEL | mmp install [options] DB SHEET | mmp select [options] DB SHEET STEP"
+usage_line = codes "usage: mmp unify [--proof=normal|compressed] [--in-place] [--dv=add|given] [--provable=T] [--logic=T] DB SHEET | mmp verify DB LABEL | mmp trial N | mmp export [options] DB LABEL | mmp install [options] DB SHEET | mmp select [options] DB SHEET STEP | mmp auto [options] DB SHEET"
 
 -- ---- options
 
@@ -33,7 +33,7 @@ listed_options = codes "--proof=normal" ∷ codes "--proof=compressed" ∷ codes
 abbrev pub typecode_options : List Name
 typecode_options = codes "--provable" ∷ codes "--logic" ∷ []
 
--- the option that `unify` has beside those of `export`, `install` and `select`
+-- the option that `unify` has beside those of `export`, `install`, `select` and `auto`
 abbrev pub in_place : Name
 in_place = codes "--in-place"
 
@@ -57,7 +57,7 @@ abbrev pub options_where : (Name → Bool) → List Name → Option Options
 options_where test words =
     if list_all test words && not (has_twice (map option_name words)) && not (has_one_typecode (options_in words)) then Some (options_in words) else None
 
--- the options of `export`, `install` and `select`, and those of `unify`
+-- the options of `export`, `install`, `select` and `auto`, and those of `unify`
 abbrev pub options_of : List Name → Option Options
 options_of words = options_where is_known words
 
@@ -93,6 +93,8 @@ pub data Command : Type 0 where
   install : SheetCommand → Command
   -- to tell the assertions that fit the step of a name
   select : SheetCommand → Name → Command
+  -- to unify a worksheet whose steps are filled
+  auto : SheetCommand → Command
 
 abbrev pub sheet_command : Options → Name → Name → SheetCommand
 sheet_command options database sheet = record { options = options; database = database; sheet = sheet }
@@ -139,6 +141,10 @@ abbrev pub select_of : List Name → Options → Option Command
 select_of (database ∷ sheet ∷ step ∷ []) options = if_names (database ∷ sheet ∷ step ∷ []) (select (sheet_command options database sheet) step)
 select_of words options = None
 
+abbrev pub auto_of : List Name → Options → Option Command
+auto_of (database ∷ sheet ∷ []) options = if_names (database ∷ sheet ∷ []) (auto (sheet_command options database sheet))
+auto_of words options = None
+
 -- a number from 1, in decimal
 unfoldable pub trial_number : Name → Option ℕ
 trial_number word = find (λ n. bytes_eq (decimal n) word) (range_with_len 1 most_trial_blocks)
@@ -160,7 +166,8 @@ of_word word words =
     else (if bytes_eq word (codes "export") then with_options export_of words
     else (if bytes_eq word (codes "install") then with_options install_of words
     else (if bytes_eq word (codes "select") then with_options select_of words
-    else None)))))
+    else (if bytes_eq word (codes "auto") then with_options auto_of words
+    else None))))))
 
 abbrev pub command_of : List Name → Option Command
 command_of [] = None

@@ -5,7 +5,7 @@ use Rattle.proof_model.specs.ExampleFrames.{split}
 use Rattle.written_model.specs.declared.options.DvMode.TheVariants as dv
 use Rattle.written_model.specs.declared.options.Options.{Options}
 use Rattle.written_model.specs.declared.options.ProofStyle.TheVariants as style
-use Rattle.call_answers.specs.CommandLine.{Command, unify, verify, trial, export, install, select, sheet_command, theorem_command, trial_number, command_of}
+use Rattle.call_answers.specs.CommandLine.{Command, unify, verify, trial, export, install, select, auto, sheet_command, theorem_command, trial_number, command_of}
 
 abbrev command : List ℕ → Option Command
 command line = command_of (split line)
@@ -46,6 +46,10 @@ pub selected : command (codes "select --dv=given P.mm r.mmp qed")
     ≡ Some (select (sheet_command (record compressed { dv = dv.Given }) (codes "P.mm") (codes "r.mmp")) (codes "qed"))
 selected = refl
 
+pub filled : command (codes "auto --proof=normal P.mm r.mmp")
+    ≡ Some (auto (sheet_command (record compressed { style = style.Normal }) (codes "P.mm") (codes "r.mmp")))
+filled = refl
+
 pub tried : command (codes "trial 12") ≡ Some (trial 12)
 unfolding digits trial_number
 tried = refl
@@ -63,8 +67,8 @@ no_options = refl
 -- `--in-place` of another command than `unify`; an option twice; names too few or too many
 pub no_further_command : map is_command (codes "export --in-place V.mm good" ∷ codes "install --in-place P.mm r.mmp" ∷ codes "export --dv=add --dv=given V.mm good"
     ∷ codes "install --provable=wff P.mm r.mmp" ∷ codes "export V.mm" ∷ codes "export V.mm good bad" ∷ codes "export V.mm --good" ∷ codes "install P.mm" ∷ codes "install P.mm r.mmp s"
-    ∷ codes "select P.mm r.mmp" ∷ codes "select P.mm r.mmp qed 1" ∷ codes "select P.mm r.mmp --qed" ∷ codes "select --in-place P.mm r.mmp qed" ∷ [])
-    ≡ false ∷ false ∷ false ∷ false ∷ false ∷ false ∷ false ∷ false ∷ false ∷ false ∷ false ∷ false ∷ false ∷ []
+    ∷ codes "select P.mm r.mmp" ∷ codes "select P.mm r.mmp qed 1" ∷ codes "select P.mm r.mmp --qed" ∷ codes "select --in-place P.mm r.mmp qed" ∷ codes "auto P.mm" ∷ codes "auto P.mm r.mmp qed" ∷ codes "auto --in-place P.mm r.mmp" ∷ [])
+    ≡ false ∷ false ∷ false ∷ false ∷ false ∷ false ∷ false ∷ false ∷ false ∷ false ∷ false ∷ false ∷ false ∷ false ∷ false ∷ false ∷ []
 no_further_command = refl
 
 -- options of `verify` and `trial`; a name too few or too many; another command; an empty one

@@ -3,7 +3,7 @@ use Rattle.std.specs.Prelude.{◌≡◌, ◌≢◌, ◌⊎◌, ◌++◌, ℕ, Bo
 use Rattle.std.specs.Io.KnownBytes.{Appends}
 use Rattle.call_answers.specs.declared.ending.Ending.{Ending}
 use Rattle.call_answers.specs.CallAnswers.{IsAnswer, HasDatabase, database_of, no_files}
-use Rattle.call_answers.specs.CommandLine.{Command, unify, verify, trial, export, install, select, command_of}
+use Rattle.call_answers.specs.CommandLine.{Command, unify, verify, trial, export, install, select, auto, command_of}
 use Rattle.mm_base.specs.Outside.{Files, Replaces, Rose, AppendsPart}
 use Rattle.mm_base.specs.declared.status.Status.{Status}
 use Rattle.mm_base.specs.declared.status.Status.TheVariants as status
@@ -86,6 +86,7 @@ ReadsFile (trial count) name = ⊥
 ReadsFile (export options command) name = name ≡ command.database
 ReadsFile (install command) name = (name ≡ command.database) ⊎ (name ≡ command.sheet)
 ReadsFile (select command step) name = (name ≡ command.database) ⊎ (name ≡ command.sheet)
+ReadsFile (auto command) name = (name ≡ command.database) ⊎ (name ≡ command.sheet)
 
 -- the file of the database is there, and its text has no fault
 pub record HasSoundDatabase (command : Command) (files : Files) : Type 0 where

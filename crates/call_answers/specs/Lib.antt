@@ -5,6 +5,7 @@ pub mod CommandLineExamples
 pub mod Endings
 pub mod Exportable
 pub mod Exports
+pub mod Fills
 pub mod Finishes
 pub mod Given
 pub mod GivenExamples

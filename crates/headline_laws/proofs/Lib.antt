@@ -1,2 +1,3 @@
 mod Exported
+mod Filled
 mod Unified

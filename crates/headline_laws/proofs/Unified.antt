@@ -13,10 +13,10 @@ use Rattle.written_model.specs.Opened.{IsOpened}
 use Rattle.written_model.specs.Written.{Answer, Answers, Writing, Writes, HasNoLateFault, refused, wrote, written}
 
 -- a refusal has neither status
-not_finished : status.Sheet ≡ status.Finished → ⊥
+pub not_finished : status.Sheet ≡ status.Finished → ⊥
 not_finished e = cc
 
-not_unfinished : status.Sheet ≡ status.Unfinished → ⊥
+pub not_unfinished : status.Sheet ≡ status.Unfinished → ⊥
 not_unfinished e = cc
 
 is_true : (b : Bool) → status_of b ≡ status.Finished → b ≡ true
@@ -35,7 +35,7 @@ pub record IsSound (db : Database) (text : List ℕ) (options : Options) (w : Wr
 pub sound_of : (db : Database) (text : List ℕ) (options : Options) (w : Writing) → Answers db text options (wrote w) → IsSound db text options w
 sound_of db text options w (written e writes late) = record { writes = writes; late = late }
 
-refused_is_other : {r : _} {w : Writing} → refused r ≡ wrote w → ⊥
+pub refused_is_other : {r : _} {w : Writing} → refused r ≡ wrote w → ⊥
 refused_is_other e = cc
 
 same_writing : (w v : Writing) → wrote w ≡ wrote v → w ≡ v

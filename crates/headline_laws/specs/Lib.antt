@@ -1,2 +1,3 @@
 pub mod Exported
+pub mod Filled
 pub mod Unified

@@ -8,8 +8,11 @@ ghost use Rattle.proof_model.specs.declared.code.Code.{Code};
 ghost use Rattle.proof_model.specs.declared.theorem.Theorem.{Theorem};
 ghost use Rattle.written_model.specs.declared.options.Options.{Options};
 ghost use Rattle.call_answers.specs.declared.ending.Ending.{Ending};
-ghost use Rattle.written_model.specs.Written.{Answer};
+ghost use Rattle.fault_lines.specs.Refusals.{Refusal};
+ghost use Rattle.written_model.specs.Written.{Answer, Writing};
+ghost use Rattle.written_model.specs.WrittenSteps.{WrittenItem};
 ghost use Rattle.headline_laws.specs.Exported.{AnswerIsExported};
+ghost use Rattle.headline_laws.specs.Filled.{AnswerIsFilled, FaultFills};
 ghost use Rattle.headline_laws.specs.Unified.{AnswerIsUnified};
 
 use answer_laws::answer_is_fixed;
@@ -36,4 +39,15 @@ pub fn answer_is_exported()
     written_proof_is_accepted();
     answer_is_fixed();
     export_is_finished();
+}
+
+/// A call that tells the first fault of a worksheet says all that is said of `auto`; and so does one that gives the answer to
+/// what the worksheet becomes with its steps filled: a finished one carries a proof that is accepted, an unfinished one none,
+/// and unifying what was written writes it again.
+pub fn answer_is_filled()
+    ensures fault { (db : Database) (text : List ℕ) (options : Options) (r : Refusal) (end : Ending) → FaultFills db text options r end }
+    ensures filled { (db : Database) (text : List ℕ) (options : Options) (w : Writing) (items : List WrittenItem) (answer : Answer) (end : Ending)
+        → AnswerIsFilled db text options w items answer end }
+{
+    answer_is_unified();
 }
