@@ -1,0 +1,4 @@
+mod SameFormulas
+mod Added
+mod AcceptedMore
+mod SolvedMore
