@@ -101,14 +101,15 @@ module _ (db : Database) (options : Options) (w : Writing) (fs : List WrittenSte
           let same : x ≡ asked (0 + k) u.assertion c.places = accepted_same x (asked (0 + k) u.assertion c.places) is in
           inr (record { number = k; use_ = u; new = record { step = e; at = at; choice = c; is = h; there = there }; is = same ∙ ap (λ n. asked n u.assertion c.places) (zero_plus k) })
 
-  -- what was accepted is accepted
-  pub kept : (k : ℕ) (x : Asked) → slice_get (judgements_from 0 es) k ≡ Some (accepted x) → slice_get (judgements_from 0 fs) k ≡ Some (accepted x)
+  -- what was accepted is accepted, and is no added use
+  pub kept : (k : ℕ) (x : Asked) → slice_get (judgements_from 0 es) k ≡ Some (accepted x) → (slice_get (judgements_from 0 fs) k ≡ Some (accepted x)) × NotNew x.step
   kept k x h =
       let j = judgement_there 0 es k (accepted x) h in
       let f = A.there k j.0 j.1 in
-      by j.0 f.0 f.1 f.2 j.2
+      by j.0 j.1 f.0 f.1 f.2 j.2
     where
-      by : (e f : WrittenStep) → slice_get fs k ≡ Some f → IsAdded db w.bound.place options.dv w.bound.pairs es k e f → accepted x ≡ judgement_by (0 + k) e e.by
-          → slice_get (judgements_from 0 fs) k ≡ Some (accepted x)
-      by e _ there stays is = judgement_here 0 fs k e there ∙ ap (λ o. Some o) (sym is)
-      by e _ there (added c u h) is = let bad = is ∙ ap (judgement_by (0 + k) e) h.not_used in absurd cc
+      by : (e : WrittenStep) → slice_get es k ≡ Some e → (f : WrittenStep) → slice_get fs k ≡ Some f → IsAdded db w.bound.place options.dv w.bound.pairs es k e f
+          → accepted x ≡ judgement_by (0 + k) e e.by → (slice_get (judgements_from 0 fs) k ≡ Some (accepted x)) × NotNew x.step
+      by e at _ there stays is =
+          (judgement_here 0 fs k e there ∙ ap (λ o. Some o) (sym is), subst NotNew (sym (asked_step (0 + k) e e.by x is ∙ zero_plus k)) (not_new k e at there))
+      by e at _ there (added c u h) is = let bad = is ∙ ap (judgement_by (0 + k) e) h.not_used in absurd cc

@@ -2,3 +2,5 @@ mod SameFormulas
 mod Added
 mod AcceptedMore
 mod SolvedMore
+mod GeneralMore
+mod JudgedMore

@@ -64,7 +64,7 @@ module _ (db : Database) (options : Options) (w : Writing) (fs : List WrittenSte
   pub formulas_same : (v : Valuation) (k : ℕ) → formula one v k ≡ formula other v k
   formulas_same v k = formula_same db options w es fs A.same (written_pairs db options w) ps (written_theorem db options w) th v k
 
-  stays_closed : (q : Open → Tree) (t : Tree) → IsClosedTree t → replace (λ s c. Var s c) q t ≡ t
+  pub stays_closed : (q : Open → Tree) (t : Tree) → IsClosedTree t → replace (λ s c. Var s c) q t ≡ t
   stays_closed q t closed = replace-agree (λ s c. Var s c) (λ s c. Var s c) q leaf_tree (λ s c. refl) t (λ x o. absurd (closed x o)) ∙ replace-self t
 
   -- a tree without open leaves is its step's formula under any valuation
