@@ -4,3 +4,5 @@ mod AcceptedMore
 mod SolvedMore
 mod GeneralMore
 mod JudgedMore
+mod ChosenUses
+mod UsedItems
