@@ -6,3 +6,4 @@ mod GeneralMore
 mod JudgedMore
 mod ChosenUses
 mod UsedItems
+mod FilledAgain
