@@ -43,6 +43,7 @@ module _ (db : Database) (place : ℕ) (mode : DvMode) (allowed : List Pair) (es
     pub closed : IsClosedTree e.tree
     pub before : AreGroundBefore n c.places
     pub fits : FitsUse db place mode allowed es e c u
+    pub label_within : c.label.0 < length db.labels
     pub label_is : label_of db (label_name db c.label) ≡ Some c.label
 
   -- the step with its use

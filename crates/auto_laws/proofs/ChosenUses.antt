@@ -159,6 +159,7 @@ module _ (db : Database) (options : Options) (w : Writing) (facts : IsDatabase d
               closed = open_step.closed;
               before = subst (AreGroundBefore db w.bound.place options.dv w.bound.pairs es k) (sym made.places) (ground_before k made.numbers made.within);
               fits = chosen.1.1;
+              label_within = made.label_within;
               label_is = label_back db.labels facts.labels c.label.0 made.label_within;
             });
         same = refl;

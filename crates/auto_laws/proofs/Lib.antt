@@ -7,3 +7,4 @@ mod JudgedMore
 mod ChosenUses
 mod UsedItems
 mod FilledAgain
+mod FilledSpelled
