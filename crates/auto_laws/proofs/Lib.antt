@@ -8,3 +8,4 @@ mod ChosenUses
 mod UsedItems
 mod FilledAgain
 mod FilledSpelled
+mod FilledWrites
