@@ -1,5 +1,5 @@
 -- A choice that serves a step is an added use.
-use Rattle.std.specs.Prelude.{◌≡◌, ◌<◌, ◌≤◌, ◌+◌, ◌==◌, ◌&&◌, not, ℕ, zero, suc, Bool, true, false, List, [], ◌∷◌, length, map, flat_map, filter, take, is_none, Contains, slice_get, Option, Some, None, refl}
+use Rattle.std.specs.Prelude.{◌≡◌, ◌⊎◌, ◌<◌, ◌≤◌, ◌+◌, ◌==◌, ◌&&◌, not, ℕ, zero, suc, Bool, true, false, List, [], ◌∷◌, length, map, flat_map, filter, take, is_none, Contains, slice_get, Option, Some, None, refl}
 use Rattle.std.specs.List.{AllByRecursion, range_with_len}
 use Rattle.std.specs.Option.{option_map_or}
 use Rattle.std.proofs.Common.{sym, ap, subst, ◌∙◌, arith, inl, inr}
@@ -134,15 +134,20 @@ module _ (db : Database) (options : Options) (w : Writing) (facts : IsDatabase d
       empty None q = refl
       empty (Some n) q = absurd cc
 
+  -- it is not to be filled, or no choice serves it
+  abbrev pub IsDone : ℕ → WrittenStep → Type 0
+  IsDone k f = ((is_none f.reference && is_unfilled f) ≡ false) ⊎ IsAutoChoice db options w k f None
+
   -- the step with the use that it is filled with
   pub record IsUsed (k : ℕ) (e f : WrittenStep) : Type 0 where
     pub used : WrittenStep
     pub is : IsAdded db w.bound.place options.dv w.bound.pairs es k e used
+    pub done : IsDone k used
     pub same : written_step db used ≡ written_step db f
 
   pub step_used : (k : ℕ) (e f : WrittenStep) → slice_get es k ≡ Some e → IsFilled db options w k e f → IsUsed k e f
-  step_used k e _ at (IsFilled.stays h) = record { used = e; is = IsAdded.stays; same = refl }
-  step_used k e _ at (IsFilled.none h c) = record { used = e; is = IsAdded.stays; same = refl }
+  step_used k e _ at (IsFilled.stays h) = record { used = e; is = IsAdded.stays; done = inl h; same = refl }
+  step_used k e _ at (IsFilled.none h c) = record { used = e; is = IsAdded.stays; done = inr c; same = refl }
   step_used k e _ at (IsFilled.filled c h first) =
       let open_step = unfilled e h in
       let chosen = first_stands (Fits db w.bound.place options.dv w.bound.pairs es e) (auto_choices db (earlier_steps es k)) c first in
@@ -162,5 +167,6 @@ module _ (db : Database) (options : Options) (w : Writing) (facts : IsDatabase d
               label_within = made.label_within;
               label_is = label_back db.labels facts.labels c.label.0 made.label_within;
             });
+        done = inl refl;
         same = refl;
       }

@@ -55,7 +55,7 @@ read_again : (db : Database) (options : Options) (w : Writing) (es : List Writte
 read_again db options w [] = refl
 read_again db options w (e ∷ es) = ap (λ ws. works_in db e.tree ++ ws) (read_again db options w es)
 
-lack_kept : (mode : DvMode) (allowed : List Pair) (es : List WrittenStep) (u : Use) → lack_of mode (pairs_of mode allowed es) u ≡ lack_of mode allowed u
+pub lack_kept : (mode : DvMode) (allowed : List Pair) (es : List WrittenStep) (u : Use) → lack_of mode (pairs_of mode allowed es) u ≡ lack_of mode allowed u
 lack_kept dv.Given allowed es u = refl
 lack_kept dv.Add allowed es u = refl
 

@@ -9,3 +9,4 @@ mod UsedItems
 mod FilledAgain
 mod FilledSpelled
 mod FilledWrites
+mod NoneFilled

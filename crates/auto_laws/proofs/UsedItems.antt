@@ -15,7 +15,7 @@ use Rattle.written_model.specs.Again.{judgements_from}
 use Rattle.again_laws.proofs.Lists.{some_same}
 use Rattle.auto_model.specs.AutoFilled.{IsFilled, AreFilledFrom}
 use Rattle.auto_laws.proofs.Added.{IsAddedUse, IsAdded, AreAdded}
-use Rattle.auto_laws.proofs.ChosenUses.{IsUsed, step_used}
+use Rattle.auto_laws.proofs.ChosenUses.{IsDone, IsUsed, step_used}
 
 module _ (db : Database) (options : Options) (w : Writing) where
   abbrev es : List WrittenStep
@@ -83,17 +83,19 @@ module _ (db : Database) (options : Options) (w : Writing) where
   -- ---- the uses of filled items
 
   module _ (facts : IsDatabase db) (judged : AreJudged db (written_bound db options w) (judgements_from 0 es)) where
+    -- none of the steps from a number on is to be filled and served
+    abbrev pub AreDone : ℕ → List WrittenItem → Type 0
+    AreDone k [] = Unit {0}
+    AreDone k (comment lines ∷ items) = AreDone k items
+    AreDone k (step f ∷ items) = IsDone db options w facts judged k f × AreDone (suc k) items
+
     items_used : (k : ℕ) (items behind : List WrittenItem) → ((m : ℕ) (e : WrittenStep) → slice_get (steps_in items) m ≡ Some e → slice_get es (k + m) ≡ Some e)
         → AreFilledFrom db options w k items behind
-        → (used : List WrittenItem) × AreUsedFrom k items used × (map (written_item db) used ≡ map (written_item db) behind)
-    items_used k [] behind at h = ([], refl, ap (map (written_item db)) (sym h))
+        → (used : List WrittenItem) × AreUsedFrom k items used × AreDone k used × (map (written_item db) used ≡ map (written_item db) behind)
+    items_used k [] behind at h = ([], refl, tt, ap (map (written_item db)) (sym h))
     items_used k (comment lines ∷ items) behind at h =
         let r = items_used k items h.0 at h.2 in
-        (
-          comment lines ∷ r.0,
-          (r.0, refl, r.1),
-          ap (λ xs. written_item db (comment lines) ∷ xs) r.2 ∙ ap (map (written_item db)) (sym h.1),
-        )
+        (comment lines ∷ r.0, (r.0, refl, r.1), r.2, ap (λ xs. written_item db (comment lines) ∷ xs) r.3 ∙ ap (map (written_item db)) (sym h.1))
     items_used k (step e ∷ items) behind at h =
         let here : slice_get es k ≡ Some e = subst (λ n. slice_get es n ≡ Some e) (sym (plus_zero k)) (at 0 e refl) in
         let u = step_used db options w facts judged k e h.0 here h.3 in
@@ -101,9 +103,10 @@ module _ (db : Database) (options : Options) (w : Writing) where
         (
           step u.used ∷ r.0,
           (u.used, r.0, refl, u.is, r.1),
-          ap (λ s. item.Step s ∷ map (written_item db) r.0) u.same ∙ ap (λ xs. item.Step (written_step db h.0) ∷ xs) r.2 ∙ ap (map (written_item db)) (sym h.2),
+          (u.done, r.2),
+          ap (λ s. item.Step s ∷ map (written_item db) r.0) u.same ∙ ap (λ xs. item.Step (written_step db h.0) ∷ xs) r.3 ∙ ap (map (written_item db)) (sym h.2),
         )
 
     pub filled_used : (behind : List WrittenItem) → AreFilledFrom db options w 0 w.items behind
-        → (used : List WrittenItem) × AreUsedFrom 0 w.items used × (map (written_item db) used ≡ map (written_item db) behind)
+        → (used : List WrittenItem) × AreUsedFrom 0 w.items used × AreDone 0 used × (map (written_item db) used ≡ map (written_item db) behind)
     filled_used behind h = items_used 0 w.items behind (λ m e q. subst (λ n. slice_get es n ≡ Some e) (sym (zero_plus m)) q) h
