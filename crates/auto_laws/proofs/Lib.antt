@@ -10,3 +10,4 @@ mod FilledAgain
 mod FilledSpelled
 mod FilledWrites
 mod NoneFilled
+mod FillsAgain
