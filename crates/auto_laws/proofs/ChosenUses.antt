@@ -1,5 +1,5 @@
 -- A choice that serves a step is an added use.
-use Rattle.std.specs.Prelude.{◌≡◌, ◌⊎◌, ◌<◌, ◌≤◌, ◌+◌, ◌==◌, ◌&&◌, not, ℕ, zero, suc, Bool, true, false, List, [], ◌∷◌, length, map, flat_map, filter, take, is_none, Contains, slice_get, Option, Some, None, refl}
+use Rattle.std.specs.Prelude.{◌≡◌, ◌⊎◌, ◌<◌, ◌+◌, ◌&&◌, not, ℕ, zero, suc, Bool, true, false, List, [], ◌∷◌, length, map, take, is_none, Contains, slice_get, Option, Some, None, refl}
 use Rattle.std.specs.List.{AllByRecursion, range_with_len}
 use Rattle.std.specs.Option.{option_map_or}
 use Rattle.std.proofs.Common.{sym, ap, subst, ◌∙◌, arith, inl, inr}
@@ -9,31 +9,29 @@ use Rattle.mm_base.specs.declared.tree.Tree.{Tree}
 use Rattle.mm_model.specs.Names.{Name, label}
 use Rattle.mm_model.specs.BookFacts.{IsDatabase}
 use Rattle.mm_model.specs.Statements.{is_empty}
-use Rattle.mm_model.specs.Book.{Database, label_name, label_of}
+use Rattle.mm_model.specs.Book.{Database}
 use Rattle.mm_model.proofs.NameLaws.{label_back}
-use Rattle.sheet_text.specs.declared.sheet.Given.{Given}
 use Rattle.sheet_text.specs.declared.sheet.Given.TheVariants as given
 use Rattle.solve_model.specs.declared.bound.BoundStep.{BoundStep}
 use Rattle.solve_model.specs.declared.verdict.Verdict.TheVariants as verdict
-use Rattle.solve_model.specs.Bound.{settled, standing, standing_of_reference}
-use Rattle.solve_model.specs.Verdicts.{Judgement, accepted_in, IsJudgement, AreJudged}
-use Rattle.solve_model.specs.Trees.{open_leaves}
+use Rattle.solve_model.specs.Bound.{settled, standing}
+use Rattle.solve_model.specs.Verdicts.{accepted_in, IsJudgement, AreJudged}
 use Rattle.solve_laws.specs.Instances.{IsClosedTree}
 use Rattle.solve_laws.proofs.Elements.{nothing, parted}
 use Rattle.written_model.specs.declared.options.Options.{Options}
 use Rattle.written_model.specs.WrittenSteps.{Use, WrittenStep, steps_in, trees}
 use Rattle.written_model.specs.Fitting.{all_labels}
-use Rattle.written_model.specs.Found.{Choice, FitsUse, Fits, is_ground}
+use Rattle.written_model.specs.Found.{Choice, Fits, is_ground}
 use Rattle.written_model.specs.Written.{Writing, bound_step, written_bound, written_step}
 use Rattle.written_model.specs.Again.{judgement_by, judgements_from}
-use Rattle.again_laws.proofs.Candidates.{told, Told}
-use Rattle.again_laws.proofs.Lists.{contains_mapped, get_map, get_mapped, some_same}
+use Rattle.again_laws.proofs.Candidates.{told}
+use Rattle.again_laws.proofs.Lists.{contains_mapped, get_map, get_mapped}
 use Rattle.again_laws.proofs.Orders.{first_stands, from_flat_map}
 use Rattle.again_laws.proofs.ValuesStay.{judgement_here}
 use Rattle.push_laws.proofs.ReadHyps.{filter_from}
 use Rattle.push_laws.proofs.StepLaw.{ground_closed}
 use Rattle.auto_model.specs.AutoFilled.{is_unfilled, is_ground_number, earlier_steps, tuples, step_tuples, choice_of, auto_choices, IsAutoChoice, IsFilled}
-use Rattle.auto_laws.proofs.Added.{AreGroundBefore, IsAddedUse, with_use, IsAdded}
+use Rattle.auto_laws.proofs.Added.{AreGroundBefore, with_use, IsAdded}
 
 pub ground_tree : (t : Tree) → is_ground t ≡ true → IsClosedTree t
 ground_tree t e x o = nothing x (subst (λ xs. Contains xs x) (ground_closed t e) o)

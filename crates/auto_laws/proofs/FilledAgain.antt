@@ -1,5 +1,5 @@
 -- A filled worksheet written again: nothing is made, named or found, and its end is decided.
-use Rattle.std.specs.Prelude.{◌≡◌, ◌<◌, ◌≤◌, ◌++◌, ◌+◌, ◌&&◌, ◌↔◌, not, is_none, ℕ, zero, suc, Bool, true, false, IsTrue, List, [], ◌∷◌, length, map, flat_map, slice_get, Contains, Option, Some, None, refl}
+use Rattle.std.specs.Prelude.{◌≡◌, ◌<◌, ◌++◌, ◌+◌, ◌&&◌, ◌↔◌, not, ℕ, suc, Bool, true, false, IsTrue, List, [], ◌∷◌, length, map, flat_map, slice_get, Contains, Some, None, refl}
 use Rattle.std.specs.List.{AllZip, list_all}
 use Rattle.std.specs.Option.{option_map_or}
 use Rattle.std.proofs.Common.{sym, ap, subst, ◌∙◌, arith, inl, inr}
@@ -7,11 +7,9 @@ use Rattle.std.proofs.lemmas.List.{length-map}
 use Rattle.mm_base.specs.declared.symbols.Label.{Label}
 use Rattle.mm_base.specs.declared.symbols.Pair.{Pair}
 use Rattle.mm_base.specs.declared.symbols.Typecode.{Typecode}
-use Rattle.mm_base.specs.declared.tree.Tree.{Tree}
 use Rattle.mm_base.specs.Trees.{code_of}
 use Rattle.mm_model.specs.Productions.{TypedVariable}
 use Rattle.mm_model.specs.Book.{Database, Assertion}
-use Rattle.proof_model.specs.declared.theorem.Theorem.{Theorem}
 use Rattle.sheet_text.specs.declared.sheet.Given.{Given}
 use Rattle.sheet_text.specs.declared.sheet.Given.TheVariants as given
 use Rattle.solve_model.specs.declared.bound.Bound.{Bound}
@@ -22,11 +20,11 @@ use Rattle.written_model.specs.declared.options.DvMode.TheVariants as dv
 use Rattle.written_model.specs.declared.options.Options.{Options}
 use Rattle.written_model.specs.WrittenSteps.{Use, WrittenStep, WrittenItem, comment, step, steps_in, over_step, trees, place_tree}
 use Rattle.written_model.specs.Pairs.{pairs_of, lack_of}
-use Rattle.written_model.specs.Found.{Choice, valued, is_ground, is_to_be_searched, IsSearched}
+use Rattle.written_model.specs.Found.{is_ground, IsSearched}
 use Rattle.written_model.specs.Named.{WorkVariable, is_in, works_in, read_works, not_seen, new_works, name_tree, IsWrittenLeaf, IsNaming}
 use Rattle.written_model.specs.ProofTrees.{Finished}
 use Rattle.written_model.specs.Written.{Writing, ItemIsSearched, after_filling, after_naming, bound_step, written_pairs}
-use Rattle.written_model.specs.Again.{step_again, judgements_from, value_again, again}
+use Rattle.written_model.specs.Again.{step_again, judgements_from, value_again}
 use Rattle.again_laws.specs.Whole.{IsWhole}
 use Rattle.again_laws.proofs.Lists.{get_mapped, zip_long}
 use Rattle.answer_laws.proofs.Elements.{first, later}
@@ -40,7 +38,7 @@ use Rattle.writing_laws.specs.Decisions.{Decided}
 use Rattle.writing_laws.specs.HasEnd.{PlacesAreEarlier}
 use Rattle.writing_laws.proofs.Ending.{settled_earlier, finished_decided}
 use Rattle.auto_model.specs.AutoFilled.{filled_sheet}
-use Rattle.auto_laws.proofs.Added.{AreGroundBefore, IsAddedUse, IsAdded, AreAdded}
+use Rattle.auto_laws.proofs.Added.{AreGroundBefore, IsAdded}
 use Rattle.auto_laws.proofs.SameFormulas.{with_steps}
 use Rattle.auto_laws.proofs.UsedItems.{AreUsedFrom, all_added}
 

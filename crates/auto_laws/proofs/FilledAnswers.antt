@@ -1,10 +1,9 @@
 -- The answer to a worksheet whose steps are filled is the answer to the filled worksheet.
-use Rattle.std.specs.Prelude.{◌≡◌, ℕ, List, None, refl}
-use Rattle.std.proofs.Common.{sym, subst}
+use Rattle.std.specs.Prelude.{◌≡◌, ℕ, List, None}
 use Rattle.mm_model.specs.Book.{Database}
 use Rattle.sheet_text.specs.TextFaults.{text_fault}
 use Rattle.written_model.specs.declared.options.Options.{Options}
-use Rattle.written_model.specs.Written.{Writing, Writes, HasNoLateFault, Answer, Answers, wrote}
+use Rattle.written_model.specs.Written.{Writing, Writes, HasNoLateFault, Answers, wrote}
 use Rattle.auto_model.specs.AutoFilled.{AutoAnswers}
 
 -- a text, and that the worksheet is what it becomes, without a fault

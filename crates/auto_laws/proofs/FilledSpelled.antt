@@ -1,28 +1,25 @@
 -- A filled worksheet can be spelled.
-use Rattle.std.specs.Prelude.{◌≡◌, ◌<◌, ◌&&◌, ◌||◌, not, nat_lt, ℕ, suc, Bool, true, false, List, [], ◌∷◌, length, map, filter_map, slice_index_or, Some, None, refl}
+use Rattle.std.specs.Prelude.{◌≡◌, ◌<◌, ◌&&◌, ◌||◌, not, nat_lt, ℕ, suc, true, List, [], ◌∷◌, length, map, filter_map, slice_index_or, None, refl}
 use Rattle.std.specs.List.{AllByRecursion, list_all, last_or}
 use Rattle.std.specs.Option.{option_map_or}
 use Rattle.std.proofs.Common.{sym, ap, subst, ◌∙◌, arith}
 use Rattle.std.proofs.lemmas.Bool.{and_parts, and_from}
 use Rattle.std.proofs.lemmas.Bool.Decides.{nat_tests}
-use Rattle.mm_base.specs.declared.symbols.Label.{Label}
 use Rattle.mm_model.specs.Labels.{is_label}
 use Rattle.mm_model.specs.Names.{Name, has_twice}
 use Rattle.mm_model.specs.Book.{Database, label_name}
 use Rattle.sheet_text.specs.declared.sheet.Given.{Given}
 use Rattle.sheet_text.specs.declared.sheet.Given.TheVariants as given
-use Rattle.sheet_text.specs.declared.sheet.SheetItem.{SheetItem}
 use Rattle.sheet_text.specs.declared.sheet.SheetStep.{SheetStep}
 use Rattle.sheet_text.specs.Forms.{marked_name}
 use Rattle.sheet_text.specs.Layout.{step_of_item}
 use Rattle.sheet_text.specs.Spellable.{IsSpellable, is_token, is_place_below, is_step_spellable, are_steps_spellable, is_item_spellable}
 use Rattle.written_model.specs.declared.options.Options.{Options}
 use Rattle.written_model.specs.WrittenSteps.{WrittenStep, WrittenItem, comment, step, steps_in}
-use Rattle.written_model.specs.Found.{Choice}
 use Rattle.written_model.specs.Written.{Writing, written_step, written_item, written_sheet}
 use Rattle.again_laws.proofs.Lists.{all_at, get_below, index_from_get}
 use Rattle.auto_model.specs.AutoFilled.{filled_sheet}
-use Rattle.auto_laws.proofs.Added.{AreGroundBefore, IsAddedUse, with_use, IsAdded}
+use Rattle.auto_laws.proofs.Added.{AreGroundBefore, IsAdded}
 use Rattle.auto_laws.proofs.UsedItems.{AreUsedFrom}
 
 label_spelled : (names : List Name) (n : ℕ) → AllByRecursion (λ m. is_label m ≡ true) names → n < length names → is_label (slice_index_or names n []) ≡ true

@@ -1,5 +1,5 @@
 -- What a filled worksheet becomes.
-use Rattle.std.specs.Prelude.{◌≡◌, ◌≤◌, ◌↔◌, ℕ, suc, Bool, IsTrue, List, [], ◌∷◌, map, filter_map, Contains, slice_get, Some, None, refl}
+use Rattle.std.specs.Prelude.{◌≡◌, ◌≤◌, ◌↔◌, ℕ, suc, Bool, IsTrue, List, [], ◌∷◌, map, filter_map, slice_get, Some, None, refl}
 use Rattle.std.specs.List.{AllZip}
 use Rattle.std.proofs.Common.{sym, ap, subst, ◌∙◌}
 use Rattle.mm_base.specs.declared.symbols.Label.{Label}
@@ -21,13 +21,12 @@ use Rattle.solve_model.specs.Binding.{place_of}
 use Rattle.solve_model.specs.Bound.{Binds, IsBoundStep, work_size}
 use Rattle.solve_model.specs.Verdicts.{AreJudged, accepted_in}
 use Rattle.solve_model.specs.MostGeneral.{IsTheValuation}
-use Rattle.fault_lines.specs.Refusals.{Refusal}
 use Rattle.written_model.specs.declared.options.Options.{Options}
 use Rattle.written_model.specs.Opened.{IsOpened}
 use Rattle.written_model.specs.ReadBack.{ReadIsSpellable, LaidOutReadsBack}
 use Rattle.written_model.specs.WrittenSteps.{WrittenStep, WrittenItem, comment, step, steps_in, over_step, trees}
 use Rattle.written_model.specs.Named.{IsWrittenLeaf}
-use Rattle.written_model.specs.Written.{Writing, Writes, HasNoLateFault, LateFault, written_step, written_item, written_sheet, bound_step, written_bound, written_pairs, after_filling}
+use Rattle.written_model.specs.Written.{Writing, Writes, HasNoLateFault, written_step, written_item, written_sheet, bound_step, written_bound, written_pairs, after_filling}
 use Rattle.written_model.specs.ProofTrees.{Finished}
 use Rattle.written_model.specs.Again.{step_again, judgements_from, value_again}
 use Rattle.written_model.specs.WrittenAgain.{ValuesStay, VerdictsStay}

@@ -1,11 +1,11 @@
 -- What was filled is filled again as it is.
-use Rattle.std.specs.Prelude.{◌≡◌, ◌<◌, ◌≤◌, ◌+◌, ◌++◌, ℕ, Bool, true, false, nat_lt, List, [], ◌∷◌, length, map, flat_map, Option, Some, None, codes, refl}
+use Rattle.std.specs.Prelude.{◌≡◌, ◌<◌, ◌≤◌, ◌+◌, ◌++◌, ℕ, Bool, true, false, nat_lt, List, [], ◌∷◌, length, map, flat_map, Option, None, codes, refl}
 use Rattle.std.proofs.Common.{sym, ap, subst, ◌∙◌, arith, ltb-true, ltb-false}
 use Rattle.std.proofs.lemmas.Grind.{flat_map-append}
 use Rattle.std.proofs.lemmas.List.{length-append}
 use Rattle.mm_base.specs.Limits.{most_sheet_bytes}
 use Rattle.mm_model.specs.Book.{Database}
-use Rattle.fault_lines.specs.Refusals.{Refusal, too_large, told_number}
+use Rattle.fault_lines.specs.Refusals.{too_large, told_number}
 use Rattle.sheet_text.specs.declared.sheet.Sheet.{Sheet}
 use Rattle.sheet_text.specs.Layout.{layout, ended, header_line, item_lines, pair_line, proof_lines, step_names}
 use Rattle.sheet_text.specs.Reads.{ReadsAs}
@@ -14,7 +14,7 @@ use Rattle.sheet_laws.specs.ReadAgain.{LaidOutReadsOnlyAs}
 use Rattle.written_model.specs.declared.options.Options.{Options}
 use Rattle.written_model.specs.Opened.{IsOpened}
 use Rattle.written_model.specs.WrittenSteps.{WrittenItem}
-use Rattle.written_model.specs.Written.{Writing, Writes, HasNoLateFault, LateFault, Answer, Answers, wrote, written_item, written_sheet, written_proof, written_text}
+use Rattle.written_model.specs.Written.{Writing, Writes, HasNoLateFault, LateFault, Answer, Answers, wrote, written_sheet, written_proof, written_text}
 use Rattle.written_model.specs.Again.{again}
 use Rattle.written_model.specs.WrittenAgain.{AnswersAreOne, IsWrittenAgain, IsFixpoint}
 use Rattle.answer_laws.specs.WrittenReads.{IsReadBack}

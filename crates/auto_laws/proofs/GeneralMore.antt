@@ -5,7 +5,6 @@ use Rattle.std.specs.Option.{option_map_or}
 use Rattle.std.proofs.Common.{sym, ap, subst, ◌∙◌, inl, inr}
 use Rattle.mm_base.specs.declared.symbols.Label.{Label}
 use Rattle.mm_base.specs.declared.symbols.Pair.{Pair}
-use Rattle.mm_base.specs.declared.symbols.Sym.{Sym}
 use Rattle.mm_base.specs.declared.symbols.Typecode.{Typecode}
 use Rattle.mm_base.specs.declared.tree.Tree.{Tree}
 use Rattle.mm_base.specs.declared.tree.Tree.TheVariants.{Fresh}
@@ -18,8 +17,8 @@ use Rattle.sheet_text.specs.declared.sheet.Given.TheVariants as given
 use Rattle.solve_model.specs.declared.bound.Bound.{Bound}
 use Rattle.solve_model.specs.Trees.{Open, work, fresh, leaf_tree, Occurs}
 use Rattle.solve_model.specs.Solutions.{Unknown, named, blank, copy, Valuation, Asked, IsUnknown, in_formula, is_blank, in_frame, IsValuation, PlacesFit, Solves, formula, instance}
-use Rattle.solve_model.specs.Verdicts.{accepted, asked, accepted_in}
-use Rattle.solve_model.specs.MostGeneral.{Refinement, refine, IsInstance, IsMostGeneral, IsLeastNamed, IsNamedLeaf, IsCanonical, IsTheValuation}
+use Rattle.solve_model.specs.Verdicts.{asked, accepted_in}
+use Rattle.solve_model.specs.MostGeneral.{refine, IsInstance, IsLeastNamed, IsNamedLeaf, IsTheValuation}
 use Rattle.solve_laws.specs.Instances.{IsClosedTree}
 use Rattle.solve_laws.proofs.Elements.{nothing}
 use Rattle.written_model.specs.declared.options.Options.{Options}

@@ -1,6 +1,5 @@
 -- With added uses the judgements are those of the steps.
-use Rattle.std.specs.Prelude.{◌≡◌, ◌⊎◌, ◌<◌, ◌+◌, ◌++◌, ℕ, zero, suc, Bool, true, false, List, [], ◌∷◌, length, map, take, Contains, slice_get, unwrap_or, Option, Some, None, option_map, refl}
-use Rattle.std.specs.List.{AllByRecursion}
+use Rattle.std.specs.Prelude.{◌≡◌, ◌⊎◌, ◌+◌, ◌++◌, ℕ, suc, Bool, true, false, List, [], ◌∷◌, length, take, Contains, slice_get, unwrap_or, Option, Some, None, option_map, refl}
 use Rattle.std.specs.Option.{option_map_or}
 use Rattle.std.proofs.Common.{sym, ap, subst, ◌∙◌, arith, inl, inr, cond}
 use Rattle.std.proofs.lemmas.List.{length-map}
@@ -17,24 +16,23 @@ use Rattle.solve_model.specs.declared.bound.Bound.{Bound}
 use Rattle.solve_model.specs.declared.bound.BoundStep.{BoundStep}
 use Rattle.solve_model.specs.Bound.{Standing, settled, candidate, standing}
 use Rattle.solve_model.specs.Firsts.{IsFirstIn, orders}
-use Rattle.solve_model.specs.Solutions.{Unknown, named, blank, copy, Valuation, Asked, IsUnknown, IsValuation, Solves, is_free, orders_of}
-use Rattle.solve_model.specs.Verdicts.{Judgement, accepted, stands, asked, accepted_in, FitsIn, IsJudgement, AreJudged}
+use Rattle.solve_model.specs.Solutions.{named, blank, copy, Valuation, Asked, Solves, is_free, orders_of}
+use Rattle.solve_model.specs.Verdicts.{Judgement, accepted, asked, accepted_in, FitsIn, IsJudgement, AreJudged}
 use Rattle.solve_model.specs.MostGeneral.{IsTheValuation}
-use Rattle.solve_laws.proofs.Elements.{only, here}
+use Rattle.solve_laws.proofs.Elements.{only}
 use Rattle.written_model.specs.declared.options.Options.{Options}
-use Rattle.written_model.specs.declared.report.ReportVerdict.TheVariants as report
 use Rattle.written_model.specs.WrittenSteps.{Use, WrittenStep, steps_in, trees, value_of}
 use Rattle.written_model.specs.Found.{Choice}
 use Rattle.written_model.specs.Written.{Writing, bound_step, written_bound, written_pairs, written_theorem}
 use Rattle.written_model.specs.Again.{judgement_by, judgements_from, use_at, value_again}
 use Rattle.again_laws.specs.Whole.{IsWhole}
-use Rattle.again_laws.proofs.Lists.{get_map, get_mapped, all_from, all_of, some_same, get_within}
+use Rattle.again_laws.proofs.Lists.{get_map, get_mapped, all_from, all_of, some_same}
 use Rattle.again_laws.proofs.Orders.{first_order}
 use Rattle.again_laws.proofs.ValuesStay.{judgement_there, judgement_here}
 use Rattle.answer_laws.proofs.Elements.{all_with}
 use Rattle.answer_laws.proofs.SearchedAlike.{first_with}
 use Rattle.auto_laws.proofs.Added.{IsAddedUse, with_use, IsAdded, added, AreAdded, use_stands}
-use Rattle.auto_laws.proofs.AcceptedMore.{New, NotNew, IsNewAsked, accepted_at, accepted_there, accepted_before, before_accepted, not_new, classified, kept}
+use Rattle.auto_laws.proofs.AcceptedMore.{New, NotNew, IsNewAsked, accepted_there, accepted_before, before_accepted, not_new, classified, kept}
 use Rattle.auto_laws.proofs.SameFormulas.{unknown_same, solves_same}
 use Rattle.auto_laws.proofs.SolvedMore.{other, Extends, solves_more, valuation_more}
 use Rattle.auto_laws.proofs.GeneralMore.{use_old, use_new, all_solve, is_valuation}

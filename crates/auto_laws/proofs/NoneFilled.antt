@@ -1,5 +1,5 @@
 -- Where a filled worksheet is written again, no step is filled.
-use Rattle.std.specs.Prelude.{◌≡◌, ◌&&◌, ℕ, zero, suc, Bool, true, false, List, [], ◌∷◌, map, filter, is_none, slice_get, Option, Some, None, refl}
+use Rattle.std.specs.Prelude.{◌≡◌, ◌&&◌, ℕ, zero, suc, Bool, true, false, List, [], ◌∷◌, map, is_none, slice_get, Some, None, refl}
 use Rattle.std.specs.List.{AllZip, range_with_len}
 use Rattle.std.specs.Option.{option_map_or}
 use Rattle.std.proofs.Common.{sym, ap, subst, ◌∙◌, inl, inr}
@@ -17,7 +17,7 @@ use Rattle.written_model.specs.declared.options.DvMode.{DvMode}
 use Rattle.written_model.specs.declared.options.Options.{Options}
 use Rattle.written_model.specs.WrittenSteps.{Use, WrittenStep, WrittenItem, comment, step, steps_in, over_step, trees, place_tree}
 use Rattle.written_model.specs.Pairs.{lack_of}
-use Rattle.written_model.specs.Found.{Choice, FitsUse, Fits, valued, is_ground}
+use Rattle.written_model.specs.Found.{Choice, Fits, valued, is_ground}
 use Rattle.written_model.specs.Written.{Writing, written_bound, written_pairs}
 use Rattle.written_model.specs.Again.{step_again, judgements_from, again}
 use mathlib.Core.Path.{fun_ext}
@@ -25,7 +25,6 @@ use Rattle.answer_laws.proofs.Moved.{steps-over}
 use Rattle.answer_laws.proofs.SearchStays.{trees_again}
 use Rattle.answer_laws.proofs.SearchedAlike.{first_with}
 use Rattle.auto_model.specs.AutoFilled.{is_unfilled, is_ground_number, earlier_steps, auto_choices, IsAutoChoice, IsFilled, AreFilledFrom}
-use Rattle.auto_laws.proofs.Added.{AreAdded}
 use Rattle.auto_laws.proofs.UsedItems.{AreUsedFrom, all_added, AreDone}
 use Rattle.auto_laws.proofs.FilledAgain.{filled_writing, lack_kept}
 

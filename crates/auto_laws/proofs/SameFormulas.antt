@@ -1,6 +1,5 @@
 -- Worksheets whose steps have the same trees have the same formulas and the same unknowns.
-use Rattle.std.specs.Prelude.{◌≡◌, ℕ, zero, suc, List, [], ◌∷◌, map, Contains, slice_get, slice_index_or, Option, Some, None, refl}
-use Rattle.std.specs.List.{AllByRecursion}
+use Rattle.std.specs.Prelude.{◌≡◌, ℕ, zero, suc, List, [], ◌∷◌, map, Contains, slice_get, slice_index_or, Some, refl}
 use Rattle.std.proofs.Common.{sym, ap, ◌∙◌}
 use Rattle.mm_base.specs.declared.symbols.Pair.{Pair}
 use Rattle.mm_base.specs.declared.tree.Tree.{Tree}
@@ -14,7 +13,7 @@ use Rattle.solve_model.specs.Solutions.{Unknown, Valuation, IsUnknown, in_formul
 use Rattle.written_model.specs.declared.options.Options.{Options}
 use Rattle.written_model.specs.WrittenSteps.{WrittenStep, trees}
 use Rattle.written_model.specs.Written.{Writing, bound_step}
-use Rattle.again_laws.proofs.Lists.{get_map, get_mapped, all_from, all_of}
+use Rattle.again_laws.proofs.Lists.{get_map, get_mapped}
 
 module _ (db : Database) (options : Options) (w : Writing) where
   -- the bound worksheet with these steps

@@ -1,5 +1,5 @@
 -- A solution of what was accepted, with the values of the added uses, solves these too.
-use Rattle.std.specs.Prelude.{◌≡◌, ◌⊎◌, ℕ, zero, suc, List, [], ◌∷◌, length, Contains, slice_get, slice_index_or, Option, Some, None, refl}
+use Rattle.std.specs.Prelude.{◌≡◌, ◌⊎◌, ℕ, List, [], ◌∷◌, Contains, slice_get, slice_index_or, Option, Some, None, refl}
 use Rattle.std.specs.List.{AllByRecursion, AllZip}
 use Rattle.std.proofs.Common.{sym, ap, subst, ◌∙◌, inl, inr}
 use Rattle.mm_base.specs.declared.symbols.Label.{Label}
@@ -26,11 +26,11 @@ use Rattle.solve_laws.proofs.Elements.{nothing}
 use Rattle.solve_laws.proofs.ReplaceLaws.{replace-agree, replace-self}
 use Rattle.written_model.specs.declared.options.Options.{Options}
 use Rattle.written_model.specs.WrittenSteps.{Use, WrittenStep, steps_in, trees, place_tree, value_of}
-use Rattle.written_model.specs.Found.{Choice, valued}
+use Rattle.written_model.specs.Found.{valued}
 use Rattle.written_model.specs.Written.{Writing, bound_step, written_bound, written_pairs, written_theorem}
 use Rattle.again_laws.specs.Whole.{IsWhole}
-use Rattle.again_laws.proofs.Lists.{get_map, get_mapped, all_from, all_of, index_from_get, some_same}
-use Rattle.auto_laws.proofs.Added.{AreGroundBefore, IsAddedUse, AreAdded, value_code, value_typed}
+use Rattle.again_laws.proofs.Lists.{get_map, get_mapped, all_from, all_of, index_from_get}
+use Rattle.auto_laws.proofs.Added.{AreGroundBefore, AreAdded, value_code, value_typed}
 use Rattle.auto_laws.proofs.AcceptedMore.{New, NotNew, IsNewAsked}
 use Rattle.auto_laws.proofs.SameFormulas.{with_steps, formula_same, unknown_same}
 
@@ -147,8 +147,7 @@ module _ (db : Database) (options : Options) (w : Writing) (fs : List WrittenSte
         new_type : (i : ℕ) (u : Use) (x : TypedVariable) → Added i u → Contains u.assertion.vars x → HasType (copy i x.sym x.code)
         new_type i u x n o =
             let is = whole n.choice.label u.assertion n.is.fits.is_usable in
-            let same = X.new i u x.sym x.code n in
-            (
+            let same = X.new i u x.sym x.code n in (
               ap code_of same ∙ value_code db w.bound.place options.dv w.bound.pairs es i n.step n.choice u n.is is x o,
               subst (IsTyped db.rows w.bound.place) (sym same) (value_typed db w.bound.place options.dv w.bound.pairs es i n.step n.choice u n.is is n.at typed x o),
             )

@@ -1,11 +1,8 @@
 -- The items of a filled worksheet, with the uses of their steps.
-use Rattle.std.specs.Prelude.{◌≡◌, ◌+◌, ℕ, zero, suc, List, [], ◌∷◌, map, slice_get, Option, Some, None, refl}
+use Rattle.std.specs.Prelude.{◌≡◌, ◌+◌, ℕ, zero, suc, List, [], ◌∷◌, map, slice_get, Some, refl}
 use Rattle.std.proofs.Common.{sym, ap, subst, ◌∙◌, arith}
-use Rattle.mm_base.specs.declared.tree.Tree.{Tree}
-use Rattle.mm_model.specs.Names.{Name}
 use Rattle.mm_model.specs.BookFacts.{IsDatabase}
 use Rattle.mm_model.specs.Book.{Database}
-use Rattle.sheet_text.specs.declared.sheet.SheetItem.{SheetItem}
 use Rattle.sheet_text.specs.declared.sheet.SheetItem.TheVariants as item
 use Rattle.solve_model.specs.Verdicts.{AreJudged}
 use Rattle.written_model.specs.declared.options.Options.{Options}
@@ -13,9 +10,9 @@ use Rattle.written_model.specs.WrittenSteps.{WrittenStep, WrittenItem, comment, 
 use Rattle.written_model.specs.Written.{Writing, written_step, written_item, written_bound}
 use Rattle.written_model.specs.Again.{judgements_from}
 use Rattle.again_laws.proofs.Lists.{some_same}
-use Rattle.auto_model.specs.AutoFilled.{IsFilled, AreFilledFrom}
-use Rattle.auto_laws.proofs.Added.{IsAddedUse, IsAdded, AreAdded}
-use Rattle.auto_laws.proofs.ChosenUses.{IsDone, IsUsed, step_used}
+use Rattle.auto_model.specs.AutoFilled.{AreFilledFrom}
+use Rattle.auto_laws.proofs.Added.{IsAdded, AreAdded}
+use Rattle.auto_laws.proofs.ChosenUses.{IsDone, step_used}
 
 module _ (db : Database) (options : Options) (w : Writing) where
   abbrev es : List WrittenStep
@@ -99,8 +96,7 @@ module _ (db : Database) (options : Options) (w : Writing) where
     items_used k (step e ∷ items) behind at h =
         let here : slice_get es k ≡ Some e = subst (λ n. slice_get es n ≡ Some e) (sym (plus_zero k)) (at 0 e refl) in
         let u = step_used db options w facts judged k e h.0 here h.3 in
-        let r = items_used (suc k) items h.1 (λ m x q. subst (λ n. slice_get es n ≡ Some x) (sym (next k m)) (at (suc m) x q)) h.4 in
-        (
+        let r = items_used (suc k) items h.1 (λ m x q. subst (λ n. slice_get es n ≡ Some x) (sym (next k m)) (at (suc m) x q)) h.4 in (
           step u.used ∷ r.0,
           (u.used, r.0, refl, u.is, r.1),
           (u.done, r.2),

@@ -8,9 +8,13 @@ ghost use Rattle.written_model.specs.Written.{Writing};
 ghost use Rattle.auto_model.specs.AutoFilled.{FillingAgainChangesNothing};
 ghost use Rattle.auto_laws.specs.Answered.{FilledHasNoProof, FilledIsFixed, FilledProofIsAccepted};
 
-use again_laws::{assertions_are_whole, binds_without_lines, values_stay, verdicts_stay, written_sheet_binds};
+use again_laws::{
+    assertions_are_whole, binds_without_lines, values_stay, verdicts_stay, written_sheet_binds,
+};
 use answer_laws::{answer_is_fixed, answers_are_one, is_written_again, written_reads_back};
-use model_laws::{frames_have_own_expressions, has_database_facts, mandatory_variables_stand, names_are_words};
+use model_laws::{
+    frames_have_own_expressions, has_database_facts, mandatory_variables_stand, names_are_words,
+};
 use push_laws::{written_proof_is_accepted, written_without_proof};
 use sheet_laws::{laid_out_reads_back, read_is_spellable, sound_text_is_read};
 

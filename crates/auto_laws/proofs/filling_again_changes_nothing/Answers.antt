@@ -1,4 +1,3 @@
-use Rattle.auto_laws.proofs.FilledWrites.{Laws}
 use Rattle.auto_laws.proofs.FillsAgain.{filling_again}
 use Rattle.auto_laws.proofs.filling_again_changes_nothing.Goals as goal
 
