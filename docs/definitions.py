@@ -96,6 +96,7 @@ ORDER = [
     ]),
     ("install_model", "A worksheet's theorem put into the text of a database.", [
         ("Installed", "where a theorem goes, and the text with it", "FORMAT, Theorems put into a database"),
+        ("Moved", "the statements of the block, and how labels and frames move", ""),
         ("InstallAnswers", "the answer to a worksheet whose theorem is to be put in", "FORMAT, Theorems put into a database"),
     ]),
     ("select_model", "The assertions that a step of a written worksheet fits. No command reaches it yet.", [
@@ -103,6 +104,9 @@ ORDER = [
     ]),
     ("auto_model", "Steps that are filled with the first assertion that serves. No command reaches it yet.", [
         ("AutoFilled", "the worksheet with its steps filled", ""),
+    ]),
+    ("install_laws", "Laws of a theorem that is put into a text. Of its definitions the answer of a call takes the labels that a proof names.", [
+        ("TwoDatabases", "labels that a proof names; laws of the stack machine over two databases", ""),
     ]),
     ("call_answers", "What a call of the program answers.", [
         ("CommandLine", "the words of the command line", "FORMAT, Command words"),
@@ -122,11 +126,11 @@ ORDER = [
 LAWS = ["model_laws", "theorem_laws", "proof_laws", "solve_laws", "sheet_laws", "chain_laws", "again_laws", "answer_laws", "push_laws", "writing_laws", "headline_laws", "phase_laws", "filling_laws", "whole_laws", "install_laws", "installed_laws", "select_laws", "auto_laws", "fitting_laws", "export_laws", "kept_laws"]
 
 # The statements that no contract names, by crate and file.
-STATED = []
+STATED = [("auto_model", "AutoFilled", ["FillingAgainChangesNothing"])]
 
 HEAD = """# Definitions
 
-What the contracts of this repository mean rests on the definitions in this list. They stand in the crates that have no code of their own, and know nothing of stores of terms, undoing, charts or indexes. The crates stand in reading order, lowest first, and so do the files of each.
+What the contracts of this repository mean rests on the definitions in this list. They stand in the crates that have no code of their own, but for one file of `install_laws`, and know nothing of stores of terms, undoing, charts or indexes. The crates stand in reading order, lowest first, and so do the files of each.
 
 Of each file the list has, in its order, the definitions that other files rest on, the propositions and the rules of faults, each with the line that says what it is. The other definitions are parts of these and stand behind "Parts"; most have such a line in the file. `book` is *Metamath: A Computer Language for Mathematical Proofs*, second edition; FORMAT is [FORMAT.md](FORMAT.md). Where a section is named, the file states it.
 

@@ -3,7 +3,7 @@
 use crate::calls::{
     Outside, Want, call_over, command, compare_row, honest, joined, refused, sheet, text_of,
 };
-use crate::databases::{ANY, DEMO, FORMS, PROP, SETS, SETS_TWICE, THEOREMS};
+use crate::databases::{ANY, DEMO, FORMS, GOOD, PROP, SETS, SETS_TWICE, THEOREMS};
 use crate::row::{GIVEN, NAMED, NORMAL, USUAL};
 use crate::rows::{DEMO_LABELS, DEMO_PROOF, DEMO_REPORT, DEMO_STEPS, IDENTITY_STEPS};
 use mm_base::Status;
@@ -38,6 +38,11 @@ struct NotExported {
 // Its compressed proof keeps `( ph -> ph )` twice.
 const IDENTITY: &str =
     "id $p |- ( ph -> ph ) $= ( wi ax-1 ax-2 ax-mp ) AAABZBZFAACAFABBGFBAFCAFADEE $.
+";
+
+// A proof whose code has a fault, and one of another formula.
+const REFUSED: &str = "bad $p |- ( ph -> ( ps -> ph ) ) $= ( ) ZA $.
+wrong $p |- ( ph -> ( ph -> ph ) ) $= wph wps ax-1 $.
 ";
 
 // The theorem is its hypothesis.
@@ -388,7 +393,7 @@ const NOT_EXPORTED: &[NotExported] = &[
     },
     NotExported {
         shows: "no assertion gives the theorem",
-        database: &[PROP, HYPOTHESIS],
+        database: &[PROP, GOOD, REFUSED, HYPOTHESIS],
         options: USUAL,
         label: "idi",
         line: "no worksheet idi\n",

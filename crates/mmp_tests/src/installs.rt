@@ -304,6 +304,26 @@ $}
 
 const NOT_INSTALLED: &[NotInstalled] = &[
     NotInstalled {
+        shows: "a work variable that stays open",
+        database: &[PROP],
+        header: "id LOC_AFTER=?",
+        steps: "1::ax-1
+2::ax-1
+3::ax-2
+4:2,3:ax-mp
+qed:1,4:ax-mp |- ( ph -> ph )
+",
+        options: USUAL,
+        status: Status::Unfinished,
+        log: "1 fits ax-1
+2 fits ax-1
+3 fits ax-2
+4 fits ax-mp
+qed fits ax-mp
+not finished
+",
+    },
+    NotInstalled {
         shows: "a step that does not fit",
         database: &[PROP],
         header: "r LOC_AFTER=?",
