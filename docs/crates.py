@@ -28,7 +28,7 @@ LAYERS = [
     ("Binding and searching", ["sheet_bind", "ref_search"]),
     ("The store of shared terms", ["undo_trail", "term_model", "term_arena", "term_unify"]),
     ("Laws of the answer", ["again_laws", "answer_laws", "push_laws", "writing_laws", "chain_laws", "whole_laws", "select_laws",
-                            "fitting_laws", "export_laws", "headline_laws", "installed_laws", "kept_laws"]),
+                            "auto_laws", "fitting_laws", "export_laws", "headline_laws", "installed_laws", "kept_laws"]),
     ("Judging", ["step_chain"]),
     ("From judged steps to a written worksheet", ["written_steps", "step_filling", "leaf_names", "step_naming", "step_searching",
                                                   "step_report", "sheet_writing", "proof_tree", "sheet_proof", "phase_laws",

@@ -14,6 +14,7 @@ use Rattle.written_model.specs.declared.options.Options.{Options}
 use Rattle.written_model.specs.Fitting.{all_labels}
 use Rattle.written_model.specs.Found.{Choice, FitsUse, Fits, is_ground}
 use Rattle.written_model.specs.WrittenSteps.{Use, WrittenStep, WrittenItem, comment, step, steps_in}
+use Rattle.written_model.specs.Opened.{IsOpened}
 use Rattle.written_model.specs.Written.{Writing, Answer, Answers, refused, wrote, written_item, written_sheet, written_text}
 use Rattle.auto_model.specs.declared.auto.Auto.{Auto}
 
@@ -77,9 +78,9 @@ pub data AutoAnswers (db : Database) (text : List ℕ) (options : Options) : Ans
   again : {w : Writing} (items : List WrittenItem) {answer : Answer} → Answers db text options (wrote w) → AreFilledFrom db options w 0 w.items items
       → Answers db (layout (filled_sheet db options w items) None) options answer → AutoAnswers db text options answer
 
--- the law: what was filled is filled again as it is
+-- the law: what was filled over the database of a text without a fault is filled again as it is
 abbrev pub FillingAgainChangesNothing : Type 0
-FillingAgainChangesNothing = (db : Database) (options : Options) (text : List ℕ) (w : Writing) → AutoAnswers db text options (wrote w)
+FillingAgainChangesNothing = (db : Database) (options : Options) (text : List ℕ) (w : Writing) → IsOpened options.kinds db → AutoAnswers db text options (wrote w)
     → (v : Writing) × AutoAnswers db (written_text db options w) options (wrote v) × (written_text db options v ≡ written_text db options w)
 
 -- ---- what the function that fills one step gives

@@ -1,0 +1,14 @@
+mod SameFormulas
+mod Added
+mod AcceptedMore
+mod SolvedMore
+mod GeneralMore
+mod JudgedMore
+mod ChosenUses
+mod UsedItems
+mod FilledAgain
+mod FilledSpelled
+mod FilledWrites
+mod NoneFilled
+mod FillsAgain
+mod FilledAnswers
