@@ -99,7 +99,14 @@ const WRONG: [&[&str]; 77] = [
     &["select", "--dv=add", "--dv=given", "P.mm", "r.mmp", "qed"],
     &["select", "--dv=some", "P.mm", "r.mmp", "qed"],
     &["select", "--provable=", "P.mm", "r.mmp", "qed"],
-    &["select", "--provable=T", "--logic=T", "P.mm", "r.mmp", "qed"],
+    &[
+        "select",
+        "--provable=T",
+        "--logic=T",
+        "P.mm",
+        "r.mmp",
+        "qed",
+    ],
 ];
 
 // Words of commands that are answered by the first fault of the database.
