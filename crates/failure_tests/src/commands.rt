@@ -255,6 +255,25 @@ const OTHERS: &[Row] = &[
         ..TRIAL
     },
     Row {
+        name: "a text that is no worksheet, with a step that is asked about",
+        words: &["select", "P.mm", "r.mmp", "qed"],
+        store: Device::Fails(3),
+        out: Device::Fails(1),
+        log: Device::Fails(2),
+        status: Status::Sheet,
+        written: "",
+        told: "sheet error 40 NoHeader at line 1\n",
+        ..TRIAL
+    },
+    Row {
+        name: "no log for a text that is no worksheet, with a step that is asked about",
+        words: &["select", "P.mm", "r.mmp", "qed"],
+        store: Device::Fails(3),
+        status: Status::Write,
+        written: "",
+        ..TRIAL
+    },
+    Row {
         name: "no log for a text that is no database",
         words: &["unify", "r.mmp", "P.mm"],
         store: Device::Fails(2),

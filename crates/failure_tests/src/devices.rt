@@ -1,7 +1,9 @@
 //! A worksheet over devices of which each call fails in turn.
 
 use crate::calls::{Device, Want, call, compare, store_of, text_of};
-use crate::given::{BLOCK, IN_PLACE, INTO_DATABASE, PROP, REPORT, SHEET, TO_OUTPUT, WRITTEN};
+use crate::given::{
+    BLOCK, IN_PLACE, INTO_DATABASE, LABELS, PROP, REPORT, SHEET, TO_OUTPUT, WRITTEN,
+};
 use mm_base::{MemStore, Status};
 use std::alloc::Global;
 use std::process::Abort;
@@ -238,6 +240,46 @@ const INSTALLED_ROWS: &[Row] = &[
     },
 ];
 
+// The labels that fit its last step are listed, and nothing is told.
+const LISTED: Row = Row {
+    log: Device::Fails(1),
+    written: "ax-mp\n",
+    told: "",
+    ..OUTPUT
+};
+
+const LISTED_ROWS: &[Row] = &[
+    LISTED,
+    Row {
+        name: "the read of the worksheet",
+        store: Device::Fails(2),
+        log: Device::Sound,
+        status: Status::Read,
+        written: "",
+        told: "read fault r.mmp\n",
+        ..LISTED
+    },
+    Row {
+        name: "a call of the store that does not come",
+        store: Device::Fails(3),
+        ..LISTED
+    },
+    Row {
+        name: "the write to the output",
+        out: Device::Fails(1),
+        status: Status::Write,
+        written: "",
+        ..LISTED
+    },
+    Row {
+        name: "the write to the output, after a part",
+        out: Device::Room(3),
+        status: Status::Write,
+        written: "ax-",
+        ..LISTED
+    },
+];
+
 // Calls the program over a store, and compares with the row.
 fn check_over(
     rt: &impl Abort,
@@ -294,6 +336,11 @@ fn worksheets_in_place(rt: HostRuntime) -> Result<(), Fail> {
 #[test]
 fn databases_with_a_theorem(rt: HostRuntime) -> Result<(), Fail> {
     check_rows(&rt, rt.alloc(), INTO_DATABASE, INSTALLED_ROWS)
+}
+
+#[test]
+fn labels_that_fit_a_step(rt: HostRuntime) -> Result<(), Fail> {
+    check_rows(&rt, rt.alloc(), LABELS, LISTED_ROWS)
 }
 
 // What was put in its own place is put there again.

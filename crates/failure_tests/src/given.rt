@@ -58,3 +58,6 @@ pub const IN_PLACE: &[&str] = &["unify", "--proof=normal", "--in-place", "P.mm",
 
 /// The words that write the database with its theorem to the output.
 pub const INTO_DATABASE: &[&str] = &["install", "--proof=normal", "P.mm", "r.mmp"];
+
+/// The words that list what fits its last step.
+pub const LABELS: &[&str] = &["select", "--proof=normal", "P.mm", "r.mmp", "qed"];

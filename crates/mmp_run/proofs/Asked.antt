@@ -1,5 +1,5 @@
 -- From what came of a worksheet to the ending of `select`.
-use Rattle.std.proofs.Common.{◌≡◌, ℕ, List, true, false, Option, Some, None, Result, Ok, Err, IfOk, IfSome, IsSome, ◌∙◌, sym, ap, refl, subst}
+use Rattle.std.proofs.Common.{◌≡◌, ℕ, List, true, false, Option, Some, None, Result, Ok, Err, IfOk, IfSome, IsSome, ◌∙◌, ap}
 use Rattle.call_answers.specs.declared.ending.Ending.{Ending}
 use Rattle.call_answers.specs.Asks.{Asks, GivesSelection}
 use Rattle.fault_lines.specs.FaultLines.{refusal_line}

@@ -6,11 +6,12 @@ ghost use Rattle.mm_base.specs.declared.kinds.Kinds.{Kinds};
 ghost use Rattle.mm_database.specs.Books.{database_of};
 ghost use Rattle.mm_database.specs.Opened.{IsOpened};
 ghost use Rattle.mm_frames.specs.Contents.{contents_of};
+ghost use Rattle.mm_model.specs.Book.{Database as DatabaseOf};
 ghost use Rattle.mm_model.specs.Statements.{database_fault};
 ghost use Rattle.mmp_run.specs.Asked.{IsAsked};
 ghost use Rattle.mmp_run.specs.Refusals.{refusal};
 ghost use Rattle.mmp_run.specs.Refused.{IsTextEnding};
-ghost use Rattle.ref_select.specs.Selecting.{answer_of};
+ghost use Rattle.ref_select.specs.Selecting.{IsOfWriting, answer_of};
 ghost use Rattle.select_model.specs.Selected.{no_such_step_line, step_open_line};
 ghost use Rattle.sheet_unify.specs.Answered.{IsWritten, SaysSheet};
 ghost use Rattle.sheet_unify.specs.Made.{HasText, IsSaid};
@@ -26,7 +27,7 @@ use ref_select::{Selection, WrittenSheet, labels_text, select_step, selection_is
 use sheet_text::Sheet;
 use sheet_unify::{Outcome, unify_read};
 use std::alloc::Global;
-use written_model::Options;
+use written_model::{DvMode, Options};
 
 // The ending that tells that no step has this name.
 fn refuse_name(alloc: Global, step: &str) -> Result<Ending, Memory>
@@ -79,6 +80,19 @@ fn end_selection(
     }
 }
 
+// The worksheet as it is written, of what came of one.
+fn written_sheet<'o>(outcome: &'o Outcome, mode: DvMode) -> WrittenSheet<'o, 'o, 'o>
+    ensures { (db : DatabaseOf) (options : Options) (w : Writing) → mode ≡ options.dv → IsWritten db options w outcome.now → IsOfWriting db options w result }
+{
+    WrittenSheet {
+        place: outcome.place,
+        mode,
+        given: &outcome.given,
+        items: outcome.sheet.items.as_slice(),
+        trees: outcome.trees.as_slice(),
+    }
+}
+
 // The ending for the step of this name in what came of a worksheet.
 fn end_written(
     alloc: Global,
@@ -94,15 +108,7 @@ fn end_written(
     ensures ending { IfOk result IsTextEnding }
 {
     selection_is_the_answer();
-    let items = outcome.sheet.items.as_slice();
-    let trees = outcome.trees.as_slice();
-    let written = WrittenSheet {
-        place: outcome.place,
-        mode: options.dv,
-        given: &outcome.given,
-        items,
-        trees,
-    };
+    let written = written_sheet(outcome, options.dv);
     let selection = select_step(alloc, db, &written, step.as_bytes())?;
     end_selection(alloc, db, &selection, step)
 }

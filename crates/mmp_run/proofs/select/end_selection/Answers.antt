@@ -9,3 +9,8 @@ returns-in-NoSuchStep-clause-gives c = λ kinds text opened.
 pub returns-in-StepOpen-clause-gives : goal.returns-in-StepOpen-clause-gives
 returns-in-StepOpen-clause-gives c = λ kinds text opened.
     rw c.in-StepOpen.is (gives_open (database_of kinds text c.args.db.now.rows c.args.db.now.parsed) c.args.step.now c.refuse_open.result c.refuse_open.ensures)
+
+pub returns-in-Fits-clause-gives : goal.returns-in-Fits-clause-gives
+returns-in-Fits-clause-gives c = λ kinds text opened.
+    let shows = c.end_labels.ensures.shows kinds text opened in
+    rw c.in-Fits.is (rw (← c.as_slice.ensures) shows)
