@@ -25,7 +25,7 @@ LAYERS = [
     ("Formulas", ["syntax_grammar", "formula_parse", "mm_database"]),
     ("Text of worksheets", ["sheet_read", "sheet_print"]),
     ("Small calls under the worksheet", ["work_vars", "pair_set", "distinct_vars", "hyp_order", "hyp_derive"]),
-    ("Binding and searching", ["sheet_bind", "ref_search"]),
+    ("Binding and searching", ["sheet_bind", "ref_search", "auto_fill"]),
     ("The store of shared terms", ["undo_trail", "term_model", "term_arena", "term_unify"]),
     ("Laws of the answer", ["again_laws", "answer_laws", "push_laws", "writing_laws", "chain_laws", "whole_laws", "select_laws",
                             "auto_laws", "fitting_laws", "export_laws", "headline_laws", "installed_laws", "kept_laws"]),
@@ -33,7 +33,7 @@ LAYERS = [
     ("From judged steps to a written worksheet", ["written_steps", "step_filling", "leaf_names", "step_naming", "step_searching",
                                                   "step_report", "sheet_writing", "proof_tree", "sheet_proof", "phase_laws",
                                                   "filling_laws"]),
-    ("The program", ["proof_export", "sheet_unify", "sheet_theorem", "ref_select", "sheet_gen", "mmp_run", "mmp"]),
+    ("The program", ["proof_export", "sheet_unify", "sheet_theorem", "ref_select", "sheet_filling", "sheet_gen", "mmp_run", "mmp"]),
     ("Tests", ["database_tests", "sheet_tests", "step_tests", "mmp_tests", "failure_tests", "install_tests"]),
 ]
 
