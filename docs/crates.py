@@ -33,7 +33,7 @@ LAYERS = [
     ("From judged steps to a written worksheet", ["written_steps", "step_filling", "leaf_names", "step_naming", "step_searching",
                                                   "step_report", "sheet_writing", "proof_tree", "sheet_proof", "phase_laws",
                                                   "filling_laws"]),
-    ("The program", ["proof_export", "sheet_unify", "sheet_theorem", "sheet_gen", "mmp_run", "mmp"]),
+    ("The program", ["proof_export", "sheet_unify", "sheet_theorem", "ref_select", "sheet_gen", "mmp_run", "mmp"]),
     ("Tests", ["database_tests", "sheet_tests", "step_tests", "mmp_tests", "failure_tests", "install_tests"]),
 ]
 

@@ -98,8 +98,8 @@ ORDER = [
         ("Installed", "where a theorem goes, and the text with it", "FORMAT, Theorems put into a database"),
         ("InstallAnswers", "the answer to a worksheet whose theorem is to be put in", "FORMAT, Theorems put into a database"),
     ]),
-    ("select_model", "The assertions that a step of a written worksheet fits. No command reaches it yet.", [
-        ("Selected", "the answer to a worksheet of which one step is asked about", ""),
+    ("select_model", "The assertions that a step of a written worksheet fits.", [
+        ("Selected", "the answer to a worksheet of which one step is asked about", "FORMAT, The labels that fit a step"),
     ]),
     ("auto_model", "Steps that are filled with the first assertion that serves. No command reaches it yet.", [
         ("AutoFilled", "the worksheet with its steps filled", ""),
@@ -114,6 +114,7 @@ ORDER = [
         ("Exports", "what `export` answers to an accepted proof", "FORMAT, Proofs as worksheets"),
         ("Kept", "what a text with a theorem in it keeps of the text", "PROVED, What it means for a worksheet"),
         ("PutsIn", "what `install` answers to a worksheet", "FORMAT, Theorems put into a database"),
+        ("Asks", "what `select` answers to a step of a worksheet", "FORMAT, The labels that fit a step"),
         ("CallAnswers", "the answer by cases: the main theorem", "FORMAT, Statuses"),
         ("Given", "what a call leaves behind of its answer in files, output and log", "FORMAT, Statuses"),
     ]),

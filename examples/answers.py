@@ -13,6 +13,8 @@ import sys
 
 HERE = os.path.dirname(os.path.abspath(__file__))
 SET = "/usr/share/metamath/databases/set.mm"
+# Stands for the worksheet where words follow it; else it is the last word.
+SHEET = "SHEET"
 
 PARTS = [
     ("Propositional logic: P.mm", "Implication and negation, two axioms and modus ponens.", [
@@ -78,6 +80,12 @@ PARTS = [
         ("no_fit.mmp", ["install", "P.mm"], 1, "A worksheet that is not finished."),
         ("book_finished.mmp", ["install", "demo0.mm"], 3, "A theorem that the database has."),
     ]),
+    ("Labels that fit a step", "", [
+        ("searched_finished.mmp", ["select", "Q.mm", SHEET, "qed"], 0, "An axiom and its copy."),
+        ("distinct_finished.mmp", ["select", "Q.mm", SHEET, "1"], 0, "An assertion that needs a pair of distinct variables."),
+        ("distinct_finished.mmp", ["select", "--dv=given", "Q.mm", SHEET, "1"], 0, "The same where only given pairs are allowed: nothing fits."),
+        ("identity_unfinished.mmp", ["select", "P.mm", SHEET, "qed"], 3, "A step whose places have work variables."),
+    ]),
     ("The program by itself", "", [
         (None, ["trial", "3"], 0, "A worksheet of three blocks."),
         (None, ["unify", "P.mm"], 4, "Words that fit no command."),
@@ -106,7 +114,9 @@ def block(text):
 
 def shown(program, sheet, words, status, about, database):
     """One example: the worksheet, the command, and the answer."""
-    words = [database if word == SET else word for word in words] + ([sheet] if sheet else [])
+    if sheet and SHEET not in words:
+        words = words + [SHEET]
+    words = [{SET: database, SHEET: sheet}.get(word, word) for word in words]
     done = subprocess.run([program] + words, cwd=HERE, stdout=subprocess.PIPE, stderr=subprocess.PIPE)
     if done.returncode != status:
         sys.exit(f"{' '.join(words)}: status {done.returncode}, and not {status}: {done.stderr.decode()}")

@@ -63,19 +63,17 @@ pub fn joined(alloc: Global, parts: &[&str]) -> Result<Vec<u8>, AllocError> {
     Ok(text)
 }
 
-/// The words of a command: the first, its options, and the two behind them.
+/// The words of a command: the first, its options, and those behind them.
 pub fn command(
     alloc: Global,
     first: &'static str,
     options: &[&'static str],
-    behind: [&'static str; 2],
+    behind: &[&'static str],
 ) -> Result<Vec<&'static str>, AllocError> {
     let mut words = Vec::new(alloc);
     words.push(first)?;
     words.extend_from_slice(options)?;
-    for word in behind {
-        words.push(word)?;
-    }
+    words.extend_from_slice(behind)?;
     Ok(words)
 }
 

@@ -446,7 +446,7 @@ fn check_again(
     database: &[u8],
     written: &[u8],
 ) -> Result<(), Fail> {
-    let words = command(alloc, "unify", row.options, ["P.mm", "r.mmp"])?;
+    let words = command(alloc, "unify", row.options, &["P.mm", "r.mmp"])?;
     let again = call_over(alloc, words.as_slice(), honest(database, written))?;
     assert_eq!(rt;
         text_of(again.out.bytes()),
@@ -462,7 +462,7 @@ fn check_exported(rt: &impl Abort, alloc: Global, row: Exported) -> Result<(), F
     let database = joined(alloc, row.database)?;
     let header = joined(alloc, &[row.label, " LOC_AFTER=?"])?;
     let written = sheet(alloc, text_of(header.as_slice()), &[row.steps, row.tail])?;
-    let words = command(alloc, "export", row.options, ["P.mm", row.label])?;
+    let words = command(alloc, "export", row.options, &["P.mm", row.label])?;
     let ended = call_over(alloc, words.as_slice(), over(database.as_slice()))?;
     let want = Want {
         status: Status::Finished,
@@ -475,7 +475,7 @@ fn check_exported(rt: &impl Abort, alloc: Global, row: Exported) -> Result<(), F
 
 fn check_not_exported(rt: &impl Abort, alloc: Global, row: NotExported) -> Result<(), Fail> {
     let database = joined(alloc, row.database)?;
-    let words = command(alloc, "export", row.options, ["P.mm", row.label])?;
+    let words = command(alloc, "export", row.options, &["P.mm", row.label])?;
     let ended = call_over(alloc, words.as_slice(), over(database.as_slice()))?;
     compare_row(rt, row.shows, &ended, refused(Status::Proof, row.line));
     Ok(())

@@ -442,7 +442,7 @@ fn install(
     database: &[u8],
     given: &[u8],
 ) -> Result<Ended, Memory> {
-    let words = command(alloc, "install", options, ["P.mm", "r.mmp"])?;
+    let words = command(alloc, "install", options, &["P.mm", "r.mmp"])?;
     call_over(alloc, words.as_slice(), over(database, given))
 }
 

@@ -7,9 +7,10 @@ use std::test::Fail;
 
 const USAGE: &str =
     "usage: mmp unify [--proof=normal|compressed] [--in-place] [--dv=add|given] [--provable=T] [--logic=T] DB SHEET | \
-mmp verify DB LABEL | mmp trial N | mmp export [options] DB LABEL | mmp install [options] DB SHEET\n";
+mmp verify DB LABEL | mmp trial N | mmp export [options] DB LABEL | mmp install [options] DB SHEET | \
+mmp select [options] DB SHEET STEP\n";
 
-const WRONG: [&[&str]; 60] = [
+const WRONG: [&[&str]; 77] = [
     &[],
     &[""],
     &["check", "P.mm", "r.mmp"],
@@ -82,10 +83,27 @@ const WRONG: [&[&str]; 60] = [
     &["install", "--logic", "P.mm", "r.mmp"],
     &["install", "--logic=|-", "P.mm", "r.mmp"],
     &["install", "--provable=T", "--logic=T", "P.mm", "r.mmp"],
+    &["select"],
+    &["select", "P.mm"],
+    &["select", "P.mm", "r.mmp"],
+    &["select", "P.mm", "r.mmp", ""],
+    &["select", "P.mm", "", "qed"],
+    &["select", "", "r.mmp", "qed"],
+    &["select", "--P.mm", "r.mmp", "qed"],
+    &["select", "P.mm", "--r.mmp", "qed"],
+    &["select", "P.mm", "r.mmp", "--qed"],
+    &["select", "P.mm", "r.mmp", "qed", "1"],
+    &["select", "P.mm", "--dv=given", "r.mmp", "qed"],
+    &["select", "P.mm", "r.mmp", "qed", "--dv=given"],
+    &["select", "--in-place", "P.mm", "r.mmp", "qed"],
+    &["select", "--dv=add", "--dv=given", "P.mm", "r.mmp", "qed"],
+    &["select", "--dv=some", "P.mm", "r.mmp", "qed"],
+    &["select", "--provable=", "P.mm", "r.mmp", "qed"],
+    &["select", "--provable=T", "--logic=T", "P.mm", "r.mmp", "qed"],
 ];
 
 // Words of commands that are answered by the first fault of the database.
-const RIGHT: [&[&str]; 12] = [
+const RIGHT: [&[&str]; 15] = [
     &["unify", "P.mm", "r.mmp"],
     &["unify", "--proof=normal", "P.mm", "r.mmp"],
     &["unify", "--in-place", "--proof=compressed", "P.mm", "r.mmp"],
@@ -122,6 +140,18 @@ const RIGHT: [&[&str]; 12] = [
         "--logic=|-",
         "P.mm",
         "r.mmp",
+    ],
+    &["select", "P.mm", "r.mmp", "qed"],
+    &["select", "--dv=given", "P.mm", "r.mmp", "1"],
+    &[
+        "select",
+        "--logic=|-",
+        "--proof=normal",
+        "--provable=wff",
+        "--dv=add",
+        "P.mm",
+        "r.mmp",
+        "d1",
     ],
 ];
 

@@ -67,7 +67,7 @@ fn check_over(
 }
 
 fn check_row(rt: &impl Abort, alloc: Global, row: Row) -> Result<(), Fail> {
-    let words = command(alloc, "unify", row.options, ["P.mm", "r.mmp"])?;
+    let words = command(alloc, "unify", row.options, &["P.mm", "r.mmp"])?;
     let database = joined(alloc, row.database)?;
     check_over(rt, alloc, words.as_slice(), database.as_slice(), row)
 }
