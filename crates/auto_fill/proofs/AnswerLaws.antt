@@ -1,11 +1,10 @@
 -- The first assertion and the first tuple that serve a step, among all labels with all tuples.
 use Rattle.std.proofs.Common.{◌≡◌, ◌↔◌, ℕ, zero, suc, ◌+◌, ◌<◌, ◌≤◌, ◌==◌, Bool, true, false, cond, List, [], ◌∷◌, ◌++◌, length, map, filter, get_or, nat_lt}
-use Rattle.std.proofs.Common.{slice_get, Option, Some, None, option_map, refl, sym, ap, subst, ◌∙◌, ◌⊎◌, inl, inr, add-one, arith, Result, Ok, Err, IfOk}
+use Rattle.std.proofs.Common.{slice_get, Option, Some, None, option_map, refl, sym, ap, subst, ◌∙◌, ◌⊎◌, inl, inr, arith, Result, Ok, Err, IfOk}
 use Rattle.std.proofs.lemmas.Bool.{cases_Bool}
 use Rattle.std.proofs.lemmas.Bool.Decides.{nat_tests}
 use Rattle.std.proofs.lemmas.List.{length-map, map-id, append-nil}
 use Rattle.std.proofs.lemmas.List.FromFn.{filter_of_map_range_with_len_more}
-use Rattle.std.proofs.lemmas.List.Elements.{filter-append}
 use Rattle.std.proofs.lemmas.List.Sums.{count_by-le-length}
 use Rattle.std.proofs.lemmas.Option.{get_or_from_slice_get, slice_get-get_or, slice_get-map, slice_get_within}
 use Rattle.std.specs.List.{AllByRecursion, AllZip, flat_map, range_with_len, slice_index_or}
@@ -21,7 +20,7 @@ use Rattle.mm_model.specs.Book.{Database, Assertion, position_of}
 use Rattle.mm_frames.specs.Contents.{Contents}
 use Rattle.mm_database.specs.declared.assertions.Parsed.{Parsed}
 use Rattle.mm_database.specs.Books.{parsed_at, usable_with}
-use Rattle.mm_database.specs.ByHead.{by_head, has_head}
+use Rattle.mm_database.specs.ByHead.{by_head}
 use Rattle.mm_database.specs.Opened.{Opened, labels_before}
 use Rattle.sheet_text.specs.declared.sheet.Given.{Given}
 use Rattle.sheet_text.specs.declared.sheet.Given.TheVariants as given
@@ -30,11 +29,10 @@ use Rattle.written_model.specs.declared.options.DvMode.{DvMode}
 use Rattle.written_model.specs.declared.options.DvMode.TheVariants as dv
 use Rattle.written_model.specs.declared.options.Options.{Options}
 use Rattle.written_model.specs.Found.{Choice, FitsUse, Fits, is_ground}
-use Rattle.written_model.specs.Fitting.{all_labels}
 use Rattle.written_model.specs.Pairs.{lack_of}
 use Rattle.written_model.specs.Written.{Writing}
 use Rattle.written_model.specs.WrittenSteps.{Use, WrittenStep, place_tree, value_of, no_tree, steps_in, trees}
-use Rattle.auto_model.specs.AutoFilled.{is_ground_number, earlier_steps, tuples, step_tuples, choice_of, auto_choices, IsAuto, IsAutoChoice}
+use Rattle.auto_model.specs.AutoFilled.{is_ground_number, earlier_steps, tuples, step_tuples, choice_of, auto_choices, IsAutoChoice}
 use Rattle.auto_model.specs.declared.auto.Auto.{Auto}
 use Rattle.ref_search.specs.declared.wanted.Wanted.{Wanted}
 use Rattle.ref_search.specs.Matching.{valued_by, NeverBecomes}
@@ -43,7 +41,7 @@ use Rattle.ref_search.specs.Placing.{trees_at}
 use Rattle.ref_search.specs.Searching.{book, FitsAs, FitsLabel, ForEachText, head_of}
 use Rattle.ref_search.specs.Wholes.{IsAllowed}
 use Rattle.ref_search.proofs.Lists.{same_number, numbers_differ, all_weaker, all_front}
-use Rattle.ref_search.proofs.PlaceLaws.{append_none, all_none, cons_head, cons_tail, tree_there}
+use Rattle.ref_search.proofs.PlaceLaws.{all_none, cons_head, cons_tail, tree_there}
 use Rattle.ref_search.proofs.FitLaws.{in_range, range_count}
 use Rattle.ref_search.proofs.LabelLaws.{Standing, at_variable, at_head as at_formula_head, never, standing, some_is_some, none_is_none, usable_none, usable_kept, none_where}
 use Rattle.ref_search.proofs.SearchLaws.{stands_there}

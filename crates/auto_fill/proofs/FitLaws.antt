@@ -1,5 +1,5 @@
 -- How one assertion serves a step: its conclusion first, then the tuples of places.
-use Rattle.std.proofs.Common.{◌≡◌, ℕ, Bool, true, false, List, [], ◌∷◌, length, Option, Some, None, option_map, sym, subst, ◌∙◌, Result, Ok, Err, IfOk}
+use Rattle.std.proofs.Common.{◌≡◌, ℕ, Bool, true, false, List, [], length, Option, Some, None, option_map, sym, subst, ◌∙◌, Result, Ok, Err, IfOk}
 use Rattle.mm_base.specs.declared.errors.Memory.{Memory}
 use Rattle.mm_base.specs.declared.symbols.Sym.{Sym}
 use Rattle.mm_base.specs.declared.symbols.Pair.{Pair}
@@ -17,9 +17,11 @@ use Rattle.auto_fill.specs.declared.walking.Fit.{Fit}
 use Rattle.auto_fill.specs.Walking.{HasFit, IsFirstFit, IsFitOf}
 
 module _ (given : Option (List Pair)) (frame : Frame) (vars others : List Sym) (old new : List Binding) (tree : Tree) (hyps : List Tree) (w : Wanted) (places : List ℕ)
-    (fits : Bool) (none : old ≡ []) (same : others ≡ vars) (m : IsMatched others (Becomes tree w.formula) old new fits) where
+    (formula : Tree) (fits : Bool) (none : old ≡ []) (same : others ≡ vars) (there : formula ≡ w.formula) (m : IsMatched others (Becomes tree formula) old new fits) where
   conclusion : (a : Assertion) (b : Bool) → a.tree ≡ tree → fits ≡ b → IsMatched vars (Becomes a.tree w.formula) [] new b
-  conclusion a b e f = matched_from vars others (Becomes a.tree w.formula) [] old new fits b same none f (subst (λ t. IsMatched others (Becomes t w.formula) old new fits) (sym e) m)
+  conclusion a b e f =
+      matched_from vars others (Becomes a.tree w.formula) [] old new fits b same none f
+      (subst (λ t. IsMatched others (Becomes a.tree t) old new fits) there (subst (λ t. IsMatched others (Becomes t formula) old new fits) (sym e) m))
 
   pub refused_fit : fits ≡ false → (a : Assertion) → IsRule a frame vars → a.tree ≡ tree → IsFitOf a given w places None
   refused_fit f a rule e = record {

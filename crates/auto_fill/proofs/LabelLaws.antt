@@ -1,9 +1,9 @@
 -- Whether the assertion of a label serves.
-use Rattle.std.proofs.Common.{◌≡◌, ℕ, ◌+◌, ◌<◌, ◌≤◌, ◌==◌, List, [], ◌∷◌, length, map, get_or, Option, Some, None, option_map, sym, ap, subst, ◌∙◌, inl, inr, arith}
+use Rattle.std.proofs.Common.{◌≡◌, ℕ, ◌+◌, ◌<◌, ◌≤◌, ◌==◌, List, length, map, get_or, Option, Some, None, option_map, sym, ap, subst, ◌∙◌, inl, inr, arith}
 use Rattle.std.proofs.Common.{Result, Ok, Err, IfOk}
 use Rattle.std.proofs.lemmas.Bool.{cases_Bool}
 use Rattle.std.proofs.lemmas.List.{length-map}
-use Rattle.std.specs.List.{AllByRecursion, flat_map, range_with_len}
+use Rattle.std.specs.List.{flat_map, range_with_len}
 use Rattle.std.specs.Option.{option_copied}
 use Rattle.std.specs.Borrow.{Bor}
 use Rattle.mm_base.specs.declared.errors.Memory.{Memory}
@@ -16,7 +16,7 @@ use Rattle.mm_model.specs.declared.frames.Frame.{Frame}
 use Rattle.mm_model.specs.Statements.{statements}
 use Rattle.mm_model.specs.Frames.{frame_of}
 use Rattle.mm_model.specs.Book.{Assertion}
-use Rattle.mm_frames.specs.Contents.{Contents, contents_of, frame_at}
+use Rattle.mm_frames.specs.Contents.{contents_of, frame_at}
 use Rattle.model_laws.specs.DatabaseLaws.{FramesAreWhole}
 use Rattle.solve_model.specs.Firsts.{IsFirstOrNone}
 use Rattle.written_model.specs.WrittenSteps.{no_tree, value_of}

@@ -1,6 +1,6 @@
 -- The first tuple that serves, place by place.
-use Rattle.std.proofs.Common.{◌≡◌, ℕ, zero, suc, ◌+◌, ◌<◌, ◌≤◌, Bool, true, false, List, [], ◌∷◌, length, map, take, drop, get_or}
-use Rattle.std.proofs.Common.{Option, Some, None, option_map, refl, sym, ap, subst, ◌∙◌, inl, inr, arith, Result, Ok, Err, IfOk}
+use Rattle.std.proofs.Common.{◌≡◌, ℕ, zero, suc, ◌+◌, ◌<◌, ◌≤◌, true, false, List, [], ◌∷◌, length, map, take, drop, get_or}
+use Rattle.std.proofs.Common.{Option, Some, None, option_map, refl, sym, ap, subst, ◌∙◌, arith, Result, Ok, Err, IfOk}
 use Rattle.std.specs.Prelude.{slice_get}
 use Rattle.std.proofs.lemmas.List.{take_all}
 use Rattle.std.specs.List.{AllByRecursion, flat_map}
@@ -14,8 +14,8 @@ use Rattle.solve_model.specs.Firsts.{IsFirstOrNone}
 use Rattle.written_model.specs.Found.{is_ground}
 use Rattle.written_model.specs.WrittenSteps.{no_tree, value_of}
 use Rattle.auto_model.specs.AutoFilled.{tuples}
-use Rattle.ref_search.specs.Matching.{Binding, valued_by, Agrees, AreBound, IsOver, IsLonger, IsMatched, Becomes}
-use Rattle.ref_search.specs.Completing.{use_of, IsRule, IsEnd, Completes}
+use Rattle.ref_search.specs.Matching.{Binding, valued_by, Agrees, AreBound, IsMatched, Becomes}
+use Rattle.ref_search.specs.Completing.{use_of, IsRule, Completes}
 use Rattle.ref_search.specs.Placing.{trees_at, CanComplete, FirstFrom}
 use Rattle.ref_search.proofs.Lists.{all_at}
 use Rattle.ref_search.proofs.PlaceLaws.{first_map, all_none, advance, reached, passed, cons_head, cons_tail, rule_over, other_fails, fewer, more}

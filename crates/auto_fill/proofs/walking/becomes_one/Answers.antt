@@ -1,7 +1,7 @@
-use Rattle.std.proofs.Common.{get_or, false, refl, ap, ◌∙◌, arith}
+use Rattle.std.proofs.Common.{get_or, false, refl, ◌∙◌, arith}
 use Rattle.ref_search.specs.Matching.{Becomes}
 use Rattle.ref_search.proofs.PlaceLaws.{cut_back, matched_from, tree_there}
-use Rattle.auto_fill.proofs.WalkLaws.{place_there, ground_at, one_differs, none_at_all}
+use Rattle.auto_fill.proofs.WalkLaws.{place_there, ground_at, one_differs}
 use Rattle.auto_fill.proofs.walking.becomes_one.Goals as goal
 
 pub loop-i-preserved : goal.loop-i-preserved
