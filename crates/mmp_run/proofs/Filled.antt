@@ -45,8 +45,8 @@ module _ (law : AllFill) (options : Options) (text sheet : List ℕ) (d : Opened
   with_answer answer end found gives = record {
     db = book options text d;
     is_database = is.database;
-    fills = law (book options text d) sheet options w is_filled.0 answer end (record { text = text; sound = is.no_fault; is_database = is.database }) answers is_filled.1.0
-        (subst (λ (t : List ℕ). Answers (book options text d) t options answer) is_filled.1.1 found) gives;
+    fills = law (book options text d) sheet options w is_filled.0 answer end (record { text = text; sound = is.no_fault; is_database = is.database }) answers is_filled.1
+        (subst (λ (t : List ℕ). Answers (book options text d) t options answer) is_filled.2 found) gives;
   }
 
   pub outcome_fills : (outcome : Outcome) (end : Result Ending memory.Memory) → IsOutcome (book options text d) filled options outcome
@@ -65,13 +65,6 @@ module _ (law : AllFill) (options : Options) (text sheet : List ℕ) (d : Opened
       → IfOk end (IsFilled options text sheet)
   fault_fills fault (Err e) found some says = tt
   fault_fills fault (Ok end) found some says = told (refusal_of fault) end some found says
-
--- ---- the text with its steps filled
-
-pub text_fills : (options : Options) (text sheet : List ℕ) (d : Opened) (w : Writing) (filled : List ℕ) (end : Result Ending memory.Memory)
-    → IsFilledText (book options text d) options w filled → (IsFilledText (book options text d) options w filled → IfOk end (IsFilled options text sheet))
-    → IfOk end (IsFilled options text sheet)
-text_fills options text sheet d w filled end is fills = fills is
 
 -- ---- the first writing
 
