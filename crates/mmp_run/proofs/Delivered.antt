@@ -5,7 +5,7 @@ use Rattle.std.specs.Borrow.{Bor}
 use Rattle.std.specs.Option.{option_copied}
 use Rattle.call_answers.specs.declared.ending.Ending.{Ending}
 use Rattle.call_answers.specs.CallAnswers.{CallAnswer, bad_words, ReadsNothing, database_of, no_files}
-use Rattle.call_answers.specs.CommandLine.{Command, unify, verify, trial, export, install, select, command_of, usage_line}
+use Rattle.call_answers.specs.CommandLine.{Command, unify, verify, trial, export, install, select, auto, command_of, usage_line}
 use Rattle.call_answers.specs.Given.{Told, is_written, in_place_of, target, IsSettled, GivesWhole, GivesPart, IsPut, IsGiven, IsReadFault, SaysReadFault, NoReadFault, MayAnswer, IsCutShort}
 use Rattle.mm_base.specs.Outside.{Files, Rose, NoneFell}
 use Rattle.mm_base.specs.declared.status.Status.{Status}
@@ -267,6 +267,7 @@ no_place (Some (trial count)) e = refl
 no_place (Some (export options command)) e = refl
 no_place (Some (install command)) e = refl
 no_place (Some (select command step)) e = refl
+no_place (Some (auto command)) e = refl
 
 -- it goes into the worksheet's file
 in_file : (place : Option Name) (o : Option Command) (b : Bool) (name : Name) → place ≡ cond b (in_place_of o) None → place ≡ Some name → in_place_of o ≡ Some name

@@ -2,6 +2,7 @@ mod Asked
 mod Blocks
 mod Delivered
 mod Exported
+mod Filled
 mod Installed
 mod Letters
 mod MayEnd

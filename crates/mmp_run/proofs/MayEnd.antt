@@ -3,8 +3,8 @@ use Rattle.std.proofs.Common.{◌≡◌, ◌≢◌, ◌⊎◌, ◌≤◌, ℕ, B
 use Rattle.std.proofs.Common.{refl, sym, ◌∙◌, ap, subst, inl, inr, arith}
 use Rattle.std.specs.Option.{option_and_then}
 use Rattle.call_answers.specs.declared.ending.Ending.{Ending}
-use Rattle.call_answers.specs.CallAnswers.{CallAnswer, bad_database, bad_worksheet, unified, verdict, tried, not_exported, exported, installed, selected, HasDatabase, HasSheet, database_of, sheet_of, no_files}
-use Rattle.call_answers.specs.CommandLine.{Command, SheetCommand, TheoremCommand, unify, verify, trial, export, install, select}
+use Rattle.call_answers.specs.CallAnswers.{CallAnswer, bad_database, bad_worksheet, unified, verdict, tried, not_exported, exported, installed, selected, filled, HasDatabase, HasSheet, database_of, sheet_of, no_files}
+use Rattle.call_answers.specs.CommandLine.{Command, SheetCommand, TheoremCommand, unify, verify, trial, export, install, select, auto}
 use Rattle.call_answers.specs.Endings.{Tells}
 use Rattle.call_answers.specs.Given.{ReadsFile, HasSoundDatabase, read_fault}
 use Rattle.call_answers.specs.Trial.{IsTried}
@@ -19,6 +19,7 @@ use Rattle.mmp_run.specs.Answers.{MayEnd}
 use Rattle.mmp_run.specs.Asked.{IsAsked}
 use Rattle.mmp_run.specs.Exported as made
 use Rattle.mmp_run.specs.Exported.{IsExported}
+use Rattle.mmp_run.specs.Filled.{IsFilled}
 use Rattle.mmp_run.specs.Installed.{IsInstalled}
 use Rattle.mmp_run.specs.Opened.{Has, IsRefused, IsUnread, IsOpen}
 use Rattle.mmp_run.specs.OpenedBoth.{IsRefusedFile}
@@ -61,6 +62,7 @@ reads_none (trial count) name read none = read
 reads_none (export options command) name read none = some_not_none command.database none
 reads_none (install command) name read none = some_not_none command.database none
 reads_none (select command step) name read none = some_not_none command.database none
+reads_none (auto command) name read none = some_not_none command.database none
 
 module _ (command : Command) (told : Option Files) (before now : Name → ℕ) where
   may_from_due : (end : Ending) → IsTextEnding end → IfSome told (λ files. CallAnswer files (Some command) end)
@@ -146,6 +148,9 @@ install_reads command = record { database_is = refl; sheet_is = refl; reads_data
 pub select_reads : (command : SheetCommand) (step : Name) → ReadsBoth (select command step) command.database command.sheet
 select_reads command step = record { database_is = refl; sheet_is = refl; reads_database = inl refl; reads_sheet = inr refl }
 
+pub auto_reads : (command : SheetCommand) → ReadsBoth (auto command) command.database command.sheet
+auto_reads command = record { database_is = refl; sheet_is = refl; reads_database = inl refl; reads_sheet = inr refl }
+
 module _ (command : Command) (name file : Name) (reads : ReadsBoth command name file) where
   due_bad_sheet : (files : Files) (end : Ending) (database : List ℕ) (found : Option (List ℕ)) → files file ≡ found → IsOpen (Some files) name database
       → IsSomeAnd found (λ text. IsSheetRefusal text end) → CallAnswer files (Some command) end
@@ -189,6 +194,11 @@ module _ (command : SheetCommand) (database : List ℕ) where
   due_selected step None text end opened has is = tt
   due_selected step (Some files) text end opened has is = selected {database = database} {sheet = text} {db = is.db} opened.has opened.accepted.no_fault has is.is_database is.asks
 
+  due_filled : (told : Option Files) (text : List ℕ) (end : Ending) → IsOpen told command.database database → Has told command.sheet text
+      → IsFilled command.options database text end → IfSome told (λ files. CallAnswer files (Some (auto command)) end)
+  due_filled None text end opened has is = tt
+  due_filled (Some files) text end opened has is = filled {database = database} {sheet = text} {db = is.db} opened.has opened.accepted.no_fault has is.is_database is.fills
+
   -- the worksheet is unified
   pub may_unify : (is_in_place : Bool) (told : Option Files) (before now : Name → ℕ) (sheet : sheets.Sheet) (end : Result Ending memory.Memory)
       → IsOpen told command.database database → IsOpenSheet told command.sheet sheet
@@ -220,6 +230,17 @@ module _ (command : SheetCommand) (database : List ℕ) where
   may_select step told before now sheet (Ok end) opened read is st =
       may_from_due (select command step) told before now end st
       (due_selected step told read.text end opened read.has (is read.text (record { sound = read.readable.no_fault; reads = read.reads })))
+      (λ none. absurd (some_not_none command.database none))
+
+  -- it is unified with its steps filled
+  pub may_fill : (told : Option Files) (before now : Name → ℕ) (sheet : sheets.Sheet) (end : Result Ending memory.Memory)
+      → IsOpen told command.database database → IsOpenSheet told command.sheet sheet
+      → ((text : List ℕ) → SaysSheet text sheet → IfOk end (IsFilled command.options database text)) → IfOk end IsTextEnding
+      → IfOk end (MayEnd (auto command) told before now)
+  may_fill told before now sheet (Err e) opened read is st = tt
+  may_fill told before now sheet (Ok end) opened read is st =
+      may_from_due (auto command) told before now end st
+      (due_filled told read.text end opened read.has (is read.text (record { sound = read.readable.no_fault; reads = read.reads })))
       (λ none. absurd (some_not_none command.database none))
 
 -- ---- theorems

@@ -1,6 +1,7 @@
 pub mod Answers
 pub mod Asked
 pub mod Exported
+pub mod Filled
 pub mod Found
 pub mod Installed
 pub mod Opened

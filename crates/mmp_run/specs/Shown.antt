@@ -63,6 +63,9 @@ install_command choice database sheet = words.install (words.sheet_command (opti
 abbrev pub select_command : Choice → List ℕ → List ℕ → List ℕ → words.Command
 select_command choice database sheet step = words.select (words.sheet_command (options_shown choice) database sheet) step
 
+abbrev pub auto_command : Choice → List ℕ → List ℕ → words.Command
+auto_command choice database sheet = words.auto (words.sheet_command (options_shown choice) database sheet)
+
 abbrev pub shown : Command → words.Command
 shown (command.Unify choice database sheet) = unify_command choice database.now sheet.now
 shown (command.Verify database theorem) = verify_command database.now theorem.now
@@ -70,3 +73,4 @@ shown (command.Trial blocks) = words.trial blocks
 shown (command.Export choice database theorem) = export_command choice database.now theorem.now
 shown (command.Install choice database sheet) = install_command choice database.now sheet.now
 shown (command.Select choice database sheet step) = select_command choice database.now sheet.now step.now
+shown (command.Auto choice database sheet) = auto_command choice database.now sheet.now

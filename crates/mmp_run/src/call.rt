@@ -8,8 +8,9 @@ ghost use Rattle.call_answers.specs.Given.{told, target, in_place_of, IsSettled,
 ghost use Rattle.mm_base.specs.Outside.{Files, NoneFell, Rose};
 ghost use Rattle.mmp_run.specs.Answers.{MayEnd, MayEndFor};
 ghost use Rattle.mmp_run.specs.OpenedBoth.{HasTexts, IsOpenedBoth};
-ghost use Rattle.mmp_run.specs.Shown.{shown, options_shown, unify_command, verify_command, export_command, install_command, select_command};
+ghost use Rattle.mmp_run.specs.Shown.{shown, options_shown, unify_command, verify_command, export_command, install_command, select_command, auto_command};
 
+use crate::auto::end_auto;
 use crate::both::{OpenedBoth, open_both};
 use crate::command::{Command, read_words};
 use crate::deliver::deliver;
@@ -74,6 +75,20 @@ fn select_both(
     }
 }
 
+// Unifies the worksheet of two files that were opened with its steps filled.
+fn auto_both(alloc: Global, opened: OpenedBoth, options: &Options) -> Result<Ending, Memory>
+    requires { HasTexts opened }
+    ensures { (told : Option Files) (before now : List ℕ → ℕ) (choice : Choice) (database sheet : List ℕ) → options_shown choice ≡ options.now
+        → IsOpenedBoth told before now database sheet opened → IfOk result (MayEnd (auto_command choice database sheet) told before now) }
+{
+    match opened {
+        OpenedBoth::Both(text, frames, sheet) => {
+            end_auto(alloc, text.as_slice(), frames, &sheet, options)
+        }
+        OpenedBoth::Refused(end) => Ok(end),
+    }
+}
+
 // Unifies the worksheet of a file over the database of another, with what the options ask for.
 fn end_unify<S: Store>(
     alloc: Global,
@@ -128,6 +143,25 @@ fn end_select<S: Store>(
     let options = make_options(alloc, choice)?;
     match open_both(alloc, store, database, sheet) {
         Ok(opened) => select_both(alloc, opened, &options, step),
+        Err(_) => Err(Memory),
+    }
+}
+
+// Unifies the worksheet of a file over the database of another with its steps filled.
+fn end_filled<S: Store>(
+    alloc: Global,
+    store: &mut S,
+    choice: Choice<'_>,
+    database: &str,
+    sheet: &str,
+) -> Result<Ending, Memory>
+    ensures answer { IfOk result (MayEnd (auto_command choice.entry database.now sheet.now) (S.told store.old) (S.read_faults store.old) (S.read_faults store.new)) }
+    ensures same_files { S.told store.new ≡ S.told store.old }
+    ensures replace_faults { NoneFell (S.replace_faults store.old) (S.replace_faults store.new) }
+{
+    let options = make_options(alloc, choice)?;
+    match open_both(alloc, store, database, sheet) {
+        Ok(opened) => auto_both(alloc, opened, &options),
         Err(_) => Err(Memory),
     }
 }
@@ -205,6 +239,11 @@ fn end_command<S: Store>(
             sheet,
             step,
         } => end_select(alloc, store, choice, database, sheet, step),
+        Command::Auto {
+            choice,
+            database,
+            sheet,
+        } => end_filled(alloc, store, choice, database, sheet),
     }
 }
 
@@ -224,7 +263,7 @@ fn end_words<S: Store>(
         None => refuse(
             alloc,
             Status::Words,
-            "usage: mmp unify [--proof=normal|compressed] [--in-place] [--dv=add|given] [--provable=T] [--logic=T] DB SHEET | mmp verify DB LABEL | mmp trial N | mmp export [options] DB LABEL | mmp install [options] DB SHEET | mmp select [options] DB SHEET STEP",
+            "usage: mmp unify [--proof=normal|compressed] [--in-place] [--dv=add|given] [--provable=T] [--logic=T] DB SHEET | mmp verify DB LABEL | mmp trial N | mmp export [options] DB LABEL | mmp install [options] DB SHEET | mmp select [options] DB SHEET STEP | mmp auto [options] DB SHEET",
         ),
     }
 }

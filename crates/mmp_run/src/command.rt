@@ -47,6 +47,12 @@ pub enum Command<'a> {
         sheet: &'a str,
         step: &'a str,
     },
+    /// To unify a worksheet with its steps filled.
+    Auto {
+        choice: Choice<'a>,
+        database: &'a str,
+        sheet: &'a str,
+    },
 }
 
 // A word that may name a file, a label or a step.
@@ -243,6 +249,31 @@ fn read_select(words: &[String]) -> Option<Command<'_>>
     }
 }
 
+// What is to be filled, by the words behind the options.
+fn read_filled<'a>(choice: Choice<'a>, words: &'a [String]) -> Option<Command<'a>>
+    ensures { option_map shown result ≡ line.auto_of (map string_bytes words.entry.now) (options_shown choice.entry) }
+{
+    match two_names(words) {
+        None => None,
+        Some((database, sheet)) => Some(Command::Auto {
+            choice,
+            database,
+            sheet,
+        }),
+    }
+}
+
+// The command `auto` with these words behind it.
+fn read_auto(words: &[String]) -> Option<Command<'_>>
+    ensures { option_map shown result ≡ line.with_options line.auto_of (map string_bytes words.now) }
+{
+    let (options, names) = words.split_at(count_options(words));
+    match choose(false, options) {
+        None => None,
+        Some(choice) => read_filled(choice, names),
+    }
+}
+
 // The command of that name with these words behind it.
 fn read_by_name<'a>(word: &str, words: &'a [String]) -> Option<Command<'a>>
     ensures { option_map shown result ≡ line.of_word word.now (map string_bytes words.entry.now) }
@@ -259,6 +290,8 @@ fn read_by_name<'a>(word: &str, words: &'a [String]) -> Option<Command<'a>>
         read_install(words)
     } else if word == "select" {
         read_select(words)
+    } else if word == "auto" {
+        read_auto(words)
     } else {
         None
     }

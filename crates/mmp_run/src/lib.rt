@@ -1,6 +1,7 @@
 //! Answers a call of the program: reads the files that its words name, and writes what comes of them.
 #![tactic(auto)]
 
+mod auto;
 mod both;
 mod call;
 mod command;
