@@ -14,7 +14,7 @@ use Rattle.mmp_run.specs.Filled.{IsFilled}
 use Rattle.mmp_run.specs.Refusals.{refusal}
 use Rattle.mmp_run.proofs.Refusals.{refuses}
 use Rattle.mmp_run.proofs.Unified.{book}
-use Rattle.sheet_filling.specs.Filling.{IsFilledText, IsOfWriting}
+use Rattle.sheet_filling.specs.Filling.{ForWriting, IsFilledText, IsOfWriting}
 use Rattle.sheet_filling.specs.declared.written.WrittenFormulas.{WrittenFormulas}
 use Rattle.sheet_text.specs.declared.sheet.Sheet.{Sheet}
 use Rattle.sheet_unify.specs.Answered.{IsOutcome, IsFaultOf, IsWritten, refusal_of}
@@ -32,6 +32,13 @@ is_of_writing db options w outcome written is place mode given trees = record {
   formulas = record { place = place ∙ is.place; mode = mode; given = given ∙ is.given; trees_are = trees ∙ is.trees_are };
   sheet_is = is.sheet;
 }
+
+-- and its text with its steps filled is that of the written worksheet
+pub text_is_filled : (d : Opened) (written : WrittenFormulas) (sheet : Sheet) (filled : Result (List ℕ) memory.Memory) (options : Options) (text : List ℕ) (w : Writing)
+    → IsOpened options.kinds text d → IsOfWriting (book options text d) options w written sheet
+    → IfOk filled (λ t. ForWriting d written sheet (λ db o v. IsFilledText db o v t)) → IfOk filled (IsFilledText (book options text d) options w)
+text_is_filled d written sheet (Err e) options text w opened is made = tt
+text_is_filled d written sheet (Ok t) options text w opened is made = made options.kinds text options w opened is
 
 -- ---- the answer to what it becomes with its steps filled
 
