@@ -4,6 +4,8 @@
 #![tactic(auto)]
 
 #[cfg(test)]
+mod autos;
+#[cfg(test)]
 mod calls;
 #[cfg(test)]
 mod databases;

@@ -8,9 +8,9 @@ use std::test::Fail;
 const USAGE: &str =
     "usage: mmp unify [--proof=normal|compressed] [--in-place] [--dv=add|given] [--provable=T] [--logic=T] DB SHEET | \
 mmp verify DB LABEL | mmp trial N | mmp export [options] DB LABEL | mmp install [options] DB SHEET | \
-mmp select [options] DB SHEET STEP\n";
+mmp select [options] DB SHEET STEP | mmp auto [options] DB SHEET\n";
 
-const WRONG: [&[&str]; 77] = [
+const WRONG: [&[&str]; 85] = [
     &[],
     &[""],
     &["check", "P.mm", "r.mmp"],
@@ -107,10 +107,18 @@ const WRONG: [&[&str]; 77] = [
         "r.mmp",
         "qed",
     ],
+    &["auto"],
+    &["auto", "P.mm"],
+    &["auto", "P.mm", ""],
+    &["auto", "P.mm", "--r.mmp"],
+    &["auto", "P.mm", "r.mmp", "qed"],
+    &["auto", "P.mm", "r.mmp", "--dv=given"],
+    &["auto", "--in-place", "P.mm", "r.mmp"],
+    &["auto", "--dv=some", "P.mm", "r.mmp"],
 ];
 
 // Words of commands that are answered by the first fault of the database.
-const RIGHT: [&[&str]; 15] = [
+const RIGHT: [&[&str]; 17] = [
     &["unify", "P.mm", "r.mmp"],
     &["unify", "--proof=normal", "P.mm", "r.mmp"],
     &["unify", "--in-place", "--proof=compressed", "P.mm", "r.mmp"],
@@ -160,6 +168,8 @@ const RIGHT: [&[&str]; 15] = [
         "r.mmp",
         "d1",
     ],
+    &["auto", "P.mm", "r.mmp"],
+    &["auto", "--dv=given", "--proof=normal", "P.mm", "r.mmp"],
 ];
 
 #[test]

@@ -66,62 +66,68 @@ fn check_over(
     check_texts(rt, alloc, words, honest(database, given.as_slice()), want)
 }
 
-fn check_row(rt: &impl Abort, alloc: Global, row: Row) -> Result<(), Fail> {
-    let words = command(alloc, "unify", row.options, &["P.mm", "r.mmp"])?;
+fn check_row(rt: &impl Abort, alloc: Global, word: &'static str, row: Row) -> Result<(), Fail> {
+    let words = command(alloc, word, row.options, &["P.mm", "r.mmp"])?;
     let database = joined(alloc, row.database)?;
     check_over(rt, alloc, words.as_slice(), database.as_slice(), row)
 }
 
-fn check_rows(rt: &impl Abort, alloc: Global, rows: &[Row]) -> Result<(), Fail> {
+/// Checks what the command of this name writes and tells of each row, and that it writes again what it wrote.
+pub fn check_rows(
+    rt: &impl Abort,
+    alloc: Global,
+    word: &'static str,
+    rows: &[Row],
+) -> Result<(), Fail> {
     for row in rows {
-        check_row(rt, alloc, *row)?;
+        check_row(rt, alloc, word, *row)?;
     }
     Ok(())
 }
 
 #[test]
 fn fitting_worksheets(rt: HostRuntime) -> Result<(), Fail> {
-    check_rows(&rt, rt.alloc(), FITTING)
+    check_rows(&rt, rt.alloc(), "unify", FITTING)
 }
 
 #[test]
 fn blank_formulas(rt: HostRuntime) -> Result<(), Fail> {
-    check_rows(&rt, rt.alloc(), BLANK)
+    check_rows(&rt, rt.alloc(), "unify", BLANK)
 }
 
 #[test]
 fn steps_together(rt: HostRuntime) -> Result<(), Fail> {
-    check_rows(&rt, rt.alloc(), TOGETHER)
+    check_rows(&rt, rt.alloc(), "unify", TOGETHER)
 }
 
 #[test]
 fn derived_steps(rt: HostRuntime) -> Result<(), Fail> {
-    check_rows(&rt, rt.alloc(), DERIVED)
+    check_rows(&rt, rt.alloc(), "unify", DERIVED)
 }
 
 #[test]
 fn placed_worksheets(rt: HostRuntime) -> Result<(), Fail> {
-    check_rows(&rt, rt.alloc(), PLACED)
+    check_rows(&rt, rt.alloc(), "unify", PLACED)
 }
 
 #[test]
 fn distinct_variables(rt: HostRuntime) -> Result<(), Fail> {
-    check_rows(&rt, rt.alloc(), DISTINCT)
+    check_rows(&rt, rt.alloc(), "unify", DISTINCT)
 }
 
 #[test]
 fn refused_worksheets(rt: HostRuntime) -> Result<(), Fail> {
-    check_rows(&rt, rt.alloc(), REFUSED)
+    check_rows(&rt, rt.alloc(), "unify", REFUSED)
 }
 
 #[test]
 fn other_typecodes(rt: HostRuntime) -> Result<(), Fail> {
-    check_rows(&rt, rt.alloc(), TYPED)
+    check_rows(&rt, rt.alloc(), "unify", TYPED)
 }
 
 #[test]
 fn further_worksheets(rt: HostRuntime) -> Result<(), Fail> {
-    check_rows(&rt, rt.alloc(), FURTHER)
+    check_rows(&rt, rt.alloc(), "unify", FURTHER)
 }
 
 // In the style of mmj2: with blank lines, indented formulas, a formula over two lines and a proof that is passed over.
