@@ -11,4 +11,3 @@ mod FilledSpelled
 mod FilledWrites
 mod NoneFilled
 mod FillsAgain
-mod FilledAnswers

@@ -7,11 +7,15 @@ use Rattle.mm_base.specs.declared.status.Status.TheVariants as status
 use Rattle.mm_model.specs.Book.{Database}
 use Rattle.written_model.specs.declared.options.Options.{Options}
 use Rattle.written_model.specs.ProvesItself.{ProvesItself, IsFixed, proof_tokens}
-use Rattle.written_model.specs.Written.{Writing, Answer, wrote}
+use Rattle.written_model.specs.Written.{Writing, Answer, wrote, written_text}
+
+-- `auto` writes the text again as it is
+abbrev pub IsFilledAgain : Database → Options → List ℕ → Type 0
+IsFilledAgain db options text = (v : Writing) × AutoAnswers db text options (wrote v) × (written_text db options v ≡ text)
 
 -- the answer is the first fault of the worksheet, or of what it becomes with its steps filled; or this is written, and told of as
 -- `unify` does; a finished one carries a proof that is accepted for what is printed, an unfinished one none; and `unify` writes it
--- again as it is
+-- again as it is, and so does `auto`
 pub record Fills (db : Database) (options : Options) (sheet : List ℕ) (end : Ending) : Type 0 where
   pub answer : Answer
   pub answers : AutoAnswers db sheet options answer
@@ -19,3 +23,4 @@ pub record Fills (db : Database) (options : Options) (sheet : List ℕ) (end : E
   pub proves : end.status ≡ status.Finished → ProvesItself db options end.out
   pub no_proof : end.status ≡ status.Unfinished → proof_tokens end.out ≡ None
   pub again : (w : Writing) → answer ≡ wrote w → IsFixed db options end.out w.finished
+  pub filled_again : (w : Writing) → answer ≡ wrote w → IsFilledAgain db options end.out

@@ -17,7 +17,7 @@ abbrev pub FaultFills : Database → List ℕ → Options → Refusal → Ending
 FaultFills db text options r end = Answers db text options (refused r) → Gives db options (refused r) end → Fills db options text end
 
 -- a call that gives the answer to what the worksheet becomes with its steps filled does: its proof is accepted, an unfinished
--- worksheet has none, and again it is written as it is
+-- worksheet has none, and again it is written as it is, by both commands
 abbrev pub AnswerIsFilled : Database → List ℕ → Options → Writing → List WrittenItem → Answer → Ending → Type 0
 AnswerIsFilled db text options w items answer end =
     IsOpened options.kinds db → Answers db text options (wrote w) → AreFilledFrom db options w 0 w.items items

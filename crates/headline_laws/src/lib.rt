@@ -16,6 +16,7 @@ ghost use Rattle.headline_laws.specs.Filled.{AnswerIsFilled, FaultFills};
 ghost use Rattle.headline_laws.specs.Unified.{AnswerIsUnified};
 
 use answer_laws::answer_is_fixed;
+use auto_laws::filling_again_changes_nothing;
 use export_laws::export_is_finished;
 use push_laws::{written_proof_is_accepted, written_without_proof};
 
@@ -43,11 +44,12 @@ pub fn answer_is_exported()
 
 /// A call that tells the first fault of a worksheet says all that is said of `auto`; and so does one that gives the answer to
 /// what the worksheet becomes with its steps filled: a finished one carries a proof that is accepted, an unfinished one none,
-/// and unifying what was written writes it again.
+/// and unifying what was written writes it again, and so does filling it.
 pub fn answer_is_filled()
     ensures fault { (db : Database) (text : List ℕ) (options : Options) (r : Refusal) (end : Ending) → FaultFills db text options r end }
     ensures filled { (db : Database) (text : List ℕ) (options : Options) (w : Writing) (items : List WrittenItem) (answer : Answer) (end : Ending)
         → AnswerIsFilled db text options w items answer end }
 {
     answer_is_unified();
+    filling_again_changes_nothing();
 }

@@ -5,4 +5,4 @@ pub returns-clause-fault : goal.returns-clause-fault
 returns-clause-fault c = fault_fills
 
 pub returns-clause-filled : goal.returns-clause-filled
-returns-clause-filled c = answer_is_filled c.answer_is_unified.ensures
+returns-clause-filled c = answer_is_filled c.filling_again_changes_nothing.ensures c.answer_is_unified.ensures
