@@ -102,8 +102,8 @@ ORDER = [
     ("select_model", "The assertions that a step of a written worksheet fits.", [
         ("Selected", "the answer to a worksheet of which one step is asked about", "FORMAT, The labels that fit a step"),
     ]),
-    ("auto_model", "Steps that are filled with the first assertion that serves. No command reaches it yet.", [
-        ("AutoFilled", "the worksheet with its steps filled", ""),
+    ("auto_model", "Steps that are filled with the first assertion that serves.", [
+        ("AutoFilled", "the worksheet with its steps filled", "FORMAT, Steps that are filled"),
     ]),
     ("install_laws", "Laws of a theorem that is put into a text. Of its definitions the answer of a call takes the labels that a proof names.", [
         ("TwoDatabases", "labels that a proof names; laws of the stack machine over two databases", ""),
@@ -119,6 +119,7 @@ ORDER = [
         ("Kept", "what a text with a theorem in it keeps of the text", "PROVED, What it means for a worksheet"),
         ("PutsIn", "what `install` answers to a worksheet", "FORMAT, Theorems put into a database"),
         ("Asks", "what `select` answers to a step of a worksheet", "FORMAT, The labels that fit a step"),
+        ("Fills", "what `auto` answers to a worksheet", "FORMAT, Steps that are filled"),
         ("CallAnswers", "the answer by cases: the main theorem", "FORMAT, Statuses"),
         ("Given", "what a call leaves behind of its answer in files, output and log", "FORMAT, Statuses"),
     ]),

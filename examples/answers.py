@@ -86,6 +86,10 @@ PARTS = [
         ("distinct_finished.mmp", ["select", "--dv=given", "Q.mm", SHEET, "1"], 0, "The same where only given pairs are allowed: nothing fits."),
         ("identity_unfinished.mmp", ["select", "P.mm", SHEET, "qed"], 3, "A step whose places have work variables."),
     ]),
+    ("Steps that are filled", "", [
+        ("formulas_alone_unfinished.mmp", ["auto", "Q.mm"], 0, "Formulas without references and hypotheses: each step gets its own."),
+        ("set_aside_unfinished.mmp", ["auto", "P.mm"], 1, "Steps that nothing serves, or that have a reference, stay as they are."),
+    ]),
     ("The program by itself", "", [
         (None, ["trial", "3"], 0, "A worksheet of three blocks."),
         (None, ["unify", "P.mm"], 4, "Words that fit no command."),
