@@ -7,16 +7,19 @@
 Theorems are taken evenly from the whole database, the same in each run. Told are: how many became a worksheet and why others did not;
 how many worksheets are those of the exporter of export.py, which knows nothing of this one; how many `unify` writes again as the same
 bytes; and how many it writes again where no formula but those of hypotheses and the last step is left (of the others those that a work
-variable leaves open are told apart, since a proof need not say all). Then each worksheet gets a new name, and new labels for its
-hypotheses, and is put in behind its old theorem, one into the text with the others; told are how many were put in, whether the text is
-the old one but for the blocks, and how many new proofs, and whether all old ones, `metamath` accepts. Last come processor seconds of one
-call, over the first ten. A line for each that is not as it should be. What is missing is skipped.
+variable leaves open are told apart, since a proof need not say all). Then a hundred worksheets, taken evenly, get a new name, and new
+labels for their hypotheses, and are put in behind their old theorems, one into the text with the others; told are how many were put in,
+whether the text is the old one but for the blocks, and how many new proofs, and whether all old ones, `metamath` accepts. Last come
+processor seconds of one call, over the first ten. A line for each that is not as it should be. What is missing is skipped.
 """
 import collections, concurrent.futures, os, re, shutil, subprocess, sys, tempfile
 sys.dont_write_bytecode = True
 import export
 
 FOLDER = "/usr/share/metamath/databases"
+
+# At most so many theorems of a database are put in.
+MOST_PUT_IN = 100
 
 # What may be wrong with a worksheet; a proof need not say all, so the second is none.
 OTHER, OPEN, DIFFERS, NOT_AGAIN = "differs from export.py's", "is open without formulas", "differs without formulas", "is not written again"
@@ -84,6 +87,11 @@ def tried(program, path, folder, label, own):
     return label, sheet, "", seconds, wrong
 
 
+def evenly(rows, count):
+    count = min(count, len(rows))
+    return [rows[k * len(rows) // count] for k in range(count)]
+
+
 def put_in(program, path, folder, sheets):
     """The text with all theorems, the names of those that were put in, and the lines of the others."""
     current, names, lines = path, [], []
@@ -136,7 +144,7 @@ def measure(program, name, count):
         return
     book = export.read(path)
     every = list(book[1])
-    labels = [every[k * len(every) // min(count, len(every))] for k in range(min(count, len(every)))]
+    labels = evenly(every, count)
     own = {label: export.export(book, label) for label in labels}
     del book
     folder = tempfile.mkdtemp()
@@ -154,10 +162,11 @@ def measure(program, name, count):
             if what != OPEN:
                 print(f"    {row[0]} {what}")
     if sheets:
-        text, last, names, lines = put_in(program, path, folder, sheets)
+        put = evenly(sheets, MOST_PUT_IN)
+        text, last, names, lines = put_in(program, path, folder, put)
         with open(path, "rb") as file:
             same = without_blocks(text, names) == file.read()
-        shown = f"{name}: {len(names)} of {len(sheets)} put in, the text {'is the old one but for them' if same else 'DIFFERS'}"
+        shown = f"{name}: {len(names)} of {len(put)} put in, the text {'is the old one but for them' if same else 'DIFFERS'}"
         if shutil.which("metamath"):
             good, all_good = accepted(last, names)
             shown += f", {len(good)} accepted, {'all proofs accepted' if all_good else 'NOT all proofs accepted'}"
