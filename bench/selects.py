@@ -77,11 +77,12 @@ def least(words):
 def tell_seconds(program, path, name, rows):
     by_size = sorted({row[1] for row in rows}, key=os.path.getsize)
     opening = least([program, "unify", path, by_size[0]])
-    shown = [f"opening {opening:.2f}", f"the longest worksheet {least([program, 'unify', path, by_size[-1]]):.2f}"]
+    longest = least([program, "unify", path, by_size[-1]])
+    shown = [f"opening {opening:.3f}", f"unify of the longest worksheet {longest:.3f}, {longest / opening:.2f} of the opening"]
     for about, key in (("the step with most labels", lambda row: len(row[3])), ("the step that took longest", lambda row: row[4])):
         row = max(rows, key=key)
         seconds = least([program, "select", path, row[1], row[2]])
-        shown.append(f"{about} ({row[0]} {row[2]}, {len(row[3])} labels) {seconds:.2f}, {seconds / opening:.2f} of the opening")
+        shown.append(f"{about} ({row[0]} {row[2]}, {len(row[3])} labels) {seconds:.3f}, {seconds / opening:.2f} of the opening")
     print(f"{name}: processor seconds: " + "; ".join(shown), flush=True)
 
 
