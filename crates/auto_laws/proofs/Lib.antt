@@ -11,3 +11,4 @@ mod FilledSpelled
 mod FilledWrites
 mod NoneFilled
 mod FillsAgain
+mod FilledAnswers

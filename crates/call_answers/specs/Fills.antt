@@ -9,13 +9,15 @@ use Rattle.written_model.specs.declared.options.Options.{Options}
 use Rattle.written_model.specs.ProvesItself.{ProvesItself, IsFixed, proof_tokens}
 use Rattle.written_model.specs.Written.{Writing, Answer, wrote, written_text}
 
--- `auto` writes the text again as it is
-abbrev pub IsFilledAgain : Database → Options → List ℕ → Type 0
-IsFilledAgain db options text = (v : Writing) × AutoAnswers db text options (wrote v) × (written_text db options v ≡ text)
+-- filling the text again writes the same bytes
+pub record IsFilledAgain (db : Database) (options : Options) (text : List ℕ) : Type 0 where
+  pub writing : Writing
+  pub answers : AutoAnswers db text options (wrote writing)
+  pub same_text : written_text db options writing ≡ text
 
 -- the answer is the first fault of the worksheet, or of what it becomes with its steps filled; or this is written, and told of as
--- `unify` does; a finished one carries a proof that is accepted for what is printed, an unfinished one none; and `unify` writes it
--- again as it is, and so does `auto`
+-- `unify` does; a finished one carries a proof that is accepted for what is printed, an unfinished one none; and again it is written
+-- as it is, by `unify` and by `auto`
 pub record Fills (db : Database) (options : Options) (sheet : List ℕ) (end : Ending) : Type 0 where
   pub answer : Answer
   pub answers : AutoAnswers db sheet options answer

@@ -1,7 +1,9 @@
 //! Files that vanish or change between two calls of the store, and calls that want memory.
 
 use crate::calls::{Device, Want, call, compare, text_of};
-use crate::given::{IN_PLACE, INTO_DATABASE, LABELS, PROP, REPORT, SHEET, TO_OUTPUT, WRITTEN};
+use crate::given::{
+    FILLED, IN_PLACE, INTO_DATABASE, LABELS, PROP, REPORT, SHEET, TO_OUTPUT, WRITTEN,
+};
 use crate::scripted::{Answer, ScriptedStore};
 use mm_base::Status;
 use std::alloc::Global;
@@ -140,6 +142,15 @@ const WANTING: &[Row] = &[
     Row {
         name: "no memory for a worksheet of which a step is asked about",
         words: LABELS,
+        finds: &[Answer::Text(PROP), Answer::NoMemory],
+        status: Status::Memory,
+        log: "",
+        asked: BOTH_READ,
+        ..NOTHING
+    },
+    Row {
+        name: "no memory for a worksheet that is to be filled",
+        words: FILLED,
         finds: &[Answer::Text(PROP), Answer::NoMemory],
         status: Status::Memory,
         log: "",

@@ -2,7 +2,7 @@
 
 use crate::calls::{Device, Want, call, compare, store_of, text_of};
 use crate::given::{
-    BLOCK, IN_PLACE, INTO_DATABASE, LABELS, PROP, REPORT, SHEET, TO_OUTPUT, WRITTEN,
+    BLOCK, FILLED, IN_PLACE, INTO_DATABASE, LABELS, PROP, REPORT, SHEET, TO_OUTPUT, WRITTEN,
 };
 use mm_base::{MemStore, Status};
 use std::alloc::Global;
@@ -323,7 +323,8 @@ fn check_rows(rt: &impl Abort, alloc: Global, words: &[&str], rows: &[Row]) -> R
 // A failed call leaves all files as they were.
 #[test]
 fn worksheets_to_the_output(rt: HostRuntime) -> Result<(), Fail> {
-    check_rows(&rt, rt.alloc(), TO_OUTPUT, OUTPUT_ROWS)
+    check_rows(&rt, rt.alloc(), TO_OUTPUT, OUTPUT_ROWS)?;
+    check_rows(&rt, rt.alloc(), FILLED, OUTPUT_ROWS)
 }
 
 // A failed call leaves the files as they were, or the worksheet's with its whole text.

@@ -53,6 +53,9 @@ finished
 /// The words that write it to the output.
 pub const TO_OUTPUT: &[&str] = &["unify", "--proof=normal", "P.mm", "r.mmp"];
 
+/// The words that write it to the output with its steps filled; it has none that could be.
+pub const FILLED: &[&str] = &["auto", "--proof=normal", "P.mm", "r.mmp"];
+
 /// The words that write it in the place of the worksheet.
 pub const IN_PLACE: &[&str] = &["unify", "--proof=normal", "--in-place", "P.mm", "r.mmp"];
 

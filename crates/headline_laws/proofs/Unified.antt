@@ -19,11 +19,11 @@ not_finished e = cc
 pub not_unfinished : status.Sheet ≡ status.Unfinished → ⊥
 not_unfinished e = cc
 
-is_true : (b : Bool) → status_of b ≡ status.Finished → b ≡ true
+pub is_true : (b : Bool) → status_of b ≡ status.Finished → b ≡ true
 is_true true e = refl
 is_true false e = let clash : status.Unfinished ≡ status.Finished = e in absurd cc
 
-is_false : (b : Bool) → status_of b ≡ status.Unfinished → b ≡ false
+pub is_false : (b : Bool) → status_of b ≡ status.Unfinished → b ≡ false
 is_false false e = refl
 is_false true e = let clash : status.Finished ≡ status.Unfinished = e in absurd cc
 
@@ -38,7 +38,7 @@ sound_of db text options w (written e writes late) = record { writes = writes; l
 pub refused_is_other : {r : _} {w : Writing} → refused r ≡ wrote w → ⊥
 refused_is_other e = cc
 
-same_writing : (w v : Writing) → wrote w ≡ wrote v → w ≡ v
+pub same_writing : (w v : Writing) → wrote w ≡ wrote v → w ≡ v
 same_writing w v e = cc
 
 module _ (accepted : (db : Database) (text : List ℕ) (options : Options) (w : Writing) → WrittenProofIsAccepted db text options w)

@@ -8,15 +8,13 @@ ghost use Rattle.proof_model.specs.declared.code.Code.{Code};
 ghost use Rattle.proof_model.specs.declared.theorem.Theorem.{Theorem};
 ghost use Rattle.written_model.specs.declared.options.Options.{Options};
 ghost use Rattle.call_answers.specs.declared.ending.Ending.{Ending};
-ghost use Rattle.fault_lines.specs.Refusals.{Refusal};
-ghost use Rattle.written_model.specs.Written.{Answer, Writing};
-ghost use Rattle.written_model.specs.WrittenSteps.{WrittenItem};
+ghost use Rattle.written_model.specs.Written.{Answer};
 ghost use Rattle.headline_laws.specs.Exported.{AnswerIsExported};
-ghost use Rattle.headline_laws.specs.Filled.{AnswerIsFilled, FaultFills};
+ghost use Rattle.headline_laws.specs.Filled.{AnswerIsFilled};
 ghost use Rattle.headline_laws.specs.Unified.{AnswerIsUnified};
 
 use answer_laws::answer_is_fixed;
-use auto_laws::filling_again_changes_nothing;
+use auto_laws::{filled_answer_is_unified, filling_again_changes_nothing};
 use export_laws::export_is_finished;
 use push_laws::{written_proof_is_accepted, written_without_proof};
 
@@ -42,14 +40,11 @@ pub fn answer_is_exported()
     export_is_finished();
 }
 
-/// A call that tells the first fault of a worksheet says all that is said of `auto`; and so does one that gives the answer to
-/// what the worksheet becomes with its steps filled: a finished one carries a proof that is accepted, an unfinished one none,
-/// and unifying what was written writes it again, and so does filling it.
+/// A call that gives the answer to a worksheet whose steps are filled says all that is said of `auto`: a finished one carries
+/// a proof that is accepted, an unfinished one none, and unifying and filling what was written writes it again.
 pub fn answer_is_filled()
-    ensures fault { (db : Database) (text : List ℕ) (options : Options) (r : Refusal) (end : Ending) → FaultFills db text options r end }
-    ensures filled { (db : Database) (text : List ℕ) (options : Options) (w : Writing) (items : List WrittenItem) (answer : Answer) (end : Ending)
-        → AnswerIsFilled db text options w items answer end }
+    ensures { (db : Database) (text : List ℕ) (options : Options) (answer : Answer) (end : Ending) → AnswerIsFilled db text options answer end }
 {
-    answer_is_unified();
+    filled_answer_is_unified();
     filling_again_changes_nothing();
 }

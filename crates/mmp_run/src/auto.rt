@@ -18,7 +18,7 @@ use headline_laws::answer_is_filled;
 use mm_base::{Bytes, Memory, Status};
 use mm_database::{Database, open_frames};
 use mm_frames::Frames;
-use sheet_filling::{WrittenFormulas, filled_text};
+use sheet_filling::{WrittenFormulas, filled_text, filling_is_the_answer};
 use sheet_text::Sheet;
 use sheet_unify::{Outcome, unify_read, unify_sheet};
 use std::alloc::Global;
@@ -66,6 +66,7 @@ fn end_text(
     ensures ending { IfOk result IsTextEnding }
 {
     answer_is_filled();
+    filling_is_the_answer();
     match unify_sheet(alloc, db, filled, options) {
         Ok(outcome) => end_outcome(alloc, db, outcome),
         Err(fault) => end_fault(alloc, Status::Sheet, fault),

@@ -300,18 +300,19 @@ fn place_of<'a>(command: Option<Command<'a>>, status: Status) -> Option<&'a str>
 /// name, and nothing is written to `out`.
 ///
 /// # Statuses
-/// For `unify` `Finished` and `Unfinished`: the worksheet is in `out`, or in its file, and the report in `log`. For `verify`
-/// `Finished`: the proof is accepted, as one line in `out` says; `Proof`: there is no such theorem or its proof is refused, by
-/// one line in `log`. For `trial` `Finished` and `Unfinished`: four lines are in `out`. For `export` `Finished`: the worksheet is
-/// in `out`, and the report in `log`; `Proof`: as for `verify`, or the proof gives no finished worksheet, by one line in `log`.
-/// For `install` `Finished`: the text of the database with the theorem in it is in `out`, and the report in `log`; `Unfinished`:
-/// the report is in `log`, and nothing in `out`. For `select` `Finished`: the labels that fit are in `out`, one on each line.
-/// `Database` and `Sheet`: the file is refused, by one line in `log`; `Sheet` is also that of an `install` whose theorem is one of
-/// the database, or whose text would be too large, and of a `select` whose step is not there or is open. `Words`: the words fit no
-/// command, and `log` has the usage line. `Read`: a file could not be read, and `log` names it. `Write`: a sink failed, or the store where
-/// the worksheet was to be put, and two texts are cut short; over told files, and for `trial` and words that fit no command over
-/// every store, they are those of one of the other statuses.
-/// Nothing is in `log` unless the first text is whole. `Memory`: memory ran out, and nothing was written.
+/// For `unify` and `auto` `Finished` and `Unfinished`: the worksheet is in `out`, or in its file, and the report in `log`. For
+/// `verify` `Finished`: the proof is accepted, as one line in `out` says; `Proof`: there is no such theorem or its proof is
+/// refused, by one line in `log`. For `trial` `Finished` and `Unfinished`: four lines are in `out`. For `export` `Finished`:
+/// the worksheet is in `out`, and the report in `log`; `Proof`: as for `verify`, or the proof gives no finished worksheet, by
+/// one line in `log`. For `install` `Finished`: the text of the database with the theorem in it is in `out`, and the report in
+/// `log`; `Unfinished`: the report is in `log`, and nothing in `out`. For `select` `Finished`: the labels that fit are in
+/// `out`, one on each line. `Database` and `Sheet`: the file is refused, by one line in `log`; `Sheet` is also that of an
+/// `install` whose theorem is one of the database, or whose text would be too large, of a `select` whose step is not there or
+/// is open, and of an `auto` whose filled worksheet is refused. `Words`: the words fit no command, and `log` has the usage
+/// line. `Read`: a file could not be read, and `log` names it. `Write`: a sink failed, or the store where the worksheet was to
+/// be put, and two texts are cut short; over told files, and for `trial` and words that fit no command over every store, they
+/// are those of one of the other statuses. Nothing is in `log` unless the first text is whole. `Memory`: memory ran out, and
+/// nothing was written.
 pub fn run<S: Store, O: Sink, L: Sink>(
     alloc: Global,
     words: &[String],

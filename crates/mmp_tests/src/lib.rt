@@ -1,6 +1,6 @@
 //! Tests of whole calls of the program over files and sinks in memory: their words, worksheets that are unified, proofs that
-//! are checked or become worksheets, theorems that are put into databases, steps that are asked about, trials, and files that are
-//! refused.
+//! are checked or become worksheets, theorems that are put into databases, steps that are asked about or filled, trials, and
+//! files that are refused.
 #![tactic(auto)]
 
 #[cfg(test)]

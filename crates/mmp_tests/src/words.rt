@@ -10,7 +10,7 @@ const USAGE: &str =
 mmp verify DB LABEL | mmp trial N | mmp export [options] DB LABEL | mmp install [options] DB SHEET | \
 mmp select [options] DB SHEET STEP | mmp auto [options] DB SHEET\n";
 
-const WRONG: [&[&str]; 85] = [
+const WRONG: [&[&str]; 86] = [
     &[],
     &[""],
     &["check", "P.mm", "r.mmp"],
@@ -114,7 +114,8 @@ const WRONG: [&[&str]; 85] = [
     &["auto", "P.mm", "r.mmp", "qed"],
     &["auto", "P.mm", "r.mmp", "--dv=given"],
     &["auto", "--in-place", "P.mm", "r.mmp"],
-    &["auto", "--dv=some", "P.mm", "r.mmp"],
+    &["auto", "--dv=add", "--dv=given", "P.mm", "r.mmp"],
+    &["auto", "--provable=T", "--logic=T", "P.mm", "r.mmp"],
 ];
 
 // Words of commands that are answered by the first fault of the database.
@@ -169,7 +170,15 @@ const RIGHT: [&[&str]; 17] = [
         "d1",
     ],
     &["auto", "P.mm", "r.mmp"],
-    &["auto", "--dv=given", "--proof=normal", "P.mm", "r.mmp"],
+    &[
+        "auto",
+        "--logic=|-",
+        "--proof=normal",
+        "--provable=wff",
+        "--dv=given",
+        "P.mm",
+        "r.mmp",
+    ],
 ];
 
 #[test]

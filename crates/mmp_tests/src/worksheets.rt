@@ -66,21 +66,21 @@ fn check_over(
     check_texts(rt, alloc, words, honest(database, given.as_slice()), want)
 }
 
-fn check_row(rt: &impl Abort, alloc: Global, word: &'static str, row: Row) -> Result<(), Fail> {
-    let words = command(alloc, word, row.options, &["P.mm", "r.mmp"])?;
+fn check_row(rt: &impl Abort, alloc: Global, first: &'static str, row: Row) -> Result<(), Fail> {
+    let words = command(alloc, first, row.options, &["P.mm", "r.mmp"])?;
     let database = joined(alloc, row.database)?;
     check_over(rt, alloc, words.as_slice(), database.as_slice(), row)
 }
 
-/// Checks what the command of this name writes and tells of each row, and that it writes again what it wrote.
+/// Calls the command of that name over the worksheet of each row, and again over what it wrote.
 pub fn check_rows(
     rt: &impl Abort,
     alloc: Global,
-    word: &'static str,
+    first: &'static str,
     rows: &[Row],
 ) -> Result<(), Fail> {
     for row in rows {
-        check_row(rt, alloc, word, *row)?;
+        check_row(rt, alloc, first, *row)?;
     }
     Ok(())
 }
