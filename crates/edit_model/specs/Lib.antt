@@ -1,0 +1,4 @@
+pub mod Requests
+pub mod RequestsExamples
+pub mod Sessions
+pub mod SessionsExamples
