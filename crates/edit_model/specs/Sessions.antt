@@ -1,5 +1,5 @@
 -- The editor session: the texts of the open sheets, and the replies to the lines of the input.
-use Rattle.std.specs.Prelude.{◌≡◌, ℕ, Bool, true, false, not, ◌&&◌, List, [], ◌∷◌, length, map, nat_le, nat_lt, slice_index, is_some, if◌then◌else◌, Option, Some, None, codes}
+use Rattle.std.specs.Prelude.{◌≡◌, ℕ, Bool, true, false, not, ◌&&◌, List, [], ◌∷◌, length, map, flat_map, nat_le, nat_lt, slice_index, is_some, if◌then◌else◌, Option, Some, None, codes}
 use Rattle.std.specs.List.{replace_range}
 use Rattle.std.specs.Str.{bytes_eq}
 use Rattle.std.specs.Str.Lossy.{utf8_lossy}
@@ -15,7 +15,8 @@ use Rattle.mm_model.specs.Book.{Database, label_name}
 use Rattle.mm_model.specs.Names.{Name, first_number}
 use Rattle.select_model.specs.Selected.{step_named}
 use Rattle.serde_json.specs.Data.{Data, null, boolean, string, array, object, Items, no_items, item, no_members, member}
-use Rattle.sheet_text.specs.Layout.{place_text}
+use Rattle.serde_json.specs.Written.{compact_text}
+use Rattle.sheet_text.specs.Layout.{ended, place_text}
 use Rattle.written_model.specs.declared.options.Options.{Options}
 use Rattle.written_model.specs.Found.{Choice}
 use Rattle.written_model.specs.WrittenSteps.{WrittenStep, steps_in}
@@ -136,16 +137,20 @@ sheets_after sheets name asked = with_sheet name (text_after (sheets name) asked
 
 module _ (db : Database) (options : Options) where
   -- the replies to these lines, up to `quit`
-  pub data AreReplies (sheets : Sheets) : List (List ℕ) → List Data → Type 0 where
-    ends : AreReplies sheets [] []
-    blank : {line : List ℕ} {more : List (List ℕ)} {ds : List Data} → is_blank line ≡ true → AreReplies sheets more ds → AreReplies sheets (line ∷ more) ds
-    no_request : {line : List ℕ} {more : List (List ℕ)} {ds : List Data} → is_blank line ≡ false → request_in line ≡ None → AreReplies sheets more ds
+  pub data AreReplies : Sheets → List (List ℕ) → List Data → Type 0 where
+    ends : {sheets : Sheets} → AreReplies sheets [] []
+    blank : {sheets : Sheets} {line : List ℕ} {more : List (List ℕ)} {ds : List Data} → is_blank line ≡ true → AreReplies sheets more ds → AreReplies sheets (line ∷ more) ds
+    no_request : {sheets : Sheets} {line : List ℕ} {more : List (List ℕ)} {ds : List Data} → is_blank line ≡ false → request_in line ≡ None → AreReplies sheets more ds
         → AreReplies sheets (line ∷ more) (not_a_request ∷ ds)
-    quits : {line : List ℕ} {more : List (List ℕ)} → is_blank line ≡ false → request_in line ≡ Some request.Quit → AreReplies sheets (line ∷ more) []
-    asks : {line : List ℕ} {more : List (List ℕ)} {name : Name} {asked : Action} {d : Data} {ds : List Data} → is_blank line ≡ false
+    quits : {sheets : Sheets} {line : List ℕ} {more : List (List ℕ)} → is_blank line ≡ false → request_in line ≡ Some request.Quit → AreReplies sheets (line ∷ more) []
+    asks : {sheets : Sheets} {line : List ℕ} {more : List (List ℕ)} {name : Name} {asked : Action} {d : Data} {ds : List Data} → is_blank line ≡ false
         → request_in line ≡ Some (request.Ask name asked) → IsReply db options name (sheets name) asked d → AreReplies (sheets_after sheets name asked) more ds
         → AreReplies sheets (line ∷ more) (d ∷ ds)
 
   -- a session begins with no open sheet
   abbrev pub IsSession : List (List ℕ) → List Data → Type 0
   IsSession lines ds = AreReplies none_open lines ds
+
+-- the bytes of replies, one on each line
+abbrev pub reply_text : List Data → List ℕ
+reply_text ds = flat_map (λ d. ended (compact_text d)) ds

@@ -1,5 +1,5 @@
 -- The texts of sheets, and the texts of replies, computed.
-use Rattle.std.specs.Prelude.{◌≡◌, ℕ, true, false, List, [], ◌∷◌, map, Option, Some, None, codes, refl}
+use Rattle.std.specs.Prelude.{◌≡◌, ℕ, true, false, List, [], ◌∷◌, map, Some, None, codes, refl}
 use Rattle.edit_model.specs.declared.request.Action.{Action}
 use Rattle.edit_model.specs.declared.request.Action.TheVariants as action
 use Rattle.edit_model.specs.Sessions.{is_range, refusal, text_after}
