@@ -2,17 +2,16 @@
 use Rattle.std.specs.Prelude.{◌≡◌, ℕ, Bool, true, false, List, [], ◌∷◌, if◌then◌else◌, Option, Some, None, codes, refl}
 use Rattle.std.specs.Option.{option_map_or}
 use Rattle.std.specs.Str.{bytes_eq}
-use Rattle.std.proofs.Common.{arith, sym, ap, subst, ◌∙◌}
+use Rattle.std.proofs.Common.{arith, ap, subst, ◌∙◌}
 use Rattle.std.proofs.lemmas.Slice.Eq.{bytes_eq-Decides}
 use Rattle.edit_model.specs.declared.request.Action.{Action}
-use Rattle.edit_model.specs.Requests.{request_in, text_at}
-use Rattle.edit_model.specs.Sessions.{IsReply, IsSuggested, AreReplies, Sheets, text_after, sheets_after, with_sheet, none_open}
+use Rattle.edit_model.specs.Requests.{text_at}
+use Rattle.edit_model.specs.Sessions.{IsReply, IsSuggested, AreReplies, Sheets, text_after, sheets_after, none_open}
 use Rattle.edit_laws.specs.OtherSheets.{AreRepliesOn, actions_on, replies_on, is_on, EachSheetIsAlone, RepliesAreOne, OtherSheetsChangeNothing}
 use Rattle.mm_model.specs.Book.{Database}
 use Rattle.mm_model.specs.Names.{Name}
 use Rattle.serde_json.specs.Data.{Data}
 use Rattle.written_model.specs.declared.options.Options.{Options}
-use Rattle.written_model.specs.Found.{Choice}
 use Rattle.written_model.specs.Opened.{IsOpened}
 use Rattle.written_model.specs.Written.{Writing}
 
@@ -77,3 +76,18 @@ module _ (db : Database) (options : Options) (name : Name) where
 
 pub each_alone : EachSheetIsAlone
 each_alone db options name ls ds session = alone db options name none_open ls ds session
+
+-- ---- two sessions
+
+module _ (db : Database) (options : Options) (opened : IsOpened options.kinds db) (one_reply : RepliesAreOne) (name : Name) where
+  same_replies : (sheet : Option (List ℕ)) (actions : List Action) (ds es : List Data) → AreRepliesOn db options name sheet actions ds → AreRepliesOn db options name sheet actions es → ds ≡ es
+  same_replies sheet [] ds es AreRepliesOn.none AreRepliesOn.none = refl
+  same_replies sheet (asked ∷ actions) [] es h k = elim h [ ]
+  same_replies sheet (asked ∷ actions) (d ∷ ds) [] h k = elim k [ ]
+  same_replies sheet (asked ∷ actions) (d ∷ ds) (e ∷ es) (AreRepliesOn.next r h) (AreRepliesOn.next q k) =
+      ap (λ x. x ∷ ds) (one_reply db options name sheet asked d e opened r q) ∙ ap (λ xs. e ∷ xs) (same_replies (text_after sheet asked) actions ds es h k)
+
+pub nothing_changes : RepliesAreOne → OtherSheetsChangeNothing
+nothing_changes one_reply db options name ls ms ds es opened h k same =
+    same_replies db options opened one_reply name None (actions_on name ms) (replies_on name ds) (replies_on name es)
+    (subst (λ actions. AreRepliesOn db options name None actions (replies_on name ds)) same (each_alone db options name ls ds h)) (each_alone db options name ms es k)

@@ -3,9 +3,7 @@
 
 ghost use Rattle.edit_laws.specs.OtherSheets.{EachSheetIsAlone, OtherSheetsChangeNothing, RepliesAreOne};
 
-use model_laws::{
-    frames_have_own_expressions, has_database_facts, mandatory_variables_stand,
-};
+use model_laws::{frames_have_own_expressions, has_database_facts, mandatory_variables_stand};
 use sheet_laws::sound_text_is_read;
 
 /// The replies that name a sheet are those to what is asked of it, each on the text that the earlier of them left.
