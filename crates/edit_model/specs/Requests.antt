@@ -49,15 +49,26 @@ pub record Operation : Type 0 where
 abbrev pub operation : Name → List Name → (Data → Option Request) → Operation
 operation name keys reads = record { name = name; keys = keys; reads = reads }
 
+abbrev pub open_operation : Operation
+open_operation = operation (codes "open") (codes "name" ∷ codes "op" ∷ codes "text" ∷ []) (of_sheet (λ d. option_map action.Open (text_at (codes "text") d)))
+
+abbrev pub edit_operation : Operation
+edit_operation = operation (codes "edit") (codes "from" ∷ codes "name" ∷ codes "op" ∷ codes "text" ∷ codes "to" ∷ []) (of_sheet edit_of)
+
+abbrev pub close_operation : Operation
+close_operation = operation (codes "close") (codes "name" ∷ codes "op" ∷ []) (of_sheet (λ d. Some action.Close))
+
+abbrev pub unify_operation : Operation
+unify_operation = operation (codes "unify") (codes "name" ∷ codes "op" ∷ []) (of_sheet (λ d. Some action.Unify))
+
+abbrev pub suggest_operation : Operation
+suggest_operation = operation (codes "suggest") (codes "name" ∷ codes "op" ∷ codes "step" ∷ []) (of_sheet (λ d. option_map action.Suggest (text_at (codes "step") d)))
+
+abbrev pub quit_operation : Operation
+quit_operation = operation (codes "quit") (codes "op" ∷ []) (λ d. Some request.Quit)
+
 abbrev pub operations : List Operation
-operations =
-    operation (codes "open") (codes "name" ∷ codes "op" ∷ codes "text" ∷ []) (of_sheet (λ d. option_map action.Open (text_at (codes "text") d)))
-    ∷ operation (codes "edit") (codes "from" ∷ codes "name" ∷ codes "op" ∷ codes "text" ∷ codes "to" ∷ []) (of_sheet edit_of)
-    ∷ operation (codes "close") (codes "name" ∷ codes "op" ∷ []) (of_sheet (λ d. Some action.Close))
-    ∷ operation (codes "unify") (codes "name" ∷ codes "op" ∷ []) (of_sheet (λ d. Some action.Unify))
-    ∷ operation (codes "suggest") (codes "name" ∷ codes "op" ∷ codes "step" ∷ []) (of_sheet (λ d. option_map action.Suggest (text_at (codes "step") d)))
-    ∷ operation (codes "quit") (codes "op" ∷ []) (λ d. Some request.Quit)
-    ∷ []
+operations = open_operation ∷ edit_operation ∷ close_operation ∷ unify_operation ∷ suggest_operation ∷ quit_operation ∷ []
 
 -- ---- requests
 
@@ -69,7 +80,7 @@ abbrev pub request_by : Operation → Data → Option Request
 request_by o d = if has_keys o d then o.reads d else None
 
 abbrev pub operation_named : Name → Option Operation
-operation_named name = find (λ (o : Operation). bytes_eq o.name name) operations
+operation_named name = find (λ (o : Operation). bytes_eq name o.name) operations
 
 -- the request that a value is, if it is one
 abbrev pub request_of : Data → Option Request
