@@ -14,7 +14,8 @@ use Rattle.mm_base.specs.Limits.{most_sheet_bytes}
 use Rattle.mm_model.specs.Book.{Database, label_name}
 use Rattle.mm_model.specs.Names.{Name, first_number}
 use Rattle.select_model.specs.Selected.{step_named}
-use Rattle.serde_json.specs.Data.{Data, null, boolean, string, array, object, Items, no_items, item, no_members, member}
+use Rattle.serde_json.specs.Data.{Data, null, boolean, string, array, object, Items, no_members, member}
+use Rattle.serde_json.specs.View.{items_of}
 use Rattle.serde_json.specs.Written.{compact_text}
 use Rattle.sheet_text.specs.Layout.{ended, place_text}
 use Rattle.written_model.specs.declared.options.Options.{Options}
@@ -28,8 +29,7 @@ abbrev pub text_of : List ℕ → Data
 text_of bytes = string (utf8_lossy bytes)
 
 abbrev pub texts_of : List (List ℕ) → Items
-texts_of [] = no_items
-texts_of (bytes ∷ more) = item (text_of bytes) (texts_of more)
+texts_of texts = items_of (map text_of texts)
 
 abbrev pub not_a_request : Data
 not_a_request = object (member (codes "error") (string (codes "not a request")) no_members)
