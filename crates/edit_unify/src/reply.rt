@@ -1,4 +1,4 @@
-ghost use Rattle.std.specs.Prelude.{◌≡◌, ℕ, List as ListOf, Some, IfOk, IfSome, IsSome};
+ghost use Rattle.std.specs.Prelude.{◌≡◌, ℕ, List as ListOf, Some, IfOk, IsSome, IsSomeAnd};
 ghost use Rattle.std.specs.Str.Lossy.{utf8_lossy};
 ghost use Rattle.edit_model.specs.declared.request.Action.TheVariants as action;
 ghost use Rattle.edit_model.specs.Sessions as session;
@@ -22,7 +22,7 @@ use std::alloc::Global;
 // The reply to a sheet with this fault, other than want of memory.
 fn fault_reply(alloc: Global, name: &[u8], fault: &UnifyFault) -> Result<Bytes, Memory>
     requires { IsSome (refusal_of fault.now) }
-    ensures { IfOk result (λ line. IfSome (refusal_of fault.now) (λ r. line ≡ line_of (session.error_reply (utf8_lossy name.now) (refusal_line r)))) }
+    ensures { IfOk result (λ line. IsSomeAnd (refusal_of fault.now) (λ r. line ≡ line_of (session.error_reply (utf8_lossy name.now) (refusal_line r)))) }
 {
     let line = fault_line(alloc, fault)?;
     error_reply(alloc, name, line.as_slice())
