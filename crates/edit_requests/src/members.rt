@@ -1,9 +1,9 @@
 //! The members of a value of JSON.
 
-ghost use Rattle.std.specs.Prelude.{◌≡◌, map, option_map, string_bytes, IfOk};
+ghost use Rattle.std.specs.Prelude.{◌≡◌, map, option_map, string_bytes, IfOk, IfSome};
 ghost use Rattle.std.specs.BTreeMap.{keys};
 ghost use Rattle.std.specs.Cmp.Lexicographic.{pointwise};
-ghost use Rattle.std.specs.Str.{bytes_eq};
+ghost use Rattle.std.specs.Str.{bytes_eq, IsUtf8};
 ghost use Rattle.edit_model.specs.Requests as requests;
 ghost use Rattle.edit_model.specs.Requests.{keys_of};
 ghost use Rattle.serde_json.specs.View.{view};
@@ -48,7 +48,8 @@ pub fn text_at<'a>(value: &'a Value, key: &str) -> Option<&'a str>
 
 /// A copy of the text at a key, where there is one.
 pub fn copied_text(alloc: Global, value: &Value, key: &str) -> Result<Option<Bytes>, Memory>
-    ensures { IfOk result (λ text. text ≡ requests.text_at key.now (view value.now)) }
+    ensures text { IfOk result (λ text. text ≡ requests.text_at key.now (view value.now)) }
+    ensures utf8 { IfOk result (λ text. IfSome text IsUtf8) }
 {
     match text_at(value, key) {
         Some(text) => Ok(Some(List::copy_of(alloc, text.as_bytes())?)),

@@ -1,8 +1,9 @@
 //! The request that a line of JSON is.
 
-ghost use Rattle.std.specs.Prelude.{◌≡◌, IfOk};
+ghost use Rattle.std.specs.Prelude.{◌≡◌, IfOk, IfSome};
 ghost use Rattle.edit_model.specs.Requests as requests;
 ghost use Rattle.edit_model.specs.Requests.{of_sheet, request_in};
+ghost use Rattle.edit_requests.specs.Names.{HasTextName};
 ghost use Rattle.edit_requests.specs.Operations.{operation_of};
 ghost use Rattle.serde_json.specs.View.{view};
 
@@ -31,7 +32,8 @@ fn edit_of(alloc: Global, value: &Value) -> Result<Option<Action>, Memory>
 
 // The request for an action on the sheet that the value names.
 fn ask(alloc: Global, value: &Value, action: Option<Action>) -> Result<Option<Request>, Memory>
-    ensures { IfOk result (λ request. request ≡ of_sheet (λ d. action) (view value.now)) }
+    ensures request { IfOk result (λ request. request ≡ of_sheet (λ d. action) (view value.now)) }
+    ensures utf8 { IfOk result (λ request. IfSome request HasTextName) }
 {
     let Some(action) = action else {
         return Ok(None);
@@ -48,7 +50,8 @@ fn request_for(
     value: &Value,
     operation: Operation,
 ) -> Result<Option<Request>, Memory>
-    ensures { IfOk result (λ request. request ≡ (operation_of operation).reads (view value.now)) }
+    ensures request { IfOk result (λ request. request ≡ (operation_of operation).reads (view value.now)) }
+    ensures utf8 { IfOk result (λ request. IfSome request HasTextName) }
 {
     match operation {
         Operation::Open => {
@@ -71,7 +74,8 @@ fn request_for(
 
 // The request that a value is. None exactly where it is none.
 fn request_of(alloc: Global, value: &Value) -> Result<Option<Request>, Memory>
-    ensures { IfOk result (λ request. request ≡ requests.request_of (view value.now)) }
+    ensures request { IfOk result (λ request. request ≡ requests.request_of (view value.now)) }
+    ensures utf8 { IfOk result (λ request. IfSome request HasTextName) }
 {
     let Some(name) = text_at(value, "op") else {
         return Ok(None);
@@ -85,9 +89,10 @@ fn request_of(alloc: Global, value: &Value) -> Result<Option<Request>, Memory>
     request_for(alloc, value, operation)
 }
 
-/// The request that a line is. None exactly where it is none.
+/// The request that a line is. None exactly where it is none. The name of a sheet is text.
 pub fn read_request(alloc: Global, line: &[u8]) -> Result<Option<Request>, Memory>
-    ensures { IfOk result (λ request. request ≡ request_in line.now) }
+    ensures request { IfOk result (λ request. request ≡ request_in line.now) }
+    ensures utf8 { IfOk result (λ request. IfSome request HasTextName) }
 {
     match Value::from_slice(alloc, line) {
         Ok(value) => request_of(alloc, &value),
