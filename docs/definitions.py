@@ -123,9 +123,14 @@ ORDER = [
         ("CallAnswers", "the answer by cases: the main theorem", "FORMAT, Statuses"),
         ("Given", "what a call leaves behind of its answer in files, output and log", "FORMAT, Statuses"),
     ]),
+    ("edit_model", "The editor session. No program reaches it yet.", [
+        ("Requests", "what a line of the input asks for", ""),
+        ("Sessions", "the open sheets, and the replies to lines", ""),
+        ("Serves", "what the program takes from its input and writes, by its status", ""),
+    ]),
 ]
 
-LAWS = ["model_laws", "theorem_laws", "proof_laws", "solve_laws", "sheet_laws", "chain_laws", "again_laws", "answer_laws", "push_laws", "writing_laws", "headline_laws", "phase_laws", "filling_laws", "whole_laws", "install_laws", "installed_laws", "select_laws", "auto_laws", "fitting_laws", "export_laws", "kept_laws"]
+LAWS = ["model_laws", "theorem_laws", "proof_laws", "solve_laws", "sheet_laws", "chain_laws", "again_laws", "answer_laws", "push_laws", "writing_laws", "headline_laws", "phase_laws", "filling_laws", "whole_laws", "install_laws", "installed_laws", "select_laws", "auto_laws", "fitting_laws", "export_laws", "kept_laws", "edit_laws"]
 
 # The statements that no contract names, by crate and file.
 STATED = []
