@@ -226,6 +226,56 @@ qed fits ax-mp
 finished
 ",
     },
+    // The first of two tuples, by the step of the first `$e`.
+    Row {
+        database: &[PROP],
+        header: "s LOC_AFTER=?",
+        lines: "h1::s.1 |- ( ph -> ps )
+h2::s.2 |- ( ch -> ps )
+h3::s.3 |- ch
+h4::s.4 |- ph
+qed:: |- ps
+",
+        options: USUAL,
+        status: Status::Finished,
+        written: Some(
+            "h1::s.1 |- ( ph -> ps )
+h2::s.2 |- ( ch -> ps )
+h3::s.3 |- ch
+h4::s.4 |- ph
+qed:3,2:ax-mp |- ps
+",
+        ),
+        tail: "$= ( ax-mp ) CBFEH $.
+",
+        log: "1 hyp
+2 hyp
+3 hyp
+4 hyp
+qed fits ax-mp
+finished
+",
+    },
+    // A step over one that is not proved.
+    Row {
+        database: Q,
+        header: "s LOC_AFTER=?",
+        lines: "1:: |- ch
+qed:: |- ( ps -> ch )
+",
+        options: USUAL,
+        status: Status::Unfinished,
+        written: Some(
+            "1:: |- ch
+qed:1:a1i |- ( ps -> ch )
+",
+        ),
+        tail: "",
+        log: "1 no reference
+qed fits a1i
+not finished
+",
+    },
     // A tuple whose steps repeat.
     Row {
         database: &[PROP, COUNTED],
