@@ -130,7 +130,7 @@ ORDER = [
     ]),
 ]
 
-LAWS = ["model_laws", "theorem_laws", "proof_laws", "solve_laws", "sheet_laws", "chain_laws", "again_laws", "answer_laws", "push_laws", "writing_laws", "headline_laws", "phase_laws", "filling_laws", "whole_laws", "install_laws", "installed_laws", "select_laws", "auto_laws", "fitting_laws", "export_laws", "kept_laws", "edit_laws"]
+LAWS = ["model_laws", "theorem_laws", "proof_laws", "solve_laws", "sheet_laws", "chain_laws", "again_laws", "answer_laws", "push_laws", "writing_laws", "headline_laws", "phase_laws", "filling_laws", "whole_laws", "install_laws", "installed_laws", "select_laws", "auto_laws", "auto_answer_laws", "fitting_laws", "export_laws", "kept_laws", "edit_laws"]
 
 # The statements that no contract names, by crate and file.
 STATED = []
