@@ -1,2 +1,2 @@
-mod OneChoice
+pub mod OneChoice
 mod OneFilled

@@ -1,33 +1,24 @@
 -- What is suggested for a step depends on the written steps alone, and these are the same in two writings but for the numbers of
 -- fresh leaves in the values of variables.
-use Rattle.std.specs.Prelude.{◌≡◌, ℕ, zero, suc, Bool, true, false, List, [], ◌∷◌, map, find, filter, slice_get, if◌then◌else◌, Option, Some, None, option_map, refl}
-use Rattle.std.specs.List.{AllZip, range_with_len}
-use Rattle.std.specs.Option.{option_map_or}
+use Rattle.std.specs.Prelude.{◌≡◌, ℕ, Bool, true, false, List, [], ◌∷◌, map, find, if◌then◌else◌, Option, Some, None, option_map, refl}
 use Rattle.std.specs.Str.{bytes_eq}
 use Rattle.std.proofs.Common.{sym, ap, subst, ◌∙◌}
-use mathlib.Core.Path.{fun_ext}
 use Rattle.answer_laws.proofs.SameText.{SameParts, same_steps}
-use Rattle.answer_laws.proofs.SearchedAlike.{bare_step, first_with}
-use Rattle.auto_model.specs.AutoFilled.{is_unfilled, IsAutoChoice, auto_choices, earlier_steps, is_ground_number}
+use Rattle.answer_laws.proofs.SearchedAlike.{bare_step}
+use Rattle.auto_answer_laws.proofs.OneChoice.{one_choice}
+use Rattle.auto_model.specs.AutoFilled.{is_unfilled, IsAutoChoice}
 use Rattle.edit_model.specs.Sessions.{IsSuggested, written_names, choice_reply, suggest_reply, text_of}
-use Rattle.mm_base.specs.declared.symbols.Pair.{Pair}
-use Rattle.mm_base.specs.declared.tree.Tree.{Tree}
 use Rattle.mm_model.specs.Book.{Database, label_name}
 use Rattle.mm_model.specs.Names.{Name, first_number}
 use Rattle.select_model.specs.Selected.{step_named}
 use Rattle.serde_json.specs.Data.{Data}
 use Rattle.sheet_text.specs.Layout.{place_text}
-use Rattle.sheet_text.specs.declared.sheet.Given.{Given}
-use Rattle.sheet_text.specs.declared.sheet.Given.TheVariants as given
-use Rattle.solve_laws.proofs.OneJudgement.{first_or_none_is_one}
-use Rattle.solve_model.specs.Firsts.{IsFirstOrNone}
-use Rattle.written_model.specs.declared.options.DvMode.{DvMode}
 use Rattle.written_model.specs.declared.options.Options.{Options}
-use Rattle.written_model.specs.Found.{Choice, Fits, valued, is_ground}
-use Rattle.written_model.specs.WrittenSteps.{WrittenStep, steps_in, trees, place_tree}
+use Rattle.written_model.specs.Found.{Choice}
+use Rattle.written_model.specs.WrittenSteps.{WrittenStep, steps_in}
 use Rattle.written_model.specs.Written.{Writing}
 
--- ---- steps of the same trees
+-- ---- steps without the values of variables
 
 abbrev bare_steps : List WrittenStep → List WrittenStep
 bare_steps es = map bare_step es
@@ -35,46 +26,6 @@ bare_steps es = map bare_step es
 names_stay : (es : List WrittenStep) → map (λ (e : WrittenStep). e.name) (bare_steps es) ≡ map (λ (e : WrittenStep). e.name) es
 names_stay [] = refl
 names_stay (e ∷ es) = ap (λ ns. e.name ∷ ns) (names_stay es)
-
-trees_stay : (es : List WrittenStep) → trees (bare_steps es) ≡ trees es
-trees_stay [] = refl
-trees_stay (e ∷ es) = ap (λ ts. e.tree ∷ ts) (trees_stay es)
-
--- whether a step is ground, by the trees
-abbrev ground_in : List Tree → ℕ → Bool
-ground_in ts k = option_map_or is_ground (slice_get ts k) false
-
-ground_by_trees : (es : List WrittenStep) (k : ℕ) → is_ground_number es k ≡ ground_in (trees es) k
-ground_by_trees [] k = refl
-ground_by_trees (e ∷ es) zero = refl
-ground_by_trees (e ∷ es) (suc k) = ground_by_trees es k
-
-module _ (es fs : List WrittenStep) (same : trees es ≡ trees fs) where
-  places_same : place_tree es ≡ place_tree fs
-  places_same = fun_ext by_place
-    where
-      by_place : (g : Given) → place_tree es g ≡ place_tree fs g
-      by_place given.Gap = refl
-      by_place (given.Step k) = ap (λ ts. slice_get ts k) same
-
-  earlier_same : (k : ℕ) → earlier_steps es k ≡ earlier_steps fs k
-  earlier_same k =
-      ap (λ p. filter p (range_with_len 0 k)) (fun_ext (λ n. ground_by_trees es n ∙ ap (λ ts. ground_in ts n) same ∙ sym (ground_by_trees fs n)))
-
-  fits_moved : (db : Database) (place : ℕ) (mode : DvMode) (allowed : List Pair) (e f : WrittenStep) → e.tree ≡ f.tree → (c : Choice)
-      → Fits db place mode allowed es e c → Fits db place mode allowed fs f c
-  fits_moved db place mode allowed e f tree c (u, k) = (
-    u,
-    record {
-      is_usable = k.is_usable;
-      earlier = k.earlier;
-      codes = k.codes;
-      conclusion = k.conclusion ∙ tree;
-      hyps = subst (λ p. AllZip (λ (h : Tree) (g : Given). p g ≡ Some (valued u h)) u.assertion.hyps c.places) places_same k.hyps;
-      no_clash = k.no_clash;
-      no_lack = k.no_lack;
-    },
-  )
 
 -- ---- two writings
 
@@ -87,14 +38,6 @@ found_bare : (p : WrittenStep → Bool) → ((e : WrittenStep) → p (bare_step 
 found_bare p stays [] = refl
 found_bare p stays (e ∷ es) = rw (stays e) (found_first p (p e) e es (found_bare p stays es))
 
-module _ (db : Database) (options : Options) (w v : Writing) (place : w.bound.place ≡ v.bound.place) (pairs : w.bound.pairs ≡ v.bound.pairs)
-    (same : trees (steps_in w.items) ≡ trees (steps_in v.items)) (e f : WrittenStep) (tree : e.tree ≡ f.tree) where
-  does_fit : (c : Choice) → Fits db w.bound.place options.dv w.bound.pairs (steps_in w.items) e c → Fits db v.bound.place options.dv v.bound.pairs (steps_in v.items) f c
-  does_fit c h =
-      subst (λ p. Fits db p options.dv v.bound.pairs (steps_in v.items) f c) place
-      (subst (λ ps. Fits db w.bound.place options.dv ps (steps_in v.items) f c) pairs
-      (fits_moved (steps_in w.items) (steps_in v.items) same db w.bound.place options.dv w.bound.pairs e f tree c h))
-
 module _ (db : Database) (options : Options) (w v : Writing) (parts : SameParts w v) where
   steps_same : bare_steps (steps_in w.items) ≡ bare_steps (steps_in v.items)
   steps_same = same_steps db options w v parts
@@ -102,27 +45,10 @@ module _ (db : Database) (options : Options) (w v : Writing) (parts : SameParts 
   names_same : written_names w ≡ written_names v
   names_same = sym (names_stay (steps_in w.items)) ∙ ap (map (λ (e : WrittenStep). e.name)) steps_same ∙ names_stay (steps_in v.items)
 
-  trees_same : trees (steps_in w.items) ≡ trees (steps_in v.items)
-  trees_same = sym (trees_stay (steps_in w.items)) ∙ ap trees steps_same ∙ trees_stay (steps_in v.items)
-
   named_same : (name : Name) → option_map bare_step (step_named w name) ≡ option_map bare_step (step_named v name)
   named_same name =
       let test = λ (e : WrittenStep). bytes_eq e.name name in
       found_bare test (λ e. refl) (steps_in w.items) ∙ ap (find test) steps_same ∙ sym (found_bare test (λ e. refl) (steps_in v.items))
-
-  module _ (k : ℕ) (e f : WrittenStep) (alike : bare_step e ≡ bare_step f) where
-    choice_moved : (o : Option Choice) → IsAutoChoice db options w k e o → IsAutoChoice db options v k f o
-    choice_moved o h =
-        let tree = ap (λ (x : WrittenStep). x.tree) alike in
-        subst (λ ks. IsFirstOrNone (Fits db v.bound.place options.dv v.bound.pairs (steps_in v.items) f) (auto_choices db ks) o)
-        (earlier_same (steps_in w.items) (steps_in v.items) trees_same k)
-        (first_with (Fits db w.bound.place options.dv w.bound.pairs (steps_in w.items) e) (Fits db v.bound.place options.dv v.bound.pairs (steps_in v.items) f)
-        (does_fit db options w v parts.place parts.pairs trees_same e f tree)
-        (does_fit db options v w (sym parts.place) (sym parts.pairs) (sym trees_same) f e (sym tree)) (auto_choices db (earlier_steps (steps_in w.items) k)) o h)
-
-    one_choice : (o q : Option Choice) → IsAutoChoice db options w k e o → IsAutoChoice db options v k f q → o ≡ q
-    one_choice o q h i =
-        first_or_none_is_one (Fits db v.bound.place options.dv v.bound.pairs (steps_in v.items) f) (auto_choices db (earlier_steps (steps_in v.items) k)) o q (choice_moved o h) i
 
   reply_same : (name : Name) (o : Option Choice) → choice_reply db name w o ≡ choice_reply db name v o
   reply_same name None = refl
@@ -151,4 +77,4 @@ module _ (db : Database) (options : Options) (w v : Writing) (parts : SameParts 
   one_suggestion name step d e (IsSuggested.suggested {e = f} o h n u c) (IsSuggested.step_open {e = x} k i) = let bad = unlike step f x true false h k u i in absurd (cc)
   one_suggestion name step d e (IsSuggested.suggested {e = f} {k = i} o h n u c) (IsSuggested.suggested {e = x} {k = j} q k m t b) =
       let at = subst (λ z. IsAutoChoice db options w z f o) (number_same step i j n m) c in
-      reply_same name o ∙ ap (choice_reply db name v) (one_choice j f x (alike_steps step f x h k) o q at b)
+      reply_same name o ∙ ap (choice_reply db name v) (one_choice db options w v parts j f x (ap (λ (s : WrittenStep). s.tree) (alike_steps step f x h k)) o q at b)
