@@ -35,7 +35,7 @@ LAYERS = [
                                                   "step_report", "sheet_writing", "proof_tree", "sheet_proof", "phase_laws",
                                                   "filling_laws"]),
     ("The program", ["proof_export", "sheet_unify", "sheet_theorem", "ref_select", "sheet_filling", "sheet_gen", "mmp_run", "mmp"]),
-    ("The editor session", ["edit_model", "edit_laws", "edit_requests", "edit_replies", "edit_unify"]),
+    ("The editor session", ["edit_model", "edit_laws", "edit_requests", "edit_replies", "edit_unify", "edit_source"]),
     ("Tests", ["database_tests", "sheet_tests", "step_tests", "mmp_tests", "failure_tests", "install_tests", "edit_tests"]),
 ]
 

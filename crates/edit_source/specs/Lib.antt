@@ -1,0 +1,3 @@
+pub mod Host
+pub mod MemSource
+pub mod Sources
