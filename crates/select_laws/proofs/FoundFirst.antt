@@ -65,7 +65,7 @@ module _ (es fs : List WrittenStep) (same : trees es ≡ trees fs) where
   place_same given.Gap = refl
   place_same (given.Step k) = ap (λ ts. slice_get ts k) same
 
-  places_same : place_tree es ≡ place_tree fs
+  pub places_same : place_tree es ≡ place_tree fs
   places_same = fun_ext place_same
 
 labels_are : (ns : List ℕ) (os : List (List Given))
@@ -86,7 +86,7 @@ module _ (db : Database) (options : Options) (w : Writing) where
   abbrev IsFit : List WrittenStep → WrittenStep → Choice → Type 0
   IsFit ss e c = Fits db w.bound.place options.dv w.bound.pairs ss e c
 
-  fits_moved : (ss ts : List WrittenStep) → trees ss ≡ trees ts → (e f : WrittenStep) → e.tree ≡ f.tree → (c : Choice) → IsFit ss e c → IsFit ts f c
+  pub fits_moved : (ss ts : List WrittenStep) → trees ss ≡ trees ts → (e f : WrittenStep) → e.tree ≡ f.tree → (c : Choice) → IsFit ss e c → IsFit ts f c
   fits_moved ss ts same e f alike c (u, k) = (
     u,
     record {
@@ -152,7 +152,7 @@ of_writing db options sheet w h e ls m v k =
     let b = before db options w (after_naming db options w) w.items h.searched e m in
     of_step db options w (trees_searched db options w (after_naming db options w) w.items h.searched) b.step_before e b.stands b.searched v ls k
 
-of_answer : (db : Database) (options : Options) (sheet : List ℕ) (w : Writing) → Answers db sheet options (wrote w) → Writes db sheet options w
+pub of_answer : (db : Database) (options : Options) (sheet : List ℕ) (w : Writing) → Answers db sheet options (wrote w) → Writes db sheet options w
 of_answer db options sheet w (Answers.written t h n) = h
 
 pub found_is_first : FoundIsTheFirst
