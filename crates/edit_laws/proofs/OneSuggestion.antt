@@ -1,11 +1,12 @@
 -- What is suggested for a step depends on the written steps alone, and these are the same in two writings but for the numbers of
 -- fresh leaves in the values of variables.
-use Rattle.std.specs.Prelude.{◌≡◌, ℕ, Bool, true, false, List, [], ◌∷◌, map, find, if◌then◌else◌, Option, Some, None, option_map, refl}
+use Rattle.std.specs.Prelude.{◌≡◌, ℕ, Bool, true, false, List, [], ◌∷◌, map, Option, Some, None, refl}
 use Rattle.std.specs.Str.{bytes_eq}
 use Rattle.std.proofs.Common.{sym, ap, subst, ◌∙◌}
 use Rattle.answer_laws.proofs.SameText.{SameParts, same_steps}
 use Rattle.answer_laws.proofs.SearchedAlike.{bare_step}
 use Rattle.auto_answer_laws.proofs.OneChoice.{one_choice}
+use Rattle.select_laws.proofs.OneSelection.{found_same, alike_steps}
 use Rattle.auto_model.specs.AutoFilled.{is_unfilled, IsAutoChoice}
 use Rattle.edit_model.specs.Sessions.{IsSuggested, written_names, choice_reply, suggest_reply, text_of}
 use Rattle.mm_model.specs.Book.{Database, label_name}
@@ -29,15 +30,6 @@ names_stay (e ∷ es) = ap (λ ns. e.name ∷ ns) (names_stay es)
 
 -- ---- two writings
 
-found_first : (p : WrittenStep → Bool) (b : Bool) (e : WrittenStep) (es : List WrittenStep) → option_map bare_step (find p es) ≡ find p (bare_steps es)
-    → option_map bare_step (if b then Some e else find p es) ≡ (if b then Some (bare_step e) else find p (bare_steps es))
-found_first p true e es h = refl
-found_first p false e es h = h
-
-found_bare : (p : WrittenStep → Bool) → ((e : WrittenStep) → p (bare_step e) ≡ p e) → (es : List WrittenStep) → option_map bare_step (find p es) ≡ find p (bare_steps es)
-found_bare p stays [] = refl
-found_bare p stays (e ∷ es) = rw (stays e) (found_first p (p e) e es (found_bare p stays es))
-
 module _ (db : Database) (options : Options) (w v : Writing) (parts : SameParts w v) where
   steps_same : bare_steps (steps_in w.items) ≡ bare_steps (steps_in v.items)
   steps_same = same_steps db options w v parts
@@ -45,36 +37,25 @@ module _ (db : Database) (options : Options) (w v : Writing) (parts : SameParts 
   names_same : written_names w ≡ written_names v
   names_same = sym (names_stay (steps_in w.items)) ∙ ap (map (λ (e : WrittenStep). e.name)) steps_same ∙ names_stay (steps_in v.items)
 
-  named_same : (name : Name) → option_map bare_step (step_named w name) ≡ option_map bare_step (step_named v name)
-  named_same name =
-      let test = λ (e : WrittenStep). bytes_eq e.name name in
-      found_bare test (λ e. refl) (steps_in w.items) ∙ ap (find test) steps_same ∙ sym (found_bare test (λ e. refl) (steps_in v.items))
-
   reply_same : (name : Name) (o : Option Choice) → choice_reply db name w o ≡ choice_reply db name v o
   reply_same name None = refl
   reply_same name (Some c) = ap (λ names. suggest_reply name (map (place_text names) c.places) (text_of (label_name db c.label))) names_same
 
-  found_same : (name : Name) (o q : Option WrittenStep) → step_named w name ≡ o → step_named v name ≡ q → option_map bare_step o ≡ option_map bare_step q
-  found_same name o q h k = ap (option_map bare_step) (sym h) ∙ named_same name ∙ ap (option_map bare_step) k
-
-  alike_steps : (name : Name) (e f : WrittenStep) → step_named w name ≡ Some e → step_named v name ≡ Some f → bare_step e ≡ bare_step f
-  alike_steps name e f h k = let both = found_same name (Some e) (Some f) h k in cc
-
   unlike : (name : Name) (e f : WrittenStep) (b c : Bool) → step_named w name ≡ Some e → step_named v name ≡ Some f → is_unfilled e ≡ b → is_unfilled f ≡ c → b ≡ c
-  unlike name e f b c h k g i = sym g ∙ ap is_unfilled (alike_steps name e f h k) ∙ i
+  unlike name e f b c h k g i = sym g ∙ ap is_unfilled (alike_steps db options w v parts name e f h k) ∙ i
 
   number_same : (name : Name) (i j : ℕ) → first_number (bytes_eq name) (written_names w) ≡ Some i → first_number (bytes_eq name) (written_names v) ≡ Some j → i ≡ j
   number_same name i j h k = let both : Some i ≡ Some j = sym h ∙ ap (first_number (bytes_eq name)) names_same ∙ k in cc
 
   pub one_suggestion : (name step : Name) (d e : Data) → IsSuggested db options name w step d → IsSuggested db options name v step e → d ≡ e
   one_suggestion name step d e (IsSuggested.no_such_step h) (IsSuggested.no_such_step k) = refl
-  one_suggestion name step d e (IsSuggested.no_such_step h) (IsSuggested.step_open {e = f} k g) = let bad = found_same step None (Some f) h k in absurd (cc)
-  one_suggestion name step d e (IsSuggested.no_such_step h) (IsSuggested.suggested {e = f} q k n u c) = let bad = found_same step None (Some f) h k in absurd (cc)
-  one_suggestion name step d e (IsSuggested.step_open {e = f} h g) (IsSuggested.no_such_step k) = let bad = found_same step (Some f) None h k in absurd (cc)
+  one_suggestion name step d e (IsSuggested.no_such_step h) (IsSuggested.step_open {e = f} k g) = let bad = found_same db options w v parts step None (Some f) h k in absurd (cc)
+  one_suggestion name step d e (IsSuggested.no_such_step h) (IsSuggested.suggested {e = f} q k n u c) = let bad = found_same db options w v parts step None (Some f) h k in absurd (cc)
+  one_suggestion name step d e (IsSuggested.step_open {e = f} h g) (IsSuggested.no_such_step k) = let bad = found_same db options w v parts step (Some f) None h k in absurd (cc)
   one_suggestion name step d e (IsSuggested.step_open h g) (IsSuggested.step_open k i) = refl
   one_suggestion name step d e (IsSuggested.step_open {e = f} h g) (IsSuggested.suggested {e = x} q k n u c) = let bad = unlike step f x false true h k g u in absurd (cc)
-  one_suggestion name step d e (IsSuggested.suggested {e = f} o h n u c) (IsSuggested.no_such_step k) = let bad = found_same step (Some f) None h k in absurd (cc)
+  one_suggestion name step d e (IsSuggested.suggested {e = f} o h n u c) (IsSuggested.no_such_step k) = let bad = found_same db options w v parts step (Some f) None h k in absurd (cc)
   one_suggestion name step d e (IsSuggested.suggested {e = f} o h n u c) (IsSuggested.step_open {e = x} k i) = let bad = unlike step f x true false h k u i in absurd (cc)
   one_suggestion name step d e (IsSuggested.suggested {e = f} {k = i} o h n u c) (IsSuggested.suggested {e = x} {k = j} q k m t b) =
       let at = subst (λ z. IsAutoChoice db options w z f o) (number_same step i j n m) c in
-      reply_same name o ∙ ap (choice_reply db name v) (one_choice db options w v parts j f x (ap (λ (s : WrittenStep). s.tree) (alike_steps step f x h k)) o q at b)
+      reply_same name o ∙ ap (choice_reply db name v) (one_choice db options w v parts j f x (ap (λ (s : WrittenStep). s.tree) (alike_steps db options w v parts step f x h k)) o q at b)

@@ -2,4 +2,4 @@ mod AllOrders
 mod FirstLabel
 mod NotFoundBefore
 mod FoundFirst
-mod OneSelection
+pub mod OneSelection

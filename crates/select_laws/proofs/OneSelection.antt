@@ -57,27 +57,29 @@ named_bare name (e ∷ es) = first_bare (bytes_eq e.name name) e (named_in es na
 -- ---- two writings
 
 module _ (db : Database) (options : Options) (w v : Writing) (place : w.bound.place ≡ v.bound.place) (pairs : w.bound.pairs ≡ v.bound.pairs)
-    (same : trees (steps_in w.items) ≡ trees (steps_in v.items)) (e f : WrittenStep) (alike : bare_step e ≡ bare_step f) where
-  does_fit : (c : Choice) → Fits db w.bound.place options.dv w.bound.pairs (steps_in w.items) e c → Fits db v.bound.place options.dv v.bound.pairs (steps_in v.items) f c
-  does_fit c h =
+    (same : trees (steps_in w.items) ≡ trees (steps_in v.items)) (e f : WrittenStep) where
+  pub does_fit : e.tree ≡ f.tree → (c : Choice) → Fits db w.bound.place options.dv w.bound.pairs (steps_in w.items) e c
+      → Fits db v.bound.place options.dv v.bound.pairs (steps_in v.items) f c
+  does_fit tree c h =
       subst (λ p. Fits db p options.dv v.bound.pairs (steps_in v.items) f c) place
       (subst (λ ps. Fits db w.bound.place options.dv ps (steps_in v.items) f c) pairs
-      (fits_moved db options w (steps_in w.items) (steps_in v.items) same e f (ap (λ (x : WrittenStep). x.tree) alike) c h))
+      (fits_moved db options w (steps_in w.items) (steps_in v.items) same e f tree c h))
 
-  label_fits : (l : Label) → FitsInSomeOrder db w.bound.place options.dv w.bound.pairs (steps_in w.items) e l
+  label_fits : bare_step e ≡ bare_step f → (l : Label) → FitsInSomeOrder db w.bound.place options.dv w.bound.pairs (steps_in w.items) e l
       → FitsInSomeOrder db v.bound.place options.dv v.bound.pairs (steps_in v.items) f l
-  label_fits l (o, m, k) = (o, subst (λ (x : WrittenStep). Contains (search_orders x) o) alike m, does_fit (record { label = l; places = o }) k)
+  label_fits alike l (o, m, k) =
+      (o, subst (λ (x : WrittenStep). Contains (search_orders x) o) alike m, does_fit (ap (λ (x : WrittenStep). x.tree) alike) (record { label = l; places = o }) k)
 
 module _ (db : Database) (options : Options) (w v : Writing) (parts : SameParts w v) where
-  trees_same : trees (steps_in w.items) ≡ trees (steps_in v.items)
+  pub trees_same : trees (steps_in w.items) ≡ trees (steps_in v.items)
   trees_same = sym (bare_trees (steps_in w.items)) ∙ ap trees (same_steps db options w v parts) ∙ bare_trees (steps_in v.items)
 
-  found_same : (name : Name) (o q : Option WrittenStep) → step_named w name ≡ o → step_named v name ≡ q → option_map bare_step o ≡ option_map bare_step q
+  pub found_same : (name : Name) (o q : Option WrittenStep) → step_named w name ≡ o → step_named v name ≡ q → option_map bare_step o ≡ option_map bare_step q
   found_same name o q h k =
       ap (option_map bare_step) (sym h) ∙ named_bare name (steps_in w.items) ∙ ap (λ es. named_in es name) (same_steps db options w v parts)
       ∙ sym (named_bare name (steps_in v.items)) ∙ ap (option_map bare_step) k
 
-  alike_steps : (name : Name) (e f : WrittenStep) → step_named w name ≡ Some e → step_named v name ≡ Some f → bare_step e ≡ bare_step f
+  pub alike_steps : (name : Name) (e f : WrittenStep) → step_named w name ≡ Some e → step_named v name ≡ Some f → bare_step e ≡ bare_step f
   alike_steps name e f h k = let both = found_same name (Some e) (Some f) h k in cc
 
   closed_same : (e f : WrittenStep) → bare_step e ≡ bare_step f → is_closed (steps_in w.items) e ≡ is_closed (steps_in v.items) f
